@@ -1,0 +1,6 @@
+pub mod Store
+pub mod Sink
+pub mod Module
+pub mod Schedule
+pub mod MemStore
+pub mod MemSink

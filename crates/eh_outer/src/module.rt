@@ -1,0 +1,29 @@
+// A module of another language, which answers calls and may raise.
+ghost use Rattle.std.specs.Prelude.{◌≡◌};
+ghost use Rattle.eh_outer.specs.Module.{ModuleView, cleaned, replied, reply_of};
+
+/// What a module answers to a call.
+#[derive(Clone, Copy, Debug, PartialEq, Eq)]
+pub enum Reply {
+    /// The call returns the int.
+    Value(i32),
+    /// The call raises a foreign exception with the token.
+    Raise(u32),
+}
+
+/// A module that is called from outside its language, and owns the foreign exceptions that it raises.
+///
+/// Its calls take no memory.
+pub trait Module: Drop {
+    /// The replies still to come, the tokens cleaned in order, and how many of these it can keep.
+    ghost view: { Self → ModuleView };
+
+    /// The next reply, or the value 0 where none is left.
+    fn call(&mut self, arg: i32) -> Reply
+        ensures reply { result ≡ reply_of (view self.old).rest }
+        ensures rest { view self.new ≡ replied (view self.old) };
+
+    /// The cleanup of the foreign exception with the token, which is kept where there is room.
+    fn cleanup(&mut self, token: u32)
+        ensures { view self.new ≡ cleaned (view self.old) token };
+}

@@ -1,0 +1,5 @@
+pub mod Instr
+pub mod Memory
+pub mod Registers
+pub mod State
+pub mod Step
