@@ -1,5 +1,5 @@
 -- One step of the machine.
-use Rattle.std.specs.Prelude.{ℕ, ◌+◌, ◌%◌, ◌^◌, ◌==◌, List, Option, Some, None, if◌then◌else◌}
+use Rattle.std.specs.Prelude.{ℕ, ◌+◌, ◌%◌, ◌^◌, ◌==◌, Option, Some, None, if◌then◌else◌}
 use Rattle.rv64_machine.specs.declared.instr.Instr.{Instr}
 use Rattle.rv64_machine.specs.declared.instr.Instr.TheVariants.{Lui, Addi, Addiw, Ecall}
 use Rattle.rv64_machine.specs.declared.step.Step.{Step}

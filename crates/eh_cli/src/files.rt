@@ -1,0 +1,62 @@
+// A store over the files of the system, of which nothing is told.
+ghost use Rattle.std.specs.Prelude.{None};
+
+use crate::whole::{Got, read_whole, write_whole};
+use eh_outer::{RefusalKind, Refusals, Store, StoreError};
+use std::alloc::Global;
+use std::fs;
+use std::rt::Files;
+
+/// The files of the system.
+#[derive(Drop)]
+pub struct FileStore<R: Files + Drop> {
+    rt: R,
+    refusals: Refusals,
+}
+
+impl<R: Files + Drop> FileStore<R> {
+    pub fn new(rt: R) -> Self {
+        FileStore {
+            rt,
+            refusals: Refusals::new(),
+        }
+    }
+}
+
+impl<R: Files + Drop> Store for FileStore<R> {
+    ghost view = { λ s. record { files = None; faults = s.refusals.count; last = s.refusals.last } };
+
+    // The name is copied first, so that a refusal can always be kept.
+    fn read_all(&mut self, alloc: Global, name: &str, limit: u64) -> Result<Vec<u8>, StoreError> {
+        let asked = String::from_str(alloc, name)?;
+        let got = match fs::open(&self.rt, name) {
+            Err(_) => Got::Failed,
+            Ok(mut file) => read_whole(alloc, &mut file, limit),
+        };
+        match got {
+            Got::Whole(bytes) => Ok(bytes),
+            Got::Long(seen) => {
+                self.refusals.add(RefusalKind::LongRead(seen), asked);
+                Err(StoreError::TooLong(seen))
+            }
+            Got::Failed => {
+                self.refusals.add(RefusalKind::FailedRead, asked);
+                Err(StoreError::Failed)
+            }
+            Got::NoMemory => Err(StoreError::NoMemory),
+        }
+    }
+
+    fn write_all(&mut self, alloc: Global, name: &str, bytes: &[u8]) -> Result<(), StoreError> {
+        let asked = String::from_str(alloc, name)?;
+        let done = match fs::create(&self.rt, name) {
+            Err(_) => false,
+            Ok(mut file) => write_whole(&mut file, bytes),
+        };
+        if done {
+            return Ok(());
+        }
+        self.refusals.add(RefusalKind::FailedWrite, asked);
+        Err(StoreError::Failed)
+    }
+}

@@ -1,0 +1,62 @@
+// The adapters over real files and writers, of which no clause tells the contents.
+use crate::files::FileStore;
+use crate::streams::StreamSink;
+use eh_outer::{Sink, SinkError, Store, StoreError};
+use std::io::{self, Write};
+use std::test::Fail;
+use std::{env, fs};
+
+/// A writer that takes two bytes at a time, as long as it has room.
+#[derive(Drop)]
+struct Narrow {
+    room: usize,
+}
+
+impl Write for Narrow {
+    fn write(&mut self, bytes: &[u8]) -> io::Result<usize> {
+        let count = bytes.len().min(2).min(self.room);
+        self.room -= count;
+        Ok(count)
+    }
+
+    fn flush(&mut self) -> io::Result<()> {
+        Ok(())
+    }
+}
+
+#[test]
+fn adapters(rt: HostRuntime) -> Result<(), Fail> {
+    let alloc = rt.alloc();
+    let folder = env::temp_dir(&rt)?;
+    let folder = folder.to_str().ok_or("the folder's name is no text")?;
+    let here = format!(in alloc; "{folder}/ehc-adapters")?;
+    let nowhere = format!(in alloc; "{folder}/ehc-no-folder/file")?;
+    let mut store = FileStore::new(&rt);
+    store.write_all(alloc, here.as_str(), b"old and long")?;
+    store.write_all(alloc, here.as_str(), b"seven b")?;
+    let cases = [
+        (here.as_str(), 7, Ok(b"seven b".as_slice())),
+        (here.as_str(), 6, Err(StoreError::TooLong(7))),
+        (nowhere.as_str(), 7, Err(StoreError::Failed)),
+        (folder, 7, Err(StoreError::Failed)),
+    ];
+    for (name, limit, want) in cases {
+        let got = store.read_all(alloc, name, limit);
+        assert_eq!(rt;
+            got.as_ref().map(|bytes| bytes.as_slice()),
+            want.as_ref().map(|bytes| *bytes),
+            "{name} {limit}"
+        );
+    }
+    assert_eq!(rt;
+        store.write_all(alloc, nowhere.as_str(), b"x"),
+        Err(StoreError::Failed)
+    );
+    fs::remove_file(&rt, here.as_str())?;
+
+    let mut sink = StreamSink::new(Narrow { room: 5 });
+    assert_eq!(rt; sink.put(b"abc"), Ok(()));
+    assert_eq!(rt; sink.put(b"abc"), Err(SinkError::Failed));
+    assert_eq!(rt; sink.put(b""), Ok(()));
+    Ok(())
+}

@@ -1,0 +1,12 @@
+pub mod Numbers
+pub mod Reading
+pub mod Loop
+pub mod Puts
+pub mod Coding
+pub mod Fetching
+pub mod Blocks
+pub mod Turns
+pub mod Main
+pub mod Causes
+pub mod Reports
+pub mod Promised

@@ -1,0 +1,10 @@
+pub mod Words
+pub mod Source
+pub mod Reading
+pub mod Code
+pub mod Output
+pub mod Run
+pub mod Status
+pub mod Answer
+pub mod Report
+pub mod Promise

@@ -1,0 +1,19 @@
+//! The commands of `ehc`: `run FILE` makes RV64 code for a source, runs it on the simulated machine, and prints what it
+//! writes and how it ended. `ehc` is the call that the program makes; its contract says what each command promises.
+#![tactic(auto)]
+
+mod code;
+mod line;
+mod report;
+mod run;
+mod source;
+mod status;
+mod top;
+mod words;
+
+pub use run::End;
+pub use status::Status;
+pub use top::ehc;
+
+#[cfg(test)]
+mod tests;

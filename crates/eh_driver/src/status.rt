@@ -1,0 +1,51 @@
+// The statuses of the commands.
+ghost use Rattle.std.specs.Prelude.{◌≡◌};
+ghost use Rattle.eh_driver.specs.Status.{number_of};
+
+use rv64_machine::FaultKind;
+
+/// How a command ended.
+#[derive(Clone, Copy, Debug, PartialEq, Eq)]
+pub enum Status {
+    Done,
+    /// The words are no command.
+    Usage,
+    /// The number of the rule that the source breaks, and the byte at which it does.
+    SourceRefused(u8, u32),
+    /// The number of what is wrong with the image, its byte, and a second value that differs.
+    ImageRefused(u8, u64, u64),
+    ReadFault,
+    TooLong,
+    WriteFault,
+    NoMemory,
+    Aborted,
+    Budget,
+    Stack,
+    /// Why the machine stopped, and its pc.
+    MachineFault(FaultKind, u64),
+    /// The source's meaning is undefined.
+    Undefined,
+}
+
+impl Status {
+    /// The exit status of the program.
+    pub fn number(&self) -> u8
+        ensures { result ≡ number_of self.now }
+    {
+        match *self {
+            Status::Done => 0,
+            Status::Usage => 1,
+            Status::SourceRefused(_, _) => 2,
+            Status::ImageRefused(_, _, _) => 3,
+            Status::ReadFault => 4,
+            Status::WriteFault => 5,
+            Status::NoMemory => 6,
+            Status::TooLong => 8,
+            Status::Aborted => 10,
+            Status::Budget => 11,
+            Status::Stack => 12,
+            Status::MachineFault(_, _) => 13,
+            Status::Undefined => 14,
+        }
+    }
+}

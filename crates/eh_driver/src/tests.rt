@@ -1,0 +1,214 @@
+// What a user sees of `ehc`, over a store and sinks in memory.
+use crate::{Status, ehc};
+use eh_outer::{MemSink, MemStore};
+use std::alloc::Global;
+use std::test::Fail;
+
+/// What a command answered, and what it left.
+#[derive(Drop)]
+struct Seen {
+    status: Status,
+    out: MemSink,
+    err: MemSink,
+}
+
+/// What lies outside: the file SRC, which numbers of calls of the store and of puts fail, and how much `out` can take.
+#[derive(Drop)]
+struct Outside<'a> {
+    source: &'a [u8],
+    store_fails: &'a [u64],
+    out_fails: &'a [u64],
+    room: usize,
+}
+
+fn holding(source: &[u8]) -> Outside<'_> {
+    Outside {
+        source,
+        store_fails: &[],
+        out_fails: &[],
+        room: 4096,
+    }
+}
+
+fn answer(alloc: Global, words: &[&str], outside: &Outside<'_>) -> Result<Seen, Fail> {
+    let mut files = Vec::new(alloc);
+    files.push((
+        String::from_str(alloc, "SRC")?,
+        outside.source.to_vec(alloc)?,
+    ))?;
+    let mut store = MemStore::new(files, outside.store_fails.to_vec(alloc)?);
+    let mut out = MemSink::new(alloc, outside.room, outside.out_fails.to_vec(alloc)?)?;
+    let mut err = MemSink::new(alloc, 4096, Vec::new(alloc))?;
+    let mut owned = Vec::new(alloc);
+    for word in words {
+        owned.push(String::from_str(alloc, word)?)?;
+    }
+    let status = ehc(
+        alloc,
+        &owned,
+        &mut store,
+        &mut out,
+        &mut err,
+        Vec::new(alloc),
+    );
+    Ok(Seen { status, out, err })
+}
+
+#[test]
+fn sources(rt: HostRuntime) -> Result<(), Fail> {
+    let not_built = (
+        Status::SourceRefused(29, 0),
+        "",
+        "ehc: source refused: 29 at 0\n",
+    );
+    let cases = [
+        (
+            "int main() { write_int(5); return 3; }",
+            (Status::Done, "5\n= exit 3\n", ""),
+        ),
+        ("int main() { return 0; }", (Status::Done, "= exit 0\n", "")),
+        (
+            "int main() { write_int(0); write_int(2047); write_int(2048); write_int(4095); return 2147483647; }\n",
+            (Status::Done, "0\n2047\n2048\n4095\n= exit 2147483647\n", ""),
+        ),
+        (
+            "int main() { write_int(2147483647); write_int(2147481600); return 2147481599; }",
+            (
+                Status::Done,
+                "2147483647\n2147481600\n= exit 2147481599\n",
+                "",
+            ),
+        ),
+        ("int main() {return 0; }", not_built),
+        ("int main() { return 2147483648; }", not_built),
+        ("int main() { write_int(05); return 0; }", not_built),
+        ("int main() { write_int(-5); return 0; }", not_built),
+        ("int main() { write_int(5); }", not_built),
+        ("int main() { return 0; }\n\n", not_built),
+        ("", not_built),
+    ];
+    for (source, (status, out, err)) in cases {
+        let seen = answer(rt.alloc(), &["run", "SRC"], &holding(source.as_bytes()))?;
+        assert_eq!(rt; seen.status, status, "{source}");
+        assert_eq!(rt; seen.out.bytes(), out.as_bytes(), "{source}");
+        assert_eq!(rt; seen.err.bytes(), err.as_bytes(), "{source}");
+    }
+    Ok(())
+}
+
+#[test]
+fn words(rt: HostRuntime) -> Result<(), Fail> {
+    let usage = (Status::Usage, "ehc: usage\n");
+    let cases = [
+        ([].as_slice(), usage),
+        (["run"].as_slice(), usage),
+        (["run", ""].as_slice(), usage),
+        (["run", "-"].as_slice(), usage),
+        (["run", "SRC", "SRC"].as_slice(), usage),
+        (["mean", "SRC"].as_slice(), usage),
+        (
+            ["run", "NONE"].as_slice(),
+            (Status::ReadFault, "ehc: read fault: NONE\n"),
+        ),
+        (
+            ["run", "SRC"].as_slice(),
+            (Status::TooLong, "ehc: too long: SRC\n"),
+        ),
+    ];
+    let long = vec![in rt.alloc(); b' '; 0x10_0001]?;
+    for (words, (status, err)) in cases {
+        let seen = answer(rt.alloc(), words, &holding(long.as_slice()))?;
+        assert_eq!(rt; seen.status, status, "{words:?}");
+        assert_eq!(rt; seen.out.bytes(), b"".as_slice(), "{words:?}");
+        assert_eq!(rt; seen.err.bytes(), err.as_bytes(), "{words:?}");
+    }
+    Ok(())
+}
+
+#[test]
+fn faults(rt: HostRuntime) -> Result<(), Fail> {
+    let source = b"int main() { write_int(5); write_int(6); return 3; }";
+    let write_fault = (Status::WriteFault, "ehc: write fault\n");
+    let cases = [
+        (
+            [1].as_slice(),
+            [].as_slice(),
+            64,
+            "",
+            (Status::ReadFault, "ehc: read fault: SRC\n"),
+        ),
+        ([].as_slice(), [1].as_slice(), 64, "", write_fault),
+        ([].as_slice(), [2].as_slice(), 64, "5\n", write_fault),
+        ([].as_slice(), [3].as_slice(), 64, "5\n6\n", write_fault),
+        ([].as_slice(), [].as_slice(), 12, "5\n6\n", write_fault),
+        (
+            [].as_slice(),
+            [4].as_slice(),
+            13,
+            "5\n6\n= exit 3\n",
+            (Status::Done, ""),
+        ),
+    ];
+    for (store_fails, out_fails, room, out, (status, err)) in cases {
+        let outside = Outside {
+            source,
+            store_fails,
+            out_fails,
+            room,
+        };
+        let seen = answer(rt.alloc(), &["run", "SRC"], &outside)?;
+        assert_eq!(rt; seen.status, status, "{out_fails:?} {room}");
+        assert_eq!(rt; seen.out.bytes(), out.as_bytes(), "{out_fails:?} {room}");
+        assert_eq!(rt; seen.err.bytes(), err.as_bytes(), "{out_fails:?} {room}");
+    }
+    Ok(())
+}
+
+#[test]
+fn the_largest_source(rt: HostRuntime) -> Result<(), Fail> {
+    let alloc = rt.alloc();
+    let calls = 74_896;
+    let mut source = b"int main() { ".to_vec(alloc)?;
+    let mut lines = Vec::new(alloc);
+    for _ in 0..calls {
+        source.extend_from_slice(b"write_int(5); ")?;
+        lines.extend_from_slice(b"5\n")?;
+    }
+    source.extend_from_slice(b"return 0; }\n")?;
+    lines.extend_from_slice(b"= exit 0\n")?;
+    let outside = Outside {
+        source: source.as_slice(),
+        store_fails: &[],
+        out_fails: &[],
+        room: 0x10_0000,
+    };
+    let seen = answer(alloc, &["run", "SRC"], &outside)?;
+    assert_eq!(rt; seen.status, Status::Done);
+    assert!(rt; seen.out.bytes() == lines.as_slice());
+    Ok(())
+}
+
+#[test]
+fn numbers(rt: HostRuntime) {
+    let cases = [
+        (Status::Done, 0),
+        (Status::Usage, 1),
+        (Status::SourceRefused(29, 0), 2),
+        (Status::ImageRefused(60, 0, 0), 3),
+        (Status::ReadFault, 4),
+        (Status::WriteFault, 5),
+        (Status::NoMemory, 6),
+        (Status::TooLong, 8),
+        (Status::Aborted, 10),
+        (Status::Budget, 11),
+        (Status::Stack, 12),
+        (
+            Status::MachineFault(rv64_machine::FaultKind::Illegal, 0),
+            13,
+        ),
+        (Status::Undefined, 14),
+    ];
+    for (status, number) in cases {
+        assert_eq!(rt; status.number(), number);
+    }
+}
