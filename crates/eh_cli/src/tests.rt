@@ -34,24 +34,16 @@ fn adapters(rt: HostRuntime) -> Result<(), Fail> {
     let mut store = FileStore::new(&rt);
     store.write_all(alloc, here.as_str(), b"old and long")?;
     store.write_all(alloc, here.as_str(), b"seven b")?;
-    let cases = [
-        (here.as_str(), 7, Ok(b"seven b".as_slice())),
-        (here.as_str(), 6, Err(StoreError::TooLong(7))),
-        (nowhere.as_str(), 7, Err(StoreError::Failed)),
-        (folder, 7, Err(StoreError::Failed)),
-    ];
-    for (name, limit, want) in cases {
-        let got = store.read_all(alloc, name, limit);
-        assert_eq!(rt;
-            got.as_ref().map(|bytes| bytes.as_slice()),
-            want.as_ref().map(|bytes| *bytes),
-            "{name} {limit}"
-        );
-    }
-    assert_eq!(rt;
-        store.write_all(alloc, nowhere.as_str(), b"x"),
-        Err(StoreError::Failed)
-    );
+    let read = store.read_all(alloc, here.as_str(), 7)?;
+    assert_eq!(rt; read.as_slice(), b"seven b".as_slice());
+    let long = store.read_all(alloc, here.as_str(), 6);
+    assert_eq!(rt; long.err(), Some(StoreError::TooLong(7)));
+    let missing = store.read_all(alloc, nowhere.as_str(), 7);
+    assert_eq!(rt; missing.err(), Some(StoreError::Failed));
+    let no_file = store.read_all(alloc, folder, 7);
+    assert_eq!(rt; no_file.err(), Some(StoreError::Failed));
+    let refused = store.write_all(alloc, nowhere.as_str(), b"x");
+    assert_eq!(rt; refused, Err(StoreError::Failed));
     fs::remove_file(&rt, here.as_str())?;
 
     let mut sink = StreamSink::new(Narrow { room: 5 });
