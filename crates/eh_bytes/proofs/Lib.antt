@@ -1,1 +1,4 @@
 pub mod Mapped
+mod Wrapping
+mod Grouped
+mod Spelled
