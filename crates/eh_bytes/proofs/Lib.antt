@@ -1,4 +1,6 @@
 pub mod Mapped
 mod Wrapping
-mod Grouped
-mod Spelled
+pub mod Grouped
+pub mod Spelled
+pub mod ReadAgain
+pub mod Shortest

@@ -110,8 +110,8 @@ pub appended : (put : Result (Unit {0}) AllocError) (new old bytes spelling : Li
 appended (Ok _) new old bytes spelling after same = after ∙ ap (λ xs. old ++ xs) (sym same)
 appended (Err _) new old bytes spelling after same = tt
 
--- a number of 64 bits fits ten bytes
-pub magnitude_in_range : (value : ℤ) → SFits w64 value → magnitude value < 64 * 128 ^ 9
+-- a number of 64 bits
+pub magnitude_in_range : (value : ℤ) → SFits w64 value → magnitude value < 2 ^ 63
 magnitude_in_range (pos n) fits = omega (arith, ints, fits)
 magnitude_in_range (negsuc n) fits = omega (arith, ints, fits)
 

@@ -1,5 +1,6 @@
 // The shortest spellings of LEB128 numbers.
-ghost use Rattle.std.specs.Prelude.{◌≡◌, ◌<◌, ◌++◌, OnOk, OnErr};
+ghost use Rattle.std.specs.Prelude.{◌≡◌, ◌<◌, ◌≤◌, ◌++◌, ℕ, List, length, Ok, OnOk, OnErr};
+ghost use Rattle.eh_bytes.specs.Leb128.{uleb, sleb};
 ghost use Rattle.eh_bytes.specs.Spelling.{uleb_spelling, sleb_spelling, fits_seven, low_seven, without_seven};
 
 use std::alloc::AllocError;
@@ -7,6 +8,8 @@ use std::alloc::AllocError;
 /// Appends the shortest ULEB128 spelling of a number (DWARF 5, 7.6).
 pub fn put_uleb(out: &mut Vec<u8>, value: u64) -> Result<(), AllocError>
     ensures put { OnOk result (out.new.items ≡ out.old.items ++ uleb_spelling value) }
+    ensures read_again { (rest : List ℕ) → uleb (uleb_spelling value ++ rest) ≡ Ok (value, length (uleb_spelling value)) }
+    ensures shortest { (bytes : List ℕ) (taken : ℕ) → uleb bytes ≡ Ok (value, taken) → length (uleb_spelling value) ≤ taken }
     ensures refused { OnErr result (out.new.items ≡ out.old.items) }
 {
     let mut spelling = [0u8; 10];
@@ -44,6 +47,8 @@ fn without_seven(value: i64) -> i64
 /// Appends the shortest SLEB128 spelling of a number (DWARF 5, 7.6).
 pub fn put_sleb(out: &mut Vec<u8>, value: i64) -> Result<(), AllocError>
     ensures put { OnOk result (out.new.items ≡ out.old.items ++ sleb_spelling value) }
+    ensures read_again { (rest : List ℕ) → sleb (sleb_spelling value ++ rest) ≡ Ok (value, length (sleb_spelling value)) }
+    ensures shortest { (bytes : List ℕ) (taken : ℕ) → sleb bytes ≡ Ok (value, taken) → length (sleb_spelling value) ≤ taken }
     ensures refused { OnErr result (out.new.items ≡ out.old.items) }
 {
     let mut spelling = [0u8; 10];

@@ -3,6 +3,8 @@ use Rattle.std.proofs.Math.ListN.{length-set}
 use mir.Val.{SFits}
 use mir.Syntax.{w64}
 use Rattle.eh_bytes.specs.Spelling.{sleb_spelling, low_seven, fits_seven}
+use Rattle.eh_bytes.proofs.Shortest.{sleb_shortest}
+use Rattle.eh_bytes.proofs.ReadAgain.{sleb-sleb_spelling}
 use Rattle.eh_bytes.proofs.Spelled.{magnitude_in_range, magnitude_large, magnitude_less, not_last_signed, sleb_more, sleb_last, appended}
 use Rattle.eh_bytes.proofs.spelling.put_sleb.Goals as goal
 
@@ -11,7 +13,7 @@ unfolding sleb_spelling
 loop-spelling-init c =
     let in_range : SFits w64 c.args.value = search rules in
     rw (to_z-of_z in_range)
-    (record { few = omega arith; size = refl; small = magnitude_in_range c.args.value in_range; spelled = refl })
+    (record { few = omega arith; size = refl; small = omega (arith, magnitude_in_range c.args.value in_range); spelled = refl })
 
 pub loop-spelling-preserved : goal.loop-spelling-preserved
 loop-spelling-preserved c =
@@ -44,3 +46,11 @@ returns-clause-put c =
     let written : take (done + 1) (slice_set buffer done (low_seven rest)) ≡ take (done + 1) (slice_set buffer done c.low_seven-2.result) =
     ap (λ b. take (done + 1) (slice_set buffer done b)) (sym c.low_seven-2.ensures.low) in
     appended c.extend_from_slice.result c.extend_from_slice.new.self.items c.args.out.now.items (take (done + 1) (slice_set buffer done c.low_seven-2.result)) (sleb_spelling c.args.value) c.extend_from_slice.ensures.items (spelled ∙ written)
+
+pub returns-clause-read_again : goal.returns-clause-read_again
+returns-clause-read_again c =
+    let in_range : SFits w64 c.args.value = search rules in
+    λ rest. sleb-sleb_spelling c.args.value rest (magnitude_in_range c.args.value in_range)
+
+pub returns-clause-shortest : goal.returns-clause-shortest
+returns-clause-shortest c = λ bytes taken. sleb_shortest bytes c.args.value taken

@@ -1,6 +1,8 @@
 use Rattle.std.proofs.Common.{◌≡◌, ◌+◌, ◌-◌, ◌%◌, take, slice_set, refl, ◌∙◌, arith}
 use Rattle.std.proofs.Math.ListN.{length-set}
 use Rattle.eh_bytes.specs.Spelling.{uleb_spelling}
+use Rattle.eh_bytes.proofs.Shortest.{uleb_shortest}
+use Rattle.eh_bytes.proofs.ReadAgain.{uleb-uleb_spelling}
 use Rattle.eh_bytes.proofs.Spelled.{uleb_more, uleb_last, less_seven, not_last, appended}
 use Rattle.eh_bytes.proofs.spelling.put_uleb.Goals as goal
 
@@ -29,3 +31,9 @@ returns-clause-put c =
     let spelled : uleb_spelling c.args.value ≡ take (done + 1) (slice_set buffer done rest) =
     uleb_last (uleb_spelling c.args.value) buffer done rest c.loop-rest.invariant.few c.loop-rest-test.false (omega arith) c.loop-rest.invariant.spelled in
     appended c.extend_from_slice.result c.extend_from_slice.new.self.items c.args.out.now.items (take (done + 1) (slice_set buffer done rest)) (uleb_spelling c.args.value) c.extend_from_slice.ensures.items spelled
+
+pub returns-clause-read_again : goal.returns-clause-read_again
+returns-clause-read_again c = λ rest. uleb-uleb_spelling c.args.value rest (omega (arith, c.ranges.value.fits))
+
+pub returns-clause-shortest : goal.returns-clause-shortest
+returns-clause-shortest c = λ bytes taken. uleb_shortest bytes c.args.value taken
