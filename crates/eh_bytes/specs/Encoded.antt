@@ -1,5 +1,5 @@
 -- Encoded pointers (LSB Core, "DWARF Exception Header Encoding"): how the number is spelled, how it applies, and whether the address is stored elsewhere.
-use Rattle.std.specs.Prelude.{ℕ, ℤ, ◌+◌, ◌-◌, ◌/◌, ◌%◌, ◌*◌, ◌^◌, ◌==◌, ◌||◌, Bool, nat_lt, nat_le, Option, Some, None, Ok, Err, false, if◌then◌else◌}
+use Rattle.std.specs.Prelude.{ℕ, ℤ, ◌+◌, ◌-◌, ◌/◌, ◌%◌, ◌*◌, ◌^◌, ◌==◌, ◌&&◌, ◌||◌, Bool, nat_lt, nat_le, Option, Some, is_some, None, Ok, Err, false, if◌then◌else◌}
 use Rattle.std.specs.Int.{cast_unsigned, Width, w16, w32, w64, byte_len}
 use Rattle.eh_bytes.specs.declared.error.ByteError.TheVariants.{Encoding}
 use Rattle.eh_bytes.specs.declared.encoded.Pointer.{Pointer}
@@ -38,6 +38,16 @@ is_indirect encoding = nat_le 128 encoding
 -- the format of an encoding that applies absolutely or by the field's address (profile: in no other way); DW_EH_PE_omit, 0xff, has none
 abbrev pub encoding_format : ℕ → Option Format
 encoding_format encoding = if nat_lt (encoding / 16 % 8) 2 then format_of encoding else None
+
+-- an encoding whose value is the address itself
+abbrev pub is_direct : ℕ → Bool
+is_direct encoding = nat_lt encoding 128 && is_some (encoding_format encoding)
+
+-- how many bytes a field takes, where its format alone says it
+abbrev pub format_size : Option Format → Option ℕ
+format_size (Some (unsigned w)) = Some (byte_len w)
+format_size (Some (signed w)) = Some (byte_len w)
+format_size _ = None
 
 -- a signed number modulo 2^64
 abbrev pub wraps : Reading ℤ → Reading ℕ

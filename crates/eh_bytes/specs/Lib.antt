@@ -5,3 +5,4 @@ pub mod Leb128
 pub mod Spelling
 pub mod Encoded
 pub mod Cursor
+pub mod Listed
