@@ -1,0 +1,6 @@
+pub mod Walks
+pub mod Loops
+pub mod Least
+pub mod Beyond
+pub mod RowFold
+mod Worked
