@@ -1,9 +1,8 @@
 #!/usr/bin/env python3
-"""Measures how many LEB128 numbers a second the cursor reads, beside the same loop in C at -O2.
+"""Measures how many LEB128 numbers a second the cursor of eh_bytes reads, beside the same loop in C at -O2.
 
-Run at the top of the project, with `rt` and `gcc` on the path. Both programs write the same
-numbers, of one to ten bytes, and read them again many times; what they do besides is measured by a
-run that reads once, and taken off. The least time of some runs counts.
+Both programs write the same numbers and read them again and again. What they do besides is measured by a run that
+reads once, and taken off; the least time of some runs counts. What is built lies in a folder of its own.
 """
 import pathlib
 import shutil
@@ -12,44 +11,69 @@ import sys
 import tempfile
 import time
 
-NUMBERS, MANY, RUNS = 1 << 20, 201, 5
+TOP = pathlib.Path(__file__).resolve().parent.parent
+NUMBERS, MANY, RUNS = 1 << 20, 201, 7
+KINDS = ["unsigned", "signed"]
+SIZES = [("small", "1 or 2 bytes"), ("any", "1 to 10 bytes")]
 
 PROGRAM = """//! Reads LEB128 numbers again and again.
 #![tactic(auto)]
 
 use eh_bytes::{RawCursor, put_sleb, put_uleb};
+use std::env;
 
-fn read_unsigned(bytes: &[u8]) -> u64 {
+const NUMBERS: u32 = @NUMBERS@;
+
+fn sum_of_unsigned(bytes: &[u8]) -> u64 {
     let mut cursor = RawCursor::new(bytes, 0);
-    let mut all = 0u64;
-    while let Ok(value) = cursor.take_uleb() {
-        all = all.wrapping_add(value);
+    let mut sum = 0u64;
+    for _ in 0..NUMBERS {
+        let Ok(value) = cursor.take_uleb() else {
+            return 0;
+        };
+        sum = sum.wrapping_add(value);
     }
-    all
+    sum
 }
 
-fn read_signed(bytes: &[u8]) -> u64 {
+fn sum_of_signed(bytes: &[u8]) -> u64 {
     let mut cursor = RawCursor::new(bytes, 0);
-    let mut all = 0u64;
-    while let Ok(value) = cursor.take_sleb() {
-        all = all.wrapping_add(value.cast_unsigned());
+    let mut sum = 0u64;
+    for _ in 0..NUMBERS {
+        let Ok(value) = cursor.take_sleb() else {
+            return 0;
+        };
+        sum = sum.wrapping_add(value.cast_unsigned());
     }
-    all
+    sum
 }
 
 fn main(rt: HostRuntime) -> anyhow::Result<()> {
+    let mut words = env::args(&rt)?.skip(1);
+    let is_signed = words.next().is_some_and(|word| word.as_str() == "signed");
+    let is_small = words.next().is_some_and(|word| word.as_str() == "small");
+    let rounds: u32 = match words.next() {
+        Some(word) => word.as_str().parse().unwrap_or(1),
+        None => 1,
+    };
     let mut state = 1u64;
     let mut bytes = Vec::new(rt.alloc());
-    for _ in 0..NUMBERSu32 {
+    for _ in 0..NUMBERS {
         state = state
             .wrapping_mul(0x5851_f42d_4c95_7f2d)
             .wrapping_add(0x1405_7b7e_f767_814f);
-        let value = state >> (BASE + state / 0x1_0000_0000 % SPREAD);
-        PUT(&mut bytes, valueCAST)?;
+        let places = state / 0x1_0000_0000 % 64;
+        let value = if is_small { (state >> places) % 0x2000 } else { state >> places };
+        if is_signed {
+            put_sleb(&mut bytes, value.cast_signed())?;
+        } else {
+            put_uleb(&mut bytes, value)?;
+        }
     }
     let mut all = 0u64;
-    for _ in 0..ROUNDSu32 {
-        all = all.wrapping_add(READ(&bytes));
+    for _ in 0..rounds {
+        let sum = if is_signed { sum_of_signed(&bytes) } else { sum_of_unsigned(&bytes) };
+        all = all.wrapping_add(sum);
     }
     println!(rt; "{all}")?;
     Ok(())
@@ -59,6 +83,9 @@ fn main(rt: HostRuntime) -> anyhow::Result<()> {
 PEER = """#include <stdint.h>
 #include <stdio.h>
 #include <stdlib.h>
+#include <string.h>
+
+#define NUMBERS @NUMBERS@
 
 static size_t put_unsigned(uint8_t *out, uint64_t value) {
     size_t n = 0;
@@ -74,125 +101,113 @@ static size_t put_signed(uint8_t *out, int64_t value) {
     return n;
 }
 
-/* No range is tested: the numbers are known to fit. The end of the bytes is. */
-static int take_unsigned(const uint8_t **at, const uint8_t *end, uint64_t *value) {
-    const uint8_t *p = *at;
-    unsigned shift = 0;
+struct cursor { const uint8_t *bytes; size_t length, position; };
+
+/* The end of the bytes and the count of ten are tested, as the cursor does; that ten bytes fit 64 bits is not. */
+static int take_unsigned(struct cursor *c, uint64_t *value) {
     uint64_t all = 0;
-    uint8_t byte;
-    do {
-        if (p == end) return 0;
-        byte = *p++;
+    size_t at = c->position;
+    for (unsigned shift = 0; shift < 70; shift += 7) {
+        if (at == c->length) return 0;
+        uint8_t byte = c->bytes[at++];
         all |= (uint64_t)(byte & 127) << shift;
-        shift += 7;
-    } while (byte & 128);
-    *value = all;
-    *at = p;
-    return 1;
+        if (byte < 128) { *value = all; c->position = at; return 1; }
+    }
+    return 0;
 }
 
-static int take_signed(const uint8_t **at, const uint8_t *end, uint64_t *value) {
-    const uint8_t *p = *at;
-    unsigned shift = 0;
+static int take_signed(struct cursor *c, uint64_t *value) {
     uint64_t all = 0;
-    uint8_t byte;
-    do {
-        if (p == end) return 0;
-        byte = *p++;
+    size_t at = c->position;
+    for (unsigned shift = 0; shift < 70; shift += 7) {
+        if (at == c->length) return 0;
+        uint8_t byte = c->bytes[at++];
         all |= (uint64_t)(byte & 127) << shift;
-        shift += 7;
-    } while (byte & 128);
-    if (shift < 64 && byte & 64) all |= ~(uint64_t)0 << shift;
-    *value = all;
-    *at = p;
-    return 1;
+        if (byte < 128) {
+            if (byte & 64 && shift < 57) all |= ~(uint64_t)0 << (shift + 7);
+            *value = all;
+            c->position = at;
+            return 1;
+        }
+    }
+    return 0;
 }
 
-int main(void) {
+int main(int argc, char **argv) {
+    int is_signed = argc > 1 && !strcmp(argv[1], "signed"), is_small = argc > 2 && !strcmp(argv[2], "small");
+    unsigned rounds = argc > 3 ? atoi(argv[3]) : 1;
     uint64_t state = 1, all = 0, value;
     uint8_t *bytes = malloc(10 * NUMBERS);
     size_t length = 0;
     for (unsigned i = 0; i < NUMBERS; i++) {
         state = state * 0x5851f42d4c957f2d + 0x14057b7ef767814f;
-        length += put_KIND(bytes + length, state >> (BASE + state / 0x100000000 % SPREAD));
+        value = state >> state / 0x100000000 % 64;
+        if (is_small) value %= 0x2000;
+        length += is_signed ? put_signed(bytes + length, value) : put_unsigned(bytes + length, value);
     }
-    for (unsigned i = 0; i < ROUNDS; i++) {
-        const uint8_t *at = bytes;
-        while (take_KIND(&at, bytes + length, &value)) all += value;
+    for (unsigned i = 0; i < rounds; i++) {
+        struct cursor c = { bytes, length, 0 };
+        for (unsigned k = 0; k < NUMBERS; k++) {
+            if (!(is_signed ? take_signed(&c, &value) : take_unsigned(&c, &value))) return 1;
+            all += value;
+        }
     }
     printf("%llu\\n", (unsigned long long)all);
     return 0;
 }
 """
 
-KINDS = [("unsigned", "put_uleb", ""), ("signed", "put_sleb", ".cast_signed()")]
-
-
-def filled(text, kind, put, cast, base, spread, rounds):
-    for word, value in [("NUMBERS", NUMBERS), ("BASE", base), ("SPREAD", spread), ("ROUNDS", rounds), ("PUT", put), ("READ", f"read_{kind}"),
-                        ("KIND", kind), ("CAST", cast)]:
-        text = text.replace(word, str(value))
-    return text
-
 
 def run(command, **how):
-    return subprocess.run(command, check=True, capture_output=True, text=True, **how)
+    done = subprocess.run(command, capture_output=True, text=True, **how)
+    if done.returncode:
+        sys.exit(f"{command[0]} failed:\n{done.stdout[-3000:]}{done.stderr[-3000:]}")
+    return done.stdout
 
 
-def seconds(program):
-    best, out = None, None
-    for _ in range(RUNS):
-        start = time.perf_counter()
-        out = run([program]).stdout
-        took = time.perf_counter() - start
-        best = took if best is None else min(best, took)
-    return best, out
-
-
-def build_rattle(top, work, name, text):
-    crates = work / "crates"
-    crate = crates / name
+def build_rattle(work):
+    crate = work / "crates/leb_reader"
     (crate / "src").mkdir(parents=True)
-    (crate / "src/main.rt").write_text(text)
-    if not (crates / "eh_bytes").exists():
-        shutil.copytree(top / "crates/eh_bytes", crates / "eh_bytes")
-        shutil.copy(top / "HANDLES", work)
-    (work / "crates.txt").write_text(f"eh_bytes: thiserror\\n{name}: anyhow eh_bytes\\n".replace("\\n", "\n"))
-    run(["rt", "try"], cwd=crate)
-    return next(p for p in (crate / "out").rglob(name) if p.is_file())
+    (crate / "src/main.rt").write_text(PROGRAM.replace("@NUMBERS@", str(NUMBERS)))
+    shutil.copytree(TOP / "crates/eh_bytes", work / "crates/eh_bytes")
+    shutil.copy(TOP / "HANDLES", work)
+    (work / "crates.txt").write_text("eh_bytes: thiserror\nleb_reader: anyhow eh_bytes\n")
+    (crate / "stdout").write_text(run([build_c(work), "unsigned", "any", "1"]))
+    run(["rt", "run"], cwd=crate)
+    return crate / "out/leb_reader"
 
 
-def build_c(work, name, text):
-    source = work / f"{name}.c"
-    source.write_text(text)
-    run(["gcc", "-O2", "-o", work / name, source])
-    return work / name
+def build_c(work):
+    source = work / "reader.c"
+    source.write_text(PEER.replace("@NUMBERS@", str(NUMBERS)))
+    run(["gcc", "-O2", "-o", work / "reader", source])
+    return work / "reader"
+
+
+def measured(program, kind, size):
+    """Million numbers a second, and what was printed."""
+    least, out = {}, ""
+    for rounds in [1, MANY]:
+        times = []
+        for _ in range(RUNS):
+            start = time.perf_counter()
+            out = run([program, kind, size, str(rounds)])
+            times.append(time.perf_counter() - start)
+        least[rounds] = min(times)
+    return NUMBERS * (MANY - 1) / (least[MANY] - least[1]) / 1e6, out
 
 
 def main():
-    top = pathlib.Path.cwd()
-    print(f"{'numbers':<22}{'cursor':>12}{'C -O2':>12}{'ratio':>8}   (million a second)")
     with tempfile.TemporaryDirectory() as folder:
         work = pathlib.Path(folder)
-        for kind, put, cast in KINDS:
-            for size, base, spread in [("1 or 2 bytes", 50, 14), ("1 to 10 bytes", 0, 64)]:
-                speeds = []
-                outs = set()
-                for language in ["rattle", "c"]:
-                    took = []
-                    for rounds in [1, MANY]:
-                        name = f"leb_{kind}_{spread}_{rounds}_{language}"
-                        if language == "rattle":
-                            program = build_rattle(top, work, name, filled(PROGRAM, kind, put, cast, base, spread, rounds))
-                        else:
-                            program = build_c(work, name, filled(PEER, kind, put, cast, base, spread, rounds))
-                        best, out = seconds(program)
-                        took.append(best)
-                    outs.add(out)
-                    speeds.append(NUMBERS * (MANY - 1) / (took[1] - took[0]) / 1e6)
-                if len(outs) != 1:
+        programs = [build_rattle(work), build_c(work)]
+        print(f"{'numbers':<26}{'cursor':>10}{'C -O2':>10}{'ratio':>8}    (million a second)")
+        for kind in KINDS:
+            for size, name in SIZES:
+                (ours, said), (peers, wanted) = (measured(p, kind, size) for p in programs)
+                if said != wanted:
                     sys.exit(f"{kind}: the two programs read different numbers")
-                print(f"{kind + ', ' + size:<22}{speeds[0]:>12.0f}{speeds[1]:>12.0f}{speeds[0] / speeds[1]:>8.2f}")
+                print(f"{kind + ', ' + name:<26}{ours:>10.0f}{peers:>10.0f}{ours / peers:>8.2f}")
 
 
 if __name__ == "__main__":

@@ -118,7 +118,7 @@ some_groups (suc most) (b ∷ bytes) value taken read = cases (goes_on b) read (
     cases : (on : Bool) → group_before b on (within most bytes) ≡ Ok (value, taken) →
         ((high count : ℕ) → within most bytes ≡ Ok (high, count) → SomeGroups high count) → SomeGroups value taken
     cases false said others =
-        let same : (b % 128, 1) ≡ (value, taken) = read_same (b % 128, 1) (value, taken) said in
+        let same : ◌≡◌ {A = ℕ × ℕ} (b % 128, 1) (value, taken) = read_same (b % 128, 1) (value, taken) said in
         let number : b % 128 ≡ value = ap (λ p. p.0) same in
         let one : 1 ≡ taken = ap (λ p. p.1) same in
         record { before = 0; count = sym one; small = rw (← one) (omega arith) }
@@ -139,7 +139,7 @@ sleb_least (suc most) (b ∷ bytes) value taken z read sign = cases (goes_on b) 
         length (if small then low_seven z ∷ [] else (low_seven z + 128) ∷ sleb_spelling_within most (without_seven z)) ≤ taken
     cases false true test said some others = let one : 1 ≡ taken = ap (λ p. p.1) (read_same (b % 128, 1) (value, taken) said) in omega arith
     cases false false test said some others =
-        let same : (b % 128, 1) ≡ (value, taken) = read_same (b % 128, 1) (value, taken) said in
+        let same : ◌≡◌ {A = ℕ × ℕ} (b % 128, 1) (value, taken) = read_same (b % 128, 1) (value, taken) said in
         let number : b % 128 ≡ value = ap (λ p. p.0) same in
         let one : 1 ≡ taken = ap (λ p. p.1) same in
         let first : sign_extended (b % 128) 7 ≡ z = rw (← number, ← one) at sign in

@@ -3,10 +3,10 @@ ghost use Rattle.std.specs.Prelude.{◌≡◌, ◌<◌, ◌≤◌, ◌++◌, ℕ
 ghost use Rattle.eh_bytes.specs.Leb128.{uleb, sleb};
 ghost use Rattle.eh_bytes.specs.Spelling.{uleb_spelling, sleb_spelling, fits_seven, low_seven, without_seven};
 
-use std::alloc::AllocError;
+use crate::NoMemory;
 
 /// Appends the shortest ULEB128 spelling of a number (DWARF 5, 7.6).
-pub fn put_uleb(out: &mut Vec<u8>, value: u64) -> Result<(), AllocError>
+pub fn put_uleb(out: &mut Vec<u8>, value: u64) -> Result<(), NoMemory>
     ensures put { OnOk result (out.new.items ≡ out.old.items ++ uleb_spelling value) }
     ensures read_again { (rest : List ℕ) → uleb (uleb_spelling value ++ rest) ≡ Ok (value, length (uleb_spelling value)) }
     ensures shortest { (bytes : List ℕ) (taken : ℕ) → uleb bytes ≡ Ok (value, taken) → length (uleb_spelling value) ≤ taken }
@@ -45,7 +45,7 @@ fn without_seven(value: i64) -> i64
 }
 
 /// Appends the shortest SLEB128 spelling of a number (DWARF 5, 7.6).
-pub fn put_sleb(out: &mut Vec<u8>, value: i64) -> Result<(), AllocError>
+pub fn put_sleb(out: &mut Vec<u8>, value: i64) -> Result<(), NoMemory>
     ensures put { OnOk result (out.new.items ≡ out.old.items ++ sleb_spelling value) }
     ensures read_again { (rest : List ℕ) → sleb (sleb_spelling value ++ rest) ≡ Ok (value, length (sleb_spelling value)) }
     ensures shortest { (bytes : List ℕ) (taken : ℕ) → sleb bytes ≡ Ok (value, taken) → length (sleb_spelling value) ≤ taken }
