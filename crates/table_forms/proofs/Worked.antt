@@ -5,14 +5,14 @@ use Rattle.std.proofs.lemmas.Bool.Decides.{nat_tests}
 use Rattle.eh_bytes.specs.declared.frames.Region64.{Region64}
 use Rattle.eh_bytes.specs.declared.frames.FrameMove.{FrameMove}
 use Rattle.eh_bytes.specs.declared.frames.FrameChange.TheVariants as changes
-use Rattle.eh_bytes.specs.Memory.{Memory}
+use Rattle.eh_bytes.specs.Memory.{Part, Memory}
 use Rattle.eh_bytes.specs.Listed.{ListedTable, ListedFrames}
 use Rattle.eh_bytes.specs.Leb128.{spelled_within, groups, grouped, uleb, sign_extended, ranged, sleb}
 use Rattle.eh_bytes.specs.Encoded.{raw, encoded}
 use Rattle.table_forms.specs.declared.found.Rule.TheVariants as rules
 use Rattle.table_forms.specs.declared.found.Verdict.TheVariants.{Nothing, Handler, Terminate}
 use Rattle.table_forms.specs.Fault.{fault, is_before, least}
-use Rattle.table_forms.specs.LsdaHead.{pads_start, type_table, head_at}
+use Rattle.table_forms.specs.LsdaHead.{Head, pads_start, type_table, head_at}
 use Rattle.table_forms.specs.LsdaSites.{record_at, records_within}
 use Rattle.table_forms.specs.LsdaChain.{action_in, links_within}
 use Rattle.table_forms.specs.LsdaTypes.{entry_at, indices_within}
@@ -28,7 +28,7 @@ use Rattle.table_forms.specs.Parts.{cies_of, says, regions_of, parts_at}
 use Rattle.table_forms.specs.Header.{encodings_at, rows_within, header_at}
 use Rattle.table_forms.specs.Frames.{frames_in, frames}
 use Rattle.table_forms.proofs.RowFold.{stepped_off, fold_on, fold_off}
-use Rattle.table_forms.specs.WrittenTable.{TableStands}
+use Rattle.table_forms.specs.WrittenTable.{TableStands, HeadStands}
 use Rattle.table_forms.specs.WrittenFrames.{moved_row, FramesStand}
 
 -- the header at 0x100b0
@@ -52,14 +52,17 @@ table_bytes =
     []
 
 -- a segment of code from 0x100b0 on, which ends with nine words
-abbrev segment : List ℕ → List ℕ → List ℕ → Memory
-segment header frame table = record {
+abbrev code : List ℕ → List ℕ → List ℕ → Part
+code header frame table = record {
   address = 0x100b0;
   bytes = header ++ frame ++ table ++ replicate 36 0x13;
   file_at = 0xb0;
   write = false;
   exec = true;
-} ∷ []
+}
+
+abbrev segment : List ℕ → List ℕ → List ℕ → Memory
+segment header frame table = code header frame table ∷ []
 
 abbrev worked : Memory
 worked = segment header_bytes frame_bytes table_bytes
@@ -206,6 +209,28 @@ table_stands = record {
   types = (refl, tt);
   lists = tt;
 }
+
+-- its head has the writer's form
+abbrev worked_head : Head
+worked_head = record {
+  pads_from = 0x1010c;
+  types = Some (record { base = 0x5c; encoding = 0x1b; size = 4 });
+  site_encoding = 1;
+  sites_at = 0x51;
+  actions_at = 0x55;
+}
+
+reads_head : head_at (code header_bytes frame_bytes table_bytes) function 0x4c ≡ Ok worked_head
+unfolding spelled_within groups grouped uleb raw encoded pads_start type_table head_at
+reads_head = refl
+
+head_stands : HeadStands (code header_bytes frame_bytes table_bytes) function worked_head
+head_stands = record { pads = refl; types = (refl, refl); sites = refl }
+
+-- the header has the pointer and the row that its writer was handed
+header_stands : header_at (code header_bytes frame_bytes table_bytes) 0 ≡ record { frames_at = Some 0x100c4; rows = Some (record { location = 0x1010c; fde = 0x100dc } ∷ []); faults = [] }
+unfolding encodings_at rows_within header_at
+header_stands = refl
 
 -- what a writer was handed for the frame
 abbrev worked_moves : List FrameMove

@@ -1,4 +1,4 @@
--- Common information entries (DWARF 5, 6.4.1, with the augmentations of LSB's .eh_frame).
+-- Common information entries (DWARF 5, 6.4.1; LSB Core, "The Common Information Entry Format" and "Augmentation String Format").
 use Rattle.std.specs.Prelude.{ℕ, zero, suc, ◌+◌, ◌==◌, ◌||◌, nat_lt, nat_le, Bool, true, false, List, [], ◌∷◌, Option, Some, None, is_some, Result, Ok, Err, if◌then◌else◌}
 use Rattle.eh_bytes.specs.declared.error.ByteError.{ByteError}
 use Rattle.eh_bytes.specs.declared.error.ByteError.TheVariants.{Truncated}

@@ -1,4 +1,4 @@
--- Frame description entries (DWARF 5, 6.4.1; LSB, .eh_frame), and their regions.
+-- Frame description entries (DWARF 5, 6.4.1; LSB Core, "The Frame Description Entry Format"), and their regions.
 use Rattle.std.specs.Prelude.{ℕ, ◌+◌, ◌^◌, ◌%◌, ◌&&◌, nat_lt, nat_le, Bool, List, [], ◌∷◌, ◌++◌, find, Option, Some, None, Result, Ok}
 use Rattle.eh_bytes.specs.declared.frames.Region64.{Region64}
 use Rattle.eh_bytes.specs.Memory.{Part}

@@ -1,4 +1,4 @@
--- Header and frames together: their lists, or the first refusal.
+-- Header and frames together (LSB Core, "The .eh_frame_hdr section"): their lists, or the first refusal.
 use Rattle.std.specs.Prelude.{ℕ, ◌+◌, ◌-◌, ◌==◌, ◌&&◌, ◌||◌, nat_lt, nat_le, Bool, true, List, [], ◌∷◌, ◌++◌, Option, Some, None, Result, Err, if◌then◌else◌}
 use Rattle.eh_bytes.specs.declared.frames.HdrRow.{HdrRow}
 use Rattle.eh_bytes.specs.Memory.{Part, Memory, part_with}

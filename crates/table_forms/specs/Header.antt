@@ -1,4 +1,4 @@
--- The header of the frames (LSB, .eh_frame_hdr): a pointer to them, and a table of the FDEs to search.
+-- The header of the frames (LSB Core, "The .eh_frame_hdr section"): a pointer to them, and a table of the FDEs to search.
 use Rattle.std.specs.Prelude.{ℕ, zero, suc, ◌+◌, ◌%◌, ◌^◌, ◌==◌, ◌&&◌, ◌||◌, Bool, true, false, List, [], ◌∷◌, ◌++◌, length, Option, Some, None, Result, Ok, Err, if◌then◌else◌}
 use Rattle.std.specs.Int.{w32}
 use Rattle.eh_bytes.specs.declared.frames.HdrRow.{HdrRow}

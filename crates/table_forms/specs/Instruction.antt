@@ -104,7 +104,10 @@ of_size part stop p = do
 abbrev pub refused : ℕ → ℕ → Operands
 refused number opcode_at part stop p = Err (fault number (part.file_at + opcode_at))
 
--- DW_CFA_nop 0 .. DW_CFA_GNU_args_size 0x2e
+-- DW_CFA_nop 00, set_loc 01, advance_loc1, 2 and 4 at 02 to 04, offset_extended 05, restore_extended 06, undefined 07, same_value 08,
+-- register 09, remember_state 0a, restore_state 0b, def_cfa 0c, def_cfa_register 0d, def_cfa_offset 0e, offset_extended_sf 11,
+-- def_cfa_sf 12, def_cfa_offset_sf 13, val_offset 14, val_offset_sf 15, GNU_args_size 2e; def_cfa_expression 0f, expression 10 and
+-- val_expression 16 are refused (profile)
 unfoldable pub extended : Coding → ℕ → ℕ → Operands
 extended c opcode opcode_at =
     if opcode == 0x00 then alone nop

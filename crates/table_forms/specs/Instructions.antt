@@ -4,7 +4,7 @@ use Rattle.eh_bytes.specs.Memory.{Part}
 use Rattle.table_forms.specs.Fault.{Fault, fault}
 use Rattle.table_forms.specs.Instruction.{Instruction, remember_state, restore_state, Coding, instruction_at}
 
--- how many states are remembered after it, at most 16, if it may stand there
+-- how many states are remembered after it, at most 16 (profile), if it may stand there
 abbrev pub states_after : Instruction → ℕ → Option ℕ
 states_after remember_state n = if nat_lt n 16 then Some (n + 1) else None
 states_after restore_state zero = None

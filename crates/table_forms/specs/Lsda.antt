@@ -1,4 +1,4 @@
--- A whole exception table: its lists, or its first refusal.
+-- A whole exception table (Itanium C++ ABI, "Exception Handling Tables"): its lists, or its first refusal.
 use Rattle.std.specs.Prelude.{ℕ, zero, suc, ℤ, pos, negsuc, ◌+◌, ◌-◌, ◌==◌, List, [], ◌∷◌, ◌++◌, map, flat_map, filter, not, Option, Some, None, Result, Ok, Err, if◌then◌else◌}
 use Rattle.eh_bytes.specs.declared.frames.Region64.{Region64}
 use Rattle.eh_bytes.specs.Memory.{Part, Memory, part_with}

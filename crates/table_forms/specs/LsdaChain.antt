@@ -29,7 +29,7 @@ pub record Chain : Type 0 where
   pub links : List Link
   pub ending : Ending
 
--- records end at or before the base; without types at the part's end
+-- records end at or before the base, without types at or before the part's end
 abbrev pub action_end : Part → Option Types → ℕ
 action_end part None = length part.bytes
 action_end part (Some types) = types.base
