@@ -1,0 +1,53 @@
+// Declarations.
+use crate::expression::Expr;
+use crate::name::Name;
+use crate::statement::Stmt;
+use crate::types::{Param, Ty};
+
+/// `name(arguments)` before the body of a constructor.
+#[derive(Debug, Drop, PartialEq, Eq)]
+pub struct Init {
+    pub name: Name,
+    pub args: Vec<Expr>,
+}
+
+#[derive(Debug, Drop, Clone, Copy, PartialEq, Eq)]
+pub enum FuncKind {
+    /// A function of no class.
+    Plain,
+    Method,
+    Constructor,
+    Destructor,
+}
+
+/// A function, or its declaration alone, which has no body. Constructors and destructors have the result `Void`.
+#[derive(Debug, Drop, PartialEq, Eq)]
+pub struct Func {
+    pub name: Name,
+    pub kind: FuncKind,
+    pub result: Ty,
+    pub params: Vec<Param>,
+    /// The types of its exception specification, where there is one.
+    pub spec: Option<Vec<Ty>>,
+    pub inits: Vec<Init>,
+    pub body: Option<Vec<Stmt>>,
+    /// How many tokens it has, from its result type, or from its name where it has none, to its end.
+    pub tokens: u32,
+}
+
+/// A class, with its data members in order, and its member functions in order.
+#[derive(Debug, Drop, PartialEq, Eq)]
+pub struct ClassDecl {
+    pub name: Name,
+    pub base: Option<Name>,
+    pub members: Vec<Param>,
+    pub funcs: Vec<Func>,
+}
+
+#[derive(Debug, Drop, PartialEq, Eq)]
+pub enum Decl {
+    Class(ClassDecl),
+    /// A global int, with its first value.
+    Global(Name, i32),
+    Func(Func),
+}

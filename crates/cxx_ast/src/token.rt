@@ -1,0 +1,24 @@
+// The tokens of a source.
+use crate::keyword::Keyword;
+use crate::mark::Mark;
+use crate::text::Text;
+
+/// What a token is.
+#[derive(Debug, Drop, PartialEq, Eq)]
+pub enum TokenKind {
+    /// A name, which is no reserved word.
+    Name(Text),
+    /// A literal by its value.
+    Number(i32),
+    /// A reserved word.
+    Word(Keyword),
+    /// An operator or a punctuator.
+    Mark(Mark),
+}
+
+/// A token, and the place of its first byte, counted in bytes from the source's start.
+#[derive(Debug, Drop, PartialEq, Eq)]
+pub struct Token {
+    pub kind: TokenKind,
+    pub place: u32,
+}

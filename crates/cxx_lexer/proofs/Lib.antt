@@ -1,0 +1,14 @@
+pub mod ByteTests
+pub mod Spellings
+pub mod Prefixes
+pub mod Searches
+pub mod Comments
+pub mod Longest
+pub mod Numbers
+pub mod Fronts
+pub mod Slices
+pub mod Cuts
+pub mod KindLaws
+pub mod PartLaws
+pub mod Unique
+pub mod Exactness

@@ -1,0 +1,4 @@
+pub mod Close
+pub mod FrontOf
+pub mod Steps
+pub mod Told
