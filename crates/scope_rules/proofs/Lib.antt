@@ -1,0 +1,5 @@
+pub mod Trees
+pub mod Full
+pub mod Turns
+pub mod Fuel
+pub mod Worked
