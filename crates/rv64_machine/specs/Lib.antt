@@ -1,5 +1,5 @@
-pub mod Instr
-pub mod Memory
-pub mod Registers
-pub mod State
-pub mod Step
+pub mod Bytes
+pub mod Parts
+pub mod Serving
+pub mod Initial
+pub mod Load

@@ -1,14 +1,13 @@
-//! A simulator of one RV64 hart: its pc, its 32 registers and its memory, stepped instruction by instruction.
-//!
-//! `step` is one step of the machine that `specs/` defines. So far it knows LUI, ADDI, ADDIW and ECALL.
+//! A simulator of one RV64IM hart: its pc, its 32 registers and its memory, stepped instruction by
+//! instruction.
 #![tactic(auto)]
 
-mod instr;
+mod bytes;
 mod machine;
 mod memory;
-mod registers;
-mod step;
+#[cfg(test)]
+mod tests;
 
 pub use machine::Machine;
+pub use rv64_isa::{FaultKind, Step};
 pub use std::alloc::AllocError as NoMemory;
-pub use step::{FaultKind, Step};

@@ -1,18 +1,21 @@
 // The machine and its step.
-ghost use Rattle.std.specs.Prelude.{◌≡◌, ◌<◌, ◌%◌, List, map, IfOk};
+ghost use Rattle.std.specs.Prelude.{◌≡◌, ◌+◌, ◌*◌, ◌%◌, ◌==◌, ◌^◌, ◌<◌, ◌≤◌, drop, map, IfOk};
 ghost use Rattle.eh_bytes.specs.Extent.{AreBelow, extents_of};
-ghost use Rattle.rv64_machine.specs.Instr.{RegistersInRange};
-ghost use Rattle.rv64_machine.specs.Memory.{Part, part_of, word_at};
-ghost use Rattle.rv64_machine.specs.Registers.{reg_of, with_reg};
-ghost use Rattle.rv64_machine.specs.State.{initial, state};
-ghost use Rattle.rv64_machine.specs.Step.{done, step_of};
+ghost use Rattle.rv64_isa.specs.Arithmetic.{add, is_less};
+ghost use Rattle.rv64_isa.specs.State.{reg_of, with_reg};
+ghost use Rattle.rv64_isa.specs.Step.{branches, calls, done, imm12, jumps, loads, next, passes, sets, step_of, stores, x};
+ghost use Rattle.rv64_machine.specs.Bytes.{size_of};
+ghost use Rattle.rv64_machine.specs.Initial.{initial};
+ghost use Rattle.rv64_machine.specs.Load.{extension_of, word_loaded};
+ghost use Rattle.rv64_machine.specs.Parts.{part_of};
 
 use crate::NoMemory;
-use crate::instr::{Instr, decode, sign_extend_32};
+use crate::bytes::Size;
 use crate::memory::Memory;
-use crate::registers::{reg_of, set_reg};
-use crate::step::{FaultKind, Step};
 use eh_bytes::Segments;
+use rv64_isa::{
+    BranchOffset, FaultKind, Immediate12, Instr, Register, Step, arithmetic as op, decode,
+};
 use std::alloc::Global;
 use std::marker::Model;
 
@@ -25,36 +28,230 @@ pub struct Machine {
 }
 
 impl Model for Machine {
-    ghost use Rattle.rv64_machine.specs.State.{State, state};
+    ghost use Rattle.rv64_isa.specs.State.{State, state};
 
     ghost Value = { State };
 
     ghost view = { λ m. state m.pc m.regs m.memory };
 }
 
-// What an instruction does to the pc and the registers.
-fn execute(instr: Instr, pc: &mut u64, regs: &mut [u64; 32]) -> Step
-    requires { RegistersInRange instr }
-    ensures { (memory : List Part) → (result, state pc.new regs.new memory) ≡ done instr (state pc.old regs.old memory) }
+// A number of so many bytes as 64 bits, with its sign or without.
+#[inline(always)]
+fn extended(value: u64, size: Size, signed: bool) -> u64
+    requires { value < 256 ^ size_of size }
+    ensures { result ≡ extension_of signed size value }
 {
-    *pc = pc.wrapping_add(4);
-    match instr {
-        Instr::Lui(rd, immediate) => set_reg(regs, rd, immediate),
-        Instr::Addi(rd, rs1, immediate) => {
-            let sum = reg_of(regs, rs1).wrapping_add(immediate);
-            set_reg(regs, rd, sum);
-        }
-        Instr::Addiw(rd, rs1, immediate) => {
-            let sum = reg_of(regs, rs1).wrapping_add(immediate) % 0x1_0000_0000;
-            set_reg(regs, rd, sign_extend_32(sum));
-        }
-        Instr::Ecall => return Step::Ecall,
+    match size {
+        Size::Byte if signed && value >= 0x80 => value + 0xffff_ffff_ffff_ff00,
+        Size::Half if signed && value >= 0x8000 => value + 0xffff_ffff_ffff_0000,
+        Size::Word if signed && value >= 0x8000_0000 => value + 0xffff_ffff_0000_0000,
+        _ => value,
     }
-    Step::Done
+}
+
+fn is_aligned(address: u64, size: Size) -> bool
+    ensures { result ≡ address % size_of size == 0 }
+{
+    address % size.bytes() == 0
 }
 
 impl Machine {
-    /// A machine over these segments, with 4 MiB of exception slots at 0x60000000 and 16 MiB of stack at 0x70000000.
+    #[inline(always)]
+    fn x(&self, register: Register) -> u64
+        ensures { result ≡ x self.now register }
+    {
+        self.reg(register.get())
+    }
+
+    // The pc of the instruction behind.
+    #[inline(always)]
+    fn next(&self) -> u64
+        ensures { result ≡ next self.now }
+    {
+        self.pc.wrapping_add(4)
+    }
+
+    #[inline(always)]
+    fn pass(&mut self) -> Step
+        ensures { (result, self.new) ≡ passes self.old }
+    {
+        self.pc = self.pc.wrapping_add(4);
+        Step::Done
+    }
+
+    fn call(&mut self) -> Step
+        ensures { (result, self.new) ≡ calls self.old }
+    {
+        self.pc = self.pc.wrapping_add(4);
+        Step::Ecall
+    }
+
+    #[inline(always)]
+    fn set(&mut self, rd: Register, value: u64) -> Step
+        ensures { (result, self.new) ≡ sets self.old rd value }
+    {
+        self.set_reg(rd.get(), value);
+        self.pc = self.pc.wrapping_add(4);
+        Step::Done
+    }
+
+    #[inline(always)]
+    fn jump(&mut self, rd: Register, target: u64) -> Step
+        ensures { (result, self.new) ≡ jumps self.old rd target }
+    {
+        if target % 4 != 0 {
+            return Step::Fault(FaultKind::Misaligned);
+        }
+        let next = self.next();
+        self.set_reg(rd.get(), next);
+        self.pc = target;
+        Step::Done
+    }
+
+    #[inline(always)]
+    fn branch(&mut self, taken: bool, offset: BranchOffset) -> Step
+        ensures { (result, self.new) ≡ branches self.old taken offset }
+    {
+        if !taken {
+            return self.pass();
+        }
+        let target = self.pc.wrapping_add(offset.distance());
+        if target % 4 != 0 {
+            return Step::Fault(FaultKind::Misaligned);
+        }
+        self.pc = target;
+        Step::Done
+    }
+
+    fn is_less(&self, rs1: Register, rs2: Register) -> bool
+        ensures { result ≡ is_less (x self.now rs1) (x self.now rs2) }
+    {
+        op::is_less(self.x(rs1), self.x(rs2))
+    }
+
+    // The address of a load, a store or a jump by a register.
+    fn address(&self, rs1: Register, imm: Immediate12) -> u64
+        ensures { result ≡ add (x self.now rs1) (imm12 imm) }
+    {
+        op::add(self.x(rs1), imm.extended())
+    }
+
+    #[inline(always)]
+    fn load(
+        &mut self,
+        size: Size,
+        signed: bool,
+        rd: Register,
+        rs1: Register,
+        imm: Immediate12,
+    ) -> Step
+        ensures { (result, self.new) ≡ loads self.old (size_of size) (extension_of signed size) rd (add (x self.old rs1) (imm12 imm)) }
+    {
+        let address = self.address(rs1, imm);
+        if !is_aligned(address, size) {
+            return Step::Fault(FaultKind::Misaligned);
+        }
+        match self.memory.access_next(address, size) {
+            None => Step::Fault(FaultKind::Unmapped),
+            Some(access) => self.set(rd, extended(access.value, size, signed)),
+        }
+    }
+
+    #[inline(always)]
+    fn store(&mut self, size: Size, rs1: Register, rs2: Register, imm: Immediate12) -> Step
+        ensures { (result, self.new) ≡ stores self.old (size_of size) (add (x self.old rs1) (imm12 imm)) (x self.old rs2) }
+    {
+        let address = self.address(rs1, imm);
+        let value = self.x(rs2);
+        if !is_aligned(address, size) {
+            return Step::Fault(FaultKind::Misaligned);
+        }
+        match self.memory.access_next(address, size) {
+            None => Step::Fault(FaultKind::Unmapped),
+            Some(access) if !access.write => Step::Fault(FaultKind::ReadOnly),
+            Some(_) => {
+                self.memory.put(address, size, value);
+                self.pass()
+            }
+        }
+    }
+
+    // What each instruction does.
+    #[tactic(auto, unfolding(rv64_isa::specs::Step::done))]
+    fn execute(&mut self, instr: Instr) -> Step
+        ensures { (result, self.new) ≡ done instr self.old }
+    {
+        match instr {
+            Instr::Lui(rd, imm) => self.set(rd, imm.extended()),
+            Instr::Auipc(rd, imm) => self.set(rd, op::add(self.pc(), imm.extended())),
+            Instr::Jal(rd, offset) => self.jump(rd, op::add(self.pc(), offset.distance())),
+            Instr::Jalr(rd, rs1, imm) => self.jump(rd, self.address(rs1, imm) / 2 * 2),
+            Instr::Beq(rs1, rs2, offset) => self.branch(self.x(rs1) == self.x(rs2), offset),
+            Instr::Bne(rs1, rs2, offset) => self.branch(self.x(rs1) != self.x(rs2), offset),
+            Instr::Blt(rs1, rs2, offset) => self.branch(self.is_less(rs1, rs2), offset),
+            Instr::Bge(rs1, rs2, offset) => self.branch(!self.is_less(rs1, rs2), offset),
+            Instr::Bltu(rs1, rs2, offset) => self.branch(self.x(rs1) < self.x(rs2), offset),
+            Instr::Bgeu(rs1, rs2, offset) => self.branch(self.x(rs1) >= self.x(rs2), offset),
+            Instr::Lb(rd, rs1, imm) => self.load(Size::Byte, true, rd, rs1, imm),
+            Instr::Lh(rd, rs1, imm) => self.load(Size::Half, true, rd, rs1, imm),
+            Instr::Lw(rd, rs1, imm) => self.load(Size::Word, true, rd, rs1, imm),
+            Instr::Ld(rd, rs1, imm) => self.load(Size::Double, false, rd, rs1, imm),
+            Instr::Lbu(rd, rs1, imm) => self.load(Size::Byte, false, rd, rs1, imm),
+            Instr::Lhu(rd, rs1, imm) => self.load(Size::Half, false, rd, rs1, imm),
+            Instr::Lwu(rd, rs1, imm) => self.load(Size::Word, false, rd, rs1, imm),
+            Instr::Sb(rs1, rs2, imm) => self.store(Size::Byte, rs1, rs2, imm),
+            Instr::Sh(rs1, rs2, imm) => self.store(Size::Half, rs1, rs2, imm),
+            Instr::Sw(rs1, rs2, imm) => self.store(Size::Word, rs1, rs2, imm),
+            Instr::Sd(rs1, rs2, imm) => self.store(Size::Double, rs1, rs2, imm),
+            Instr::Addi(rd, rs1, imm) => self.set(rd, op::add(self.x(rs1), imm.extended())),
+            Instr::Slti(rd, rs1, imm) => self.set(rd, op::slt(self.x(rs1), imm.extended())),
+            Instr::Sltiu(rd, rs1, imm) => self.set(rd, op::sltu(self.x(rs1), imm.extended())),
+            Instr::Xori(rd, rs1, imm) => self.set(rd, op::xor(self.x(rs1), imm.extended())),
+            Instr::Ori(rd, rs1, imm) => self.set(rd, op::or(self.x(rs1), imm.extended())),
+            Instr::Andi(rd, rs1, imm) => self.set(rd, op::and(self.x(rs1), imm.extended())),
+            Instr::Slli(rd, rs1, shamt) => self.set(rd, op::sll(self.x(rs1), shamt.get().into())),
+            Instr::Srli(rd, rs1, shamt) => self.set(rd, op::srl(self.x(rs1), shamt.get().into())),
+            Instr::Srai(rd, rs1, shamt) => self.set(rd, op::sra(self.x(rs1), shamt.get().into())),
+            Instr::Add(rd, rs1, rs2) => self.set(rd, op::add(self.x(rs1), self.x(rs2))),
+            Instr::Sub(rd, rs1, rs2) => self.set(rd, op::sub(self.x(rs1), self.x(rs2))),
+            Instr::Sll(rd, rs1, rs2) => self.set(rd, op::sll(self.x(rs1), self.x(rs2))),
+            Instr::Slt(rd, rs1, rs2) => self.set(rd, op::slt(self.x(rs1), self.x(rs2))),
+            Instr::Sltu(rd, rs1, rs2) => self.set(rd, op::sltu(self.x(rs1), self.x(rs2))),
+            Instr::Xor(rd, rs1, rs2) => self.set(rd, op::xor(self.x(rs1), self.x(rs2))),
+            Instr::Srl(rd, rs1, rs2) => self.set(rd, op::srl(self.x(rs1), self.x(rs2))),
+            Instr::Sra(rd, rs1, rs2) => self.set(rd, op::sra(self.x(rs1), self.x(rs2))),
+            Instr::Or(rd, rs1, rs2) => self.set(rd, op::or(self.x(rs1), self.x(rs2))),
+            Instr::And(rd, rs1, rs2) => self.set(rd, op::and(self.x(rs1), self.x(rs2))),
+            Instr::Addiw(rd, rs1, imm) => self.set(rd, op::addw(self.x(rs1), imm.extended())),
+            Instr::Slliw(rd, rs1, shamt) => self.set(rd, op::sllw(self.x(rs1), shamt.get().into())),
+            Instr::Srliw(rd, rs1, shamt) => self.set(rd, op::srlw(self.x(rs1), shamt.get().into())),
+            Instr::Sraiw(rd, rs1, shamt) => self.set(rd, op::sraw(self.x(rs1), shamt.get().into())),
+            Instr::Addw(rd, rs1, rs2) => self.set(rd, op::addw(self.x(rs1), self.x(rs2))),
+            Instr::Subw(rd, rs1, rs2) => self.set(rd, op::subw(self.x(rs1), self.x(rs2))),
+            Instr::Sllw(rd, rs1, rs2) => self.set(rd, op::sllw(self.x(rs1), self.x(rs2))),
+            Instr::Srlw(rd, rs1, rs2) => self.set(rd, op::srlw(self.x(rs1), self.x(rs2))),
+            Instr::Sraw(rd, rs1, rs2) => self.set(rd, op::sraw(self.x(rs1), self.x(rs2))),
+            Instr::Fence(_, _, _) => self.pass(),
+            Instr::Ecall => self.call(),
+            Instr::Ebreak => Step::Fault(FaultKind::Break),
+            Instr::Mul(rd, rs1, rs2) => self.set(rd, op::mul(self.x(rs1), self.x(rs2))),
+            Instr::Mulh(rd, rs1, rs2) => self.set(rd, op::mulh(self.x(rs1), self.x(rs2))),
+            Instr::Mulhsu(rd, rs1, rs2) => self.set(rd, op::mulhsu(self.x(rs1), self.x(rs2))),
+            Instr::Mulhu(rd, rs1, rs2) => self.set(rd, op::mulhu(self.x(rs1), self.x(rs2))),
+            Instr::Div(rd, rs1, rs2) => self.set(rd, op::div(self.x(rs1), self.x(rs2))),
+            Instr::Divu(rd, rs1, rs2) => self.set(rd, op::divu(self.x(rs1), self.x(rs2))),
+            Instr::Rem(rd, rs1, rs2) => self.set(rd, op::rem(self.x(rs1), self.x(rs2))),
+            Instr::Remu(rd, rs1, rs2) => self.set(rd, op::remu(self.x(rs1), self.x(rs2))),
+            Instr::Mulw(rd, rs1, rs2) => self.set(rd, op::mulw(self.x(rs1), self.x(rs2))),
+            Instr::Divw(rd, rs1, rs2) => self.set(rd, op::divw(self.x(rs1), self.x(rs2))),
+            Instr::Divuw(rd, rs1, rs2) => self.set(rd, op::divuw(self.x(rs1), self.x(rs2))),
+            Instr::Remw(rd, rs1, rs2) => self.set(rd, op::remw(self.x(rs1), self.x(rs2))),
+            Instr::Remuw(rd, rs1, rs2) => self.set(rd, op::remuw(self.x(rs1), self.x(rs2))),
+        }
+    }
+
+    /// A machine over these segments, with 4 MiB of exception slots at 0x60000000 and 16 MiB of stack
+    /// at 0x70000000, both zero.
     ///
     /// The pc and all registers are 0, but for sp, which is the stack's end.
     pub fn new(alloc: Global, segments: Segments) -> Result<Machine, NoMemory>
@@ -70,14 +267,6 @@ impl Machine {
         })
     }
 
-    // The word that the pc points to, a multiple of 4.
-    fn word(&self) -> Option<u32>
-        requires { self.now.pc % 4 ≡ 0 }
-        ensures { result ≡ word_at self.now.memory self.now.pc }
-    {
-        self.memory.word_at(self.pc)
-    }
-
     /// Executes the instruction that the pc points to. A fault leaves the machine as it was.
     ///
     /// At an ECALL the pc moves on, and nothing else changes. Takes no memory.
@@ -87,11 +276,11 @@ impl Machine {
         if self.pc % 4 != 0 {
             return Step::Fault(FaultKind::Misaligned);
         }
-        match self.word() {
+        match self.memory.fetch(self.pc) {
             None => Step::Fault(FaultKind::Unmapped),
             Some(word) => match decode(word) {
-                None => Step::Fault(FaultKind::Illegal),
-                Some(instr) => execute(instr, &mut self.pc, &mut self.regs),
+                Err(_) => Step::Fault(FaultKind::Illegal),
+                Ok(instr) => self.execute(instr),
             },
         }
     }
@@ -101,7 +290,7 @@ impl Machine {
         requires { n < 32 }
         ensures { result ≡ reg_of self.now.regs n }
     {
-        reg_of(&self.regs, n)
+        if n == 0 { 0 } else { self.regs[n as usize] }
     }
 
     /// Sets register `xn`; x0 stays 0.
@@ -109,77 +298,45 @@ impl Machine {
         requires { n < 32 }
         ensures { self.new ≡ record self.old { regs = with_reg self.old.regs n value } }
     {
-        set_reg(&mut self.regs, n, value);
+        if n != 0 {
+            self.regs[n as usize] = value;
+        }
     }
 
+    /// The address of the instruction that is next.
     pub fn pc(&self) -> u64
         ensures { result ≡ self.now.pc }
     {
         self.pc
     }
 
+    /// Sets the address of the instruction that is next.
     pub fn set_pc(&mut self, pc: u64)
         ensures { self.new ≡ record self.old { pc = pc } }
     {
         self.pc = pc;
     }
-}
 
-#[cfg(test)]
-mod tests {
-    use super::*;
-    use eh_bytes::Segment;
-    use std::test::Fail;
-
-    // A machine over these words at 0x10000, with the pc at the first.
-    fn machine(alloc: Global, words: &[u32]) -> Result<Machine, Fail> {
-        let mut bytes = Vec::new(alloc);
-        for word in words {
-            bytes.extend_from_slice(&word.to_le_bytes())?;
+    /// The eight bytes at an address, the lowest first.
+    ///
+    /// `Misaligned` where the address is no multiple of 8, else `Unmapped` where one of the bytes
+    /// does not lie in memory.
+    pub fn load_u64(&self, address: u64) -> Result<u64, FaultKind>
+        ensures { result ≡ word_loaded self.now address }
+    {
+        if address % 8 != 0 {
+            return Err(FaultKind::Misaligned);
         }
-        // A new machine wants its segments below a limit.
-        bytes.truncate(64);
-        let mut parts = Vec::new(alloc);
-        parts.push(Segment {
-            address: 0x1_0000,
-            bytes,
-            file_at: 0,
-            write: false,
-            exec: true,
-        })?;
-        let mut machine = Machine::new(alloc, Segments { parts })?;
-        machine.set_pc(0x1_0000);
-        Ok(machine)
+        match self.memory.access(address, Size::Double) {
+            None => Err(FaultKind::Unmapped),
+            Some(access) => Ok(access.value),
+        }
     }
 
-    // The words were put together by hand from the instruction listings of the ISA manual.
-    #[test]
-    fn steps(rt: HostRuntime) -> Result<(), Fail> {
-        let cases = [
-            (0x0050_0513, Step::Done, 10, 5), // addi x10, x0, 5
-            (0x8000_0537, Step::Done, 10, 0xffff_ffff_8000_0000), // lui x10, 0x80000
-            (0xfff5_051b, Step::Done, 10, 0x7fff_ffff), // addiw x10, x10, -1
-            (0x0015_051b, Step::Done, 10, 0xffff_ffff_8000_0000), // addiw x10, x10, 1
-            (0xfff5_0893, Step::Done, 17, 0xffff_ffff_7fff_ffff), // addi x17, x10, -1
-            (0x0010_0013, Step::Done, 0, 0), // addi x0, x0, 1
-            (0x0000_0073, Step::Ecall, 2, 0x7100_0000), // ecall
-            (0x0000_0000, Step::Fault(FaultKind::Illegal), 0, 0), // no instruction
-        ];
-        let mut machine = machine(rt.alloc(), &cases.map(|(word, _, _, _)| word))?;
-        for (word, step, n, value) in cases {
-            assert_eq!(rt; machine.step(), step, "{word:08x}");
-            assert!(rt; n < 32);
-            assert_eq!(rt; machine.reg(n), value, "{word:08x}");
-        }
-        assert_eq!(rt; machine.pc(), 0x1_001c);
-        for (pc, kind) in [
-            (0x1_0020, FaultKind::Unmapped),
-            (0x1_0002, FaultKind::Misaligned),
-            (0x70ff_fffc, FaultKind::Unmapped),
-        ] {
-            machine.set_pc(pc);
-            assert_eq!(rt; machine.step(), Step::Fault(kind), "{pc:x}");
-        }
-        Ok(())
+    /// The segments that the machine was given, with their bytes as they are now.
+    pub fn tables(&self) -> &Segments
+        ensures { drop 2 self.now.memory ≡ map part_of result.now.parts.items }
+    {
+        self.memory.tables()
     }
 }

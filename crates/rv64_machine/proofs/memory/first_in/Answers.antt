@@ -1,6 +1,7 @@
 use Rattle.std.proofs.Common.{◌∙◌, ap, sym, option_map}
-use Rattle.rv64_machine.specs.Memory.{part_of, covers}
-use Rattle.rv64_machine.proofs.Parts.{copied_mapped, find_mapped}
+use Rattle.rv64_isa.specs.State.{covers}
+use Rattle.rv64_machine.specs.Parts.{part_of}
+use Rattle.rv64_machine.proofs.Found.{copied_mapped, find_mapped}
 use Rattle.rv64_machine.proofs.memory.first_in.Goals as goal
 
 pub returns-clause-first : goal.returns-clause-first

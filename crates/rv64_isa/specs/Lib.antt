@@ -1,0 +1,6 @@
+pub mod Format
+pub mod Listing
+pub mod Decoding
+pub mod Arithmetic
+pub mod State
+pub mod Step

@@ -1,0 +1,46 @@
+-- What a step is, by what is fetched and decoded.
+use Rattle.std.proofs.Common.{ℕ, ◌≡◌, ◌%◌, ◌==◌, false, cond, List, Option, Some, None, Ok, Err, refl, ap, sym, ◌∙◌, eq-eqb, arith}
+use Rattle.std.proofs.lemmas.Bool.Decides.{nat_tests}
+use Rattle.std.specs.Option.{ok_or}
+use Rattle.rv64_isa.specs.declared.instr.Instr.{Instr}
+use Rattle.rv64_isa.specs.declared.step.FaultKind.TheVariants.{Illegal, Misaligned, Unmapped}
+use Rattle.rv64_isa.specs.Decoding.{decoded}
+use Rattle.rv64_isa.specs.State.{State, Part, state}
+use Rattle.rv64_isa.specs.Step.{Stepped, fault, fetched, decoded_step, fetched_step, done, step_of}
+
+pub decoded_none : {E : Type 0} (o : Option Instr) (e f : E) → Err e ≡ ok_or o f → o ≡ None
+decoded_none None e f h = refl
+decoded_none (Some i) e f h = absurd (cc)
+
+pub decoded_some : {E : Type 0} (o : Option Instr) (i : Instr) (f : E) → Ok i ≡ ok_or o f → o ≡ Some i
+decoded_some None i f h = absurd (cc)
+decoded_some (Some j) i f h = cc
+
+stepped : (s : State) (w : Option ℕ) → s.pc % 4 ≡ 0 → fetched s.memory s.pc ≡ w → step_of s ≡ fetched_step w s
+unfolding step_of
+stepped s w aligned e = ap (λ b. cond b (fetched_step (fetched s.memory s.pc) s) (fault Misaligned s)) (eq-eqb (s.pc % 4) 0 aligned) ∙ ap (λ o. fetched_step o s) e
+
+not_zero : (n : ℕ) → (n ≡ 0 → ⊥) → (n == 0) ≡ false
+not_zero n h = grind (arith, nat_tests)
+
+pub misaligned : (s : State) (pc : ℕ) (regs : List ℕ) (memory : List Part) → state pc regs memory ≡ s → (pc % 4 ≡ 0 → ⊥) → fault Misaligned s ≡ step_of s
+unfolding step_of
+misaligned s pc regs memory same off =
+    sym (ap (λ b. cond b (fetched_step (fetched s.memory s.pc) s) (fault Misaligned s)) (ap (λ t. t.pc % 4 == 0) (sym same) ∙ not_zero (pc % 4) off))
+
+pub unmapped : (s : State) (pc : ℕ) (regs : List ℕ) (memory after : List Part) → state pc regs memory ≡ s → pc % 4 ≡ 0 → None ≡ fetched memory pc → after ≡ memory →
+    fault Unmapped (state pc regs after) ≡ step_of s
+unmapped s pc regs memory after same aligned none kept =
+    ap (λ m. fault Unmapped (state pc regs m)) kept ∙ sym (stepped (state pc regs memory) None aligned (sym none)) ∙ ap step_of same
+
+pub illegal : {E : Type 0} (s : State) (pc : ℕ) (regs : List ℕ) (memory after : List Part) (w : ℕ) (e f : E) → state pc regs memory ≡ s → pc % 4 ≡ 0 → Some w ≡ fetched memory pc →
+    Err e ≡ ok_or (decoded w) f → after ≡ memory → fault Illegal (state pc regs after) ≡ step_of s
+illegal s pc regs memory after w e f same aligned some unlisted kept =
+    ap (λ m. fault Illegal (state pc regs m)) kept ∙ sym (ap (λ o. decoded_step o (state pc regs memory)) (decoded_none (decoded w) e f unlisted)) ∙
+    sym (stepped (state pc regs memory) (Some w) aligned (sym some)) ∙ ap step_of same
+
+pub executed : {E : Type 0} (s : State) (pc : ℕ) (regs : List ℕ) (memory after : List Part) (w : ℕ) (i : Instr) (f : E) (r : Stepped) → state pc regs memory ≡ s → pc % 4 ≡ 0 →
+    Some w ≡ fetched memory pc → Ok i ≡ ok_or (decoded w) f → after ≡ memory → r ≡ done i (state pc regs after) → r ≡ step_of s
+executed s pc regs memory after w i f r same aligned some listed kept e =
+    e ∙ ap (λ m. done i (state pc regs m)) kept ∙ sym (ap (λ o. decoded_step o (state pc regs memory)) (decoded_some (decoded w) i f listed)) ∙
+    sym (stepped (state pc regs memory) (Some w) aligned (sym some)) ∙ ap step_of same
