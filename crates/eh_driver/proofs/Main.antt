@@ -1,8 +1,8 @@
 -- How the run of a main ends.
 use Rattle.std.proofs.Common.{◌≡◌, ◌≤◌, ◌^◌, ℕ, ℤ, pos, List, [], ◌∷◌, ◌++◌, length, map, Err, ap, ◌∙◌, subst, arith}
 use Rattle.std.specs.List.{AllByRecursion}
-use Rattle.rv64_machine.specs.State.{State}
-use Rattle.rv64_machine.specs.declared.step.FaultKind.{FaultKind}
+use Rattle.rv64_isa.specs.State.{State}
+use Rattle.rv64_isa.specs.declared.step.FaultKind.{FaultKind}
 use Rattle.eh_outer.specs.declared.sink.SinkError.{SinkError}
 use Rattle.eh_outer.specs.declared.sink.SinkError.TheVariants.{Failed}
 use Rattle.eh_outer.specs.Sink.{SinkView, Puts, Takes, Fails}

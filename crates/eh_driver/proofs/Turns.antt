@@ -2,12 +2,11 @@
 use Rattle.std.proofs.Common.{◌≡◌, ◌≢◌, ℕ, suc, ◌==◌, false, ℤ, List, [], ◌∷◌, ◌++◌, map, refl, sym, ap, ◌∙◌, subst, arith, append_assoc}
 use Rattle.std.proofs.lemmas.List.{map-append}
 use Rattle.std.proofs.lemmas.Bool.Decides.{nat_tests}
-use Rattle.rv64_machine.specs.declared.step.FaultKind.{FaultKind}
-use Rattle.rv64_machine.specs.declared.step.FaultKind.TheVariants.{Call}
-use Rattle.rv64_machine.specs.declared.step.Step.TheVariants as steps
-use Rattle.rv64_machine.specs.Registers.{reg_of}
-use Rattle.rv64_machine.specs.State.{State}
-use Rattle.rv64_machine.specs.Step.{step_of}
+use Rattle.rv64_isa.specs.declared.step.FaultKind.{FaultKind}
+use Rattle.rv64_isa.specs.declared.step.FaultKind.TheVariants.{Call}
+use Rattle.rv64_isa.specs.declared.step.Step.TheVariants as steps
+use Rattle.rv64_isa.specs.State.{State, reg_of}
+use Rattle.rv64_isa.specs.Step.{step_of}
 use Rattle.eh_outer.specs.Sink.{SinkView, Fails}
 use Rattle.eh_driver.specs.declared.run.End.{End}
 use Rattle.eh_driver.specs.declared.run.End.TheVariants.{Exit, Budget, Fault, WriteFault}

@@ -1,50 +1,45 @@
--- The machine words of a main that writes ints and returns one.
-use Rattle.std.specs.Prelude.{true, false, ℕ, ◌+◌, ◌*◌, ◌/◌, ◌%◌, List, [], ◌∷◌, ◌++◌}
+-- The instructions of a main that writes ints and returns one.
+use Rattle.std.specs.Prelude.{true, false, ℕ, ◌+◌, ◌/◌, ◌%◌, List, [], ◌∷◌, ◌++◌}
 use Rattle.std.specs.List.{flat_map}
 use Rattle.std.specs.Int.{w32, to_le_bytes}
-use Rattle.rv64_machine.specs.Memory.{Part}
-use Rattle.rv64_machine.specs.State.{State, initial}
+use Rattle.rv64_isa.specs.declared.instr.Instr.{Instr}
+use Rattle.rv64_isa.specs.declared.instr.Instr.TheVariants.{Lui, Addi, Addiw, Ecall}
+use Rattle.rv64_isa.specs.Listing.{word_of}
+use Rattle.rv64_isa.specs.State.{Part, State}
+use Rattle.rv64_machine.specs.Initial.{initial}
 
--- lui a0, high
-abbrev pub lui_word : ℕ → ℕ
-lui_word high = high * 0x1000 + 0x537
+-- the registers of a runtime call's int and of its number
+abbrev pub a0 : ℕ
+a0 = 10
 
--- addiw a0, a0, low
-abbrev pub addiw_word : ℕ → ℕ
-addiw_word low = low * 0x10_0000 + 0x5051b
-
--- addi a7, zero, number
-abbrev pub addi_word : ℕ → ℕ
-addi_word number = number * 0x10_0000 + 0x893
-
-abbrev pub ecall_word : ℕ
-ecall_word = 0x73
+abbrev pub a7 : ℕ
+a7 = 17
 
 -- a0 becomes the int; ADDIW adds its immediate with a sign, so the upper half is rounded
-abbrev pub load : ℕ → List ℕ
-load n = lui_word ((n + 0x800) / 0x1000) ∷ addiw_word (n % 0x1000) ∷ []
+abbrev pub load : ℕ → List Instr
+load n = Lui a0 ((n + 0x800) / 0x1000) ∷ Addiw a0 a0 (n % 0x1000) ∷ []
 
 -- the runtime call of that number
-abbrev pub call : ℕ → List ℕ
-call number = addi_word number ∷ ecall_word ∷ []
+abbrev pub call : ℕ → List Instr
+call number = Addi a7 0 number ∷ Ecall ∷ []
 
-unfoldable pub write_code : ℕ → List ℕ
+unfoldable pub write_code : ℕ → List Instr
 write_code line = load line ++ call 1
 
-unfoldable pub exit_code : ℕ → List ℕ
+unfoldable pub exit_code : ℕ → List Instr
 exit_code answer = load answer ++ call 0
 
-abbrev pub code_of : List ℕ → ℕ → List ℕ
+abbrev pub code_of : List ℕ → ℕ → List Instr
 code_of lines answer = flat_map write_code lines ++ exit_code answer
 
 -- words lie in memory with their lowest byte first
-abbrev pub bytes_of : List ℕ → List ℕ
-bytes_of words = flat_map (λ word. to_le_bytes w32 word) words
+abbrev pub bytes_of : List Instr → List ℕ
+bytes_of code = flat_map (λ i. to_le_bytes w32 (word_of i)) code
 
--- code lies at 0x10000, and can be executed and not written
+-- code lies at 0x10000, and may be executed and not written
 abbrev pub code_part : List ℕ → Part
 code_part bytes = record { address = 0x10000; bytes = bytes; write = false; exec = true }
 
--- a new machine over the words, with the pc at the first
-abbrev pub started : List ℕ → State
-started words = record (initial (code_part (bytes_of words) ∷ [])) { pc = 0x10000 }
+-- a new machine over the code, with the pc at its first instruction
+abbrev pub started : List Instr → State
+started code = record (initial (code_part (bytes_of code) ∷ [])) { pc = 0x10000 }

@@ -1,11 +1,10 @@
 -- A run of a machine, with the runtime calls exit and write_int.
 use Rattle.std.specs.Prelude.{◌≡◌, ◌++◌, map, Option, Some, None, ℕ, zero, suc, ◌%◌, ◌^◌, ◌==◌, nat_lt, ℤ, pos, ◌-ℤ◌, List, [], ◌∷◌, if◌then◌else◌}
-use Rattle.rv64_machine.specs.Registers.{reg_of}
-use Rattle.rv64_machine.specs.State.{State}
-use Rattle.rv64_machine.specs.Step.{step_of}
-use Rattle.rv64_machine.specs.declared.step.Step.{Step}
-use Rattle.rv64_machine.specs.declared.step.Step.TheVariants as steps
-use Rattle.rv64_machine.specs.declared.step.FaultKind.TheVariants.{Call}
+use Rattle.rv64_isa.specs.State.{State, reg_of}
+use Rattle.rv64_isa.specs.Step.{step_of}
+use Rattle.rv64_isa.specs.declared.step.Step.{Step}
+use Rattle.rv64_isa.specs.declared.step.Step.TheVariants as steps
+use Rattle.rv64_isa.specs.declared.step.FaultKind.TheVariants.{Call}
 use Rattle.eh_outer.specs.Sink.{SinkView}
 use Rattle.eh_driver.specs.Output.{TakesAll, FailsAmong, line_of}
 use Rattle.eh_driver.specs.declared.run.End.{End}

@@ -2,41 +2,55 @@
 ghost use Rattle.std.specs.Prelude.{◌≡◌, ◌<◌, ◌≤◌, ◌^◌, ◌∷◌, ◌++◌, [], OnOk, IfOk, length, map, vec_len};
 ghost use Rattle.std.specs.List.{AllByRecursion};
 ghost use Rattle.eh_bytes.specs.Extent.{AreBelow, extents_of};
-ghost use Rattle.rv64_machine.specs.Memory.{part_of};
+ghost use Rattle.rv64_machine.specs.Parts.{part_of};
 ghost use Rattle.eh_driver.specs.Source.{IsInt};
 ghost use Rattle.eh_driver.specs.Code.{bytes_of, call, code_of, code_part, exit_code, load, started, write_code};
 
 use crate::source::SmallMain;
 use eh_bytes::{Segment, Segments};
+use rv64_isa::{Immediate12, Immediate20, Instr, Register, encode};
 use rv64_machine::{Machine, NoMemory};
 use std::alloc::Global;
+
+// The registers of a runtime call: its int, and its number.
+const A0: u8 = 10;
+
+const A7: u8 = 17;
 
 // Where the code lies, and where a run begins.
 const CODE_AT: u64 = 0x1_0000;
 
-fn push_word(bytes: &mut Vec<u8>, word: u32) -> Result<(), NoMemory>
-    ensures { OnOk result (bytes.new.items ≡ bytes.old.items ++ bytes_of (word ∷ [])) }
+// An instruction, as its word with the lowest byte first.
+fn push(bytes: &mut Vec<u8>, instr: Instr) -> Result<(), NoMemory>
+    ensures { OnOk result (bytes.new.items ≡ bytes.old.items ++ bytes_of (instr ∷ [])) }
 {
-    bytes.extend_from_slice(&word.to_le_bytes())
+    bytes.extend_from_slice(&encode(instr).to_le_bytes())
 }
 
-// Makes a0 the int: `lui a0, high` and `addiw a0, a0, low`.
+// Makes a0 the int.
 fn push_load(bytes: &mut Vec<u8>, n: u32) -> Result<(), NoMemory>
     requires { IsInt n }
     ensures { OnOk result (bytes.new.items ≡ bytes.old.items ++ bytes_of (load n)) }
 {
-    push_word(bytes, (n + 0x800) / 0x1000 * 0x1000 + 0x537)?;
-    push_word(bytes, n % 0x1000 * 0x10_0000 + 0x5051b)?;
+    let a0 = Register::new(A0);
+    let upper = Immediate20::new((n + 0x800) / 0x1000);
+    let lower = Immediate12::new((n % 0x1000) as u16);
+    push(bytes, Instr::Lui(a0, upper))?;
+    push(bytes, Instr::Addiw(a0, a0, lower))?;
     Ok(())
 }
 
-// A runtime call by its number: `addi a7, zero, number` and `ecall`.
-fn push_call(bytes: &mut Vec<u8>, number: u32) -> Result<(), NoMemory>
+// A runtime call by its number.
+fn push_call(bytes: &mut Vec<u8>, number: u16) -> Result<(), NoMemory>
     requires { number < 2 }
     ensures { OnOk result (bytes.new.items ≡ bytes.old.items ++ bytes_of (call number)) }
 {
-    push_word(bytes, number * 0x10_0000 + 0x893)?;
-    push_word(bytes, 0x73)?;
+    let zero = Register::new(0);
+    push(
+        bytes,
+        Instr::Addi(Register::new(A7), zero, Immediate12::new(number)),
+    )?;
+    push(bytes, Instr::Ecall)?;
     Ok(())
 }
 
@@ -94,7 +108,7 @@ fn code_segment(alloc: Global, bytes: Vec<u8>) -> Result<Segments, NoMemory>
 }
 
 /// A machine that stands before the code of the main.
-#[tactic(auto, using(crate::proofs::Coding::length_code))]
+#[tactic(auto, using(crate::proofs::Coding::length_code_bytes))]
 pub fn machine_of(alloc: Global, main: &SmallMain) -> Result<Machine, NoMemory>
     requires lines { AllByRecursion IsInt main.now.lines.items }
     requires answer { IsInt main.now.answer }

@@ -1,7 +1,7 @@
 use Rattle.std.proofs.Common.{◌≡◌, ◌∙◌, ℤ, suc, [], ◌∷◌, sym, ap, rules, w32, to_z, of_z}
 use mir.Val.{SFits}
 use Rattle.std.proofs.lemmas.Int.{to_z-of_z}
-use Rattle.rv64_machine.specs.Registers.{reg_of}
+use Rattle.rv64_isa.specs.State.{reg_of}
 use Rattle.eh_driver.specs.Output.{line_of}
 use Rattle.eh_driver.specs.Run.{as_int, run_of}
 use Rattle.eh_driver.proofs.Main.{failed_put}
