@@ -1,0 +1,9 @@
+pub mod Bools
+pub mod Stacks
+pub mod Headers
+pub mod Counting
+pub mod Changes
+pub mod Recounting
+pub mod Entering
+pub mod Leaving
+pub mod Rethrowing

@@ -1,0 +1,10 @@
+pub mod Slots
+pub mod Live
+pub mod Caught
+pub mod Exceptions
+pub mod Counts
+pub mod Allocate
+pub mod Begin
+pub mod End
+pub mod Rethrow
+pub mod Kept

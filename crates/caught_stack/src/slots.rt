@@ -1,0 +1,82 @@
+// Stacks of slots.
+ghost use Rattle.std.specs.Prelude.{◌≡◌, ◌<◌, ◌≤◌, ℕ, List, [], ◌∷◌, Option, None, Some, length, IfOk};
+ghost use Rattle.caught_stack.specs.Live.{slots};
+ghost use Rattle.caught_stack.specs.Slots.{below, popped, top_of, with_top};
+
+use crate::NoMemory;
+use std::alloc::Global;
+use std::marker::Model;
+
+/// How many exceptions can be live.
+pub const SLOTS: usize = 1024;
+
+/// A stack of slots, the newest first, with room for all of them.
+#[derive(Debug, Drop)]
+pub struct SlotStack {
+    pushed: Vec<u32>,
+}
+
+impl Model for SlotStack {
+    ghost use Rattle.std.specs.Prelude.{◌≤◌, ℕ, List, reverse, vec_capacity};
+    ghost use Rattle.caught_stack.specs.Live.{slots};
+
+    ghost Value = { List ℕ };
+
+    ghost view = { λ a. reverse a.pushed.items };
+
+    ghost invariant = { λ a. slots ≤ vec_capacity a.pushed };
+}
+
+impl SlotStack {
+    /// Without a slot.
+    pub fn new(alloc: Global) -> Result<Self, NoMemory>
+        ensures { IfOk result (λ stack. stack ≡ []) }
+    {
+        Ok(SlotStack {
+            pushed: Vec::with_capacity(alloc, SLOTS)?,
+        })
+    }
+
+    /// With every slot.
+    pub fn full(alloc: Global) -> Result<Self, NoMemory>
+        ensures { IfOk result (λ stack. stack ≡ below slots) }
+    {
+        let mut stack = SlotStack::new(alloc)?;
+        for slot in 0..SLOTS as u32 {
+            stack.push(slot);
+        }
+        Ok(stack)
+    }
+
+    /// The slot on top.
+    pub fn top(&self) -> Option<u32>
+        ensures { result ≡ top_of self.now }
+    {
+        self.pushed.last().copied()
+    }
+
+    /// Puts a slot on top.
+    pub fn push(&mut self, slot: u32)
+        requires { length self.old < slots }
+        ensures { self.new ≡ slot ∷ self.old }
+    {
+        self.pushed.push_reserved(slot);
+    }
+
+    /// Puts a slot on top, unless it is there.
+    pub fn bring(&mut self, slot: u32)
+        requires { length (with_top slot self.old) ≤ slots }
+        ensures { self.new ≡ with_top slot self.old }
+    {
+        if self.top() != Some(slot) {
+            self.push(slot);
+        }
+    }
+
+    /// Takes the slot on top.
+    pub fn pop(&mut self) -> Option<u32>
+        ensures { (result, self.new) ≡ popped self.old }
+    {
+        self.pushed.pop()
+    }
+}

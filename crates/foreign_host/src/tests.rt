@@ -1,0 +1,65 @@
+// Modules that note what is done to them.
+ghost use Rattle.std.specs.Prelude.{[], option_to_list};
+
+use crate::{Host, NoModule};
+use eh_outer::{Module, Reply};
+use std::cell::Cell;
+use std::rc::Rc;
+use std::test::Fail;
+
+// A module of one reply. It notes a digit for each call, cleanup and drop: 1, 2 and 3.
+struct Noted {
+    reply: Option<Reply>,
+    notes: Rc<Cell<u32>>,
+}
+
+fn note(notes: &Cell<u32>, digit: u32) {
+    notes.set(notes.get().wrapping_mul(10).wrapping_add(digit));
+}
+
+impl Drop for Noted {
+    fn drop(self) {
+        let Noted { reply: _, notes } = self;
+        note(&notes, 3);
+    }
+}
+
+impl Module for Noted {
+    ghost view = { λ it. record { rest = option_to_list it.reply; cleaned = []; room = 0 } };
+
+    fn call(&mut self, _arg: i32) -> Reply {
+        note(&self.notes, 1);
+        self.reply.take().unwrap_or(Reply::Value(0))
+    }
+
+    fn cleanup(&mut self, _token: u32) {
+        note(&self.notes, 2);
+    }
+}
+
+#[test]
+fn one_module_alone(rt: HostRuntime) -> Result<(), Fail> {
+    let alloc = rt.alloc();
+    let a = Rc::new(alloc, Cell::new(0))?;
+    let b = Rc::new(alloc, Cell::new(0))?;
+    let mut modules: Vec<Box<dyn Module>> = Vec::new(alloc);
+    for (reply, notes) in [(Reply::Raise(7), &a), (Reply::Value(-5), &b)] {
+        let noted = Noted {
+            reply: Some(reply),
+            notes: notes.clone()?,
+        };
+        modules.push(Box::new(alloc, noted)?)?;
+    }
+    let mut host = Host::new(modules);
+    assert_eq!(rt; host.call(0, 1), Ok(Reply::Raise(7)));
+    assert_eq!(rt; host.call(2, 1), Err(NoModule));
+    assert_eq!(rt; host.clean(2, 7), Err(NoModule));
+    assert_eq!(rt; host.clean(0, 7), Ok(()));
+    assert_eq!(rt; host.call(0, 1), Ok(Reply::Value(0)));
+    assert_eq!(rt; (a.get(), b.get()), (121, 0));
+    assert_eq!(rt; host.call(1, 1), Ok(Reply::Value(-5)));
+    assert_eq!(rt; (a.get(), b.get()), (121, 1));
+    host.close();
+    assert_eq!(rt; (a.get(), b.get()), (1213, 13));
+    Ok(())
+}

@@ -1,0 +1,8 @@
+mod OnWay
+mod Indices
+mod Chains
+mod Records
+mod Steps
+mod Kept
+mod Fits
+mod Judged

@@ -1,0 +1,12 @@
+use Rattle.std.proofs.Common.{sym}
+use Rattle.eh_bytes.specs.Memory.{part_of}
+use Rattle.lsda_read.specs.Heads.{head_seen}
+use Rattle.lsda_read.proofs.Fits.{sites_fit}
+use Rattle.lsda_read.proofs.lsda.read_in.Goals as goal
+
+pub invariant_of-result : goal.invariant_of-result
+invariant_of-result c = (
+  c.in_ok-head.ensures.inside,
+  sites_fit c.args.memory.now.parts.items (part_of c.args.segment.now) c.args.region (head_seen c.in_ok-head.head) c.args.memory.now.in_range c.requires.region
+      (sym c.in-None.ensures),
+)

@@ -1,0 +1,20 @@
+use Rattle.std.proofs.Common.{◌≡◌, ◌+◌, ◌-◌, ◌≤◌, ◌<◌, ◌^◌, option_map, length, vec_len, ℕ}
+use Rattle.eh_bytes.specs.Memory.{part_of, memory_of}
+use Rattle.lsda_read.specs.Reads.{fault_of}
+use Rattle.lsda_read.specs.Heads.{head_seen}
+use Rattle.lsda_read.specs.SiteRests.{site_rest}
+use Rattle.table_forms.specs.Fault.{joined}
+use Rattle.lsda_read.proofs.OnWay.{OnWay}
+use Rattle.lsda_read.proofs.Judged.{at_action}
+use Rattle.lsda_read.proofs.table.records_refusal.Given as goal
+
+abbrev pub invariant-records : goal.invariant-records
+invariant-records l =
+    (l.place ≤ length l.bytes) × (l.before < 2 ^ 66) ×
+    OnWay (site_rest (memory_of l.memory) (part_of l.segment) l.region (head_seen l.head) l.bytes l.before) (vec_len l.segment.bytes)
+    (site_rest (memory_of l.memory) (part_of l.segment) l.region (head_seen l.head) l.bytes 0 (1 + vec_len l.segment.bytes) l.head.sites_at)
+    (option_map fault_of l.least) l.place ×
+    ((site : ℕ) → l.place ≤ site → joined (option_map fault_of l.least) (at_action (memory_of l.memory) (part_of l.segment) (head_seen l.head) site l.judged) ≡ option_map fault_of l.least)
+
+abbrev pub decreases-records : goal.decreases-records
+decreases-records l = length l.bytes - l.place

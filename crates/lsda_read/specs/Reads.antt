@@ -1,0 +1,23 @@
+-- What a reader returned, against what the definition reads.
+use Rattle.std.specs.Prelude.{◌≡◌, ◌-◌, ◌^◌, min, Result, Ok, Err, IsErrAnd}
+use Rattle.table_forms.specs.Fault.{Fault}
+use Rattle.table_forms.specs.Lsda.{Table}
+use Rattle.lsda_read.specs.declared.refusal.Refusal.{Refusal}
+use Rattle.lsda_read.specs.declared.error.TableError.{TableError}
+
+abbrev pub fault_of : Refusal → Fault
+fault_of e = record { number = e.number; place = e.place; location = 0; other = 0 }
+
+-- it gives what is read, seen by view, or its first refusal
+abbrev pub Reads : {X Y : Type 0} → (X → Y) → Result X Refusal → Result Y Fault → Type 0
+Reads view (Ok x) read = read ≡ Ok (view x)
+Reads view (Err e) read = read ≡ Err (fault_of e)
+
+-- a refusal as it is reported; a place that passes the numbers of 64 bits becomes the last of them
+abbrev pub reported : Fault → TableError
+reported f = record { number = f.number; place = min f.place (2 ^ 64 - 1); other = f.other }
+
+-- the lists are what is read, or the error is the refusal that answers
+abbrev pub ReadsTable : Result Table TableError → Result Table Fault → Type 0
+ReadsTable (Ok table) read = read ≡ Ok table
+ReadsTable (Err e) read = IsErrAnd read (λ f. e ≡ reported f)

@@ -1,0 +1,28 @@
+//! Reads the exception table of a function where it lies in memory, without memory of its own. A
+//! table is judged whole when it is opened; after that its sites, chains, type entries and lists
+//! are given without a further refusal.
+#![tactic(auto)]
+
+mod action;
+mod chain;
+mod entry;
+mod error;
+mod field;
+mod filter;
+mod head;
+mod head_fields;
+mod list;
+mod lsda;
+mod refusal;
+mod site;
+mod sites;
+mod table;
+
+pub use chain::Chain;
+pub use error::TableError;
+pub use list::SpecList;
+pub use lsda::Lsda;
+pub use sites::Sites;
+
+#[cfg(test)]
+mod tests;
