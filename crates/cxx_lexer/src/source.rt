@@ -15,17 +15,23 @@ use cxx_ast::text::Text;
 use cxx_ast::token::{Token, TokenKind};
 use std::alloc::Global;
 
-/// The most tokens that a source may have.
-pub const MAX_TOKENS: usize = 65_536;
+const MAX_TOKENS: usize = 65_536;
 
-/// Reads the tokens of a source of at most 1 MiB in one pass, or answers its first fault, with the place.
+/// Reads the tokens of a source of at most 1 MiB in one pass, as clause 2 of ISO/IEC 14882:2003 has them, or answers its first fault.
+///
+/// Places count bytes from the source's start. Of the faults the one at the least place is answered. Only names are copied.
 pub fn lex(alloc: Global, source: &[u8]) -> Result<Vec<Token>, LexError>
     requires { length source.now ≤ most_bytes }
-    ensures tokens { (tokens : List Token) → UnlessNoMemory result (IsTokens result tokens ↔ Lex source.now tokens) }
-    ensures bad_byte { (place : ℕ) → UnlessNoMemory result ((result ≡ Err (LexError.BadByte place)) ↔ FirstFault source.now bad_byte place) }
-    ensures literal_range { (place : ℕ) → UnlessNoMemory result ((result ≡ Err (LexError.LiteralRange place)) ↔ FirstFault source.now literal_range place) }
-    ensures open_comment { (place : ℕ) → UnlessNoMemory result ((result ≡ Err (LexError.OpenComment place)) ↔ FirstFault source.now open_comment place) }
-    ensures too_many_tokens { (place : ℕ) → UnlessNoMemory result ((result ≡ Err (LexError.TooManyTokens place)) ↔ FirstFault source.now too_many_tokens place) }
+    ensures tokens { (tokens : List Token) → UnlessNoMemory result
+        (IsTokens result tokens ↔ Lex source.now tokens) }
+    ensures bad_byte { (place : ℕ) → UnlessNoMemory result
+        ((result ≡ Err (LexError.BadByte place)) ↔ FirstFault source.now bad_byte place) }
+    ensures literal_range { (place : ℕ) → UnlessNoMemory result
+        ((result ≡ Err (LexError.LiteralRange place)) ↔ FirstFault source.now literal_range place) }
+    ensures open_comment { (place : ℕ) → UnlessNoMemory result
+        ((result ≡ Err (LexError.OpenComment place)) ↔ FirstFault source.now open_comment place) }
+    ensures too_many_tokens { (place : ℕ) → UnlessNoMemory result
+        ((result ≡ Err (LexError.TooManyTokens place)) ↔ FirstFault source.now too_many_tokens place) }
 {
     read_all(alloc, source)
 }
