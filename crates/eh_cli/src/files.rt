@@ -31,7 +31,7 @@ impl<R: Files + Drop> Store for FileStore<R> {
         let asked = String::from_str(alloc, name)?;
         let got = match fs::open(&self.rt, name) {
             Err(_) => Got::Failed,
-            Ok(mut file) => read_whole(alloc, &mut file, limit),
+            Ok(file) => read_whole(alloc, file, limit),
         };
         match got {
             Got::Whole(bytes) => Ok(bytes),

@@ -1,8 +1,10 @@
-// Loops that read or write all of something, up to the first error.
+// All of a reader up to a limit, and all of a piece to a writer.
 ghost use Rattle.eh_cli.specs.Got.{IsGot};
+ghost use Rattle.std.specs.Prelude.{IsTrue};
+ghost use Rattle.std.specs.Io.KnownBytes.{Appends};
 
 use std::alloc::Global;
-use std::io::{Read, Write};
+use std::io::{ErrorKind, Read, Write};
 
 /// What came of reading a file.
 #[derive(Debug, Drop)]
@@ -15,37 +17,23 @@ pub enum Got {
 }
 
 /// Reads to the end, or until more than `limit` bytes were seen.
-pub fn read_whole<R: Read>(alloc: Global, reader: &mut R, limit: u64) -> Got
-    ensures { IsGot limit result }
+pub fn read_whole<R: Read + Drop>(alloc: Global, reader: R, limit: u64) -> Got
+    ensures { IsGot limit (R.remaining reader) result }
 {
     let mut bytes = Vec::new(alloc);
-    let mut buffer = [0; 4096];
-    for _ in 0..u64::MAX {
-        match reader.read(&mut buffer) {
-            Err(_) => return Got::Failed,
-            Ok(0) => return Got::Whole(bytes),
-            Ok(count) => {
-                let seen = bytes.len() as u64 + count as u64;
-                if seen > limit {
-                    return Got::Long(seen);
-                }
-                if bytes.extend_from_slice(&buffer[..count]).is_err() {
-                    return Got::NoMemory;
-                }
-            }
-        }
+    let read = reader.take(limit.saturating_add(1)).read_to_end(&mut bytes);
+    let seen = bytes.len() as u64;
+    match read {
+        Err(e) if e.kind() == ErrorKind::OutOfMemory => Got::NoMemory,
+        Err(_) => Got::Failed,
+        Ok(_) if seen > limit => Got::Long(seen),
+        Ok(_) => Got::Whole(bytes),
     }
-    Got::Failed
 }
 
 /// Writes all of the piece; false at an error, and where a write takes no byte.
-pub fn write_whole<W: Write>(writer: &mut W, piece: &[u8]) -> bool {
-    let mut rest = piece;
-    while !rest.is_empty() {
-        match writer.write(rest) {
-            Ok(0) | Err(_) => return false,
-            Ok(count) => rest = &rest[count..],
-        }
-    }
-    true
+pub fn write_whole<W: Write>(writer: &mut W, piece: &[u8]) -> bool
+    ensures { IsTrue result → Appends (W.contents writer.old) (W.contents writer.new) piece.now }
+{
+    writer.write_all(piece).is_ok()
 }

@@ -27,3 +27,16 @@ pub trait Module: Drop {
     fn cleanup(&mut self, token: u32)
         ensures { view self.new ≡ cleaned (view self.old) token };
 }
+
+// A call goes to the module in the box.
+impl Module for Box<dyn Module> {
+    ghost view = { λ b. (Module-box b).view b.value };
+
+    fn call(&mut self, arg: i32) -> Reply {
+        (**self).call(arg)
+    }
+
+    fn cleanup(&mut self, token: u32) {
+        (**self).cleanup(token);
+    }
+}

@@ -1,7 +1,7 @@
 -- One of a list changes, and with it what it tells of itself.
 use Rattle.std.proofs.Common.{◌≡◌, ◌∙◌, ℕ, zero, suc, ◌<◌, ◌≤◌, List, [], ◌∷◌, length, map, set, get_or, None, refl, ap, arith}
 use Rattle.eh_outer.specs.Module.{ModuleView}
-use Rattle.foreign_host.specs.Host.{changed_at, reply_at}
+use Rattle.foreign_host.specs.Host.{changed_at}
 
 pub map_changed : {A : Type 0} (seen : A → ModuleView) (xs : List A) (k : ℕ) (x y : A) (f : ModuleView → ModuleView) → k < length xs → x ≡ get_or xs k x → seen y ≡ f (seen x)
     → map seen (set xs k y) ≡ changed_at k f (map seen xs)
@@ -13,8 +13,3 @@ pub map_unchanged : {A : Type 0} (seen : A → ModuleView) (xs : List A) (k : �
 map_unchanged seen [] k f past = refl
 map_unchanged seen (x ∷ xs) zero f past = absurd (omega arith)
 map_unchanged seen (x ∷ xs) (suc k) f past = ap (λ more. seen x ∷ more) (map_unchanged seen xs k f (omega arith))
-
-pub no_reply : {A : Type 0} (seen : A → ModuleView) (xs : List A) (k : ℕ) → length xs ≤ k → None ≡ reply_at k (map seen xs)
-no_reply seen [] k past = refl
-no_reply seen (x ∷ xs) zero past = absurd (omega arith)
-no_reply seen (x ∷ xs) (suc k) past = no_reply seen xs k (omega arith)

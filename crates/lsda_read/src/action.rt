@@ -1,9 +1,9 @@
 // Action records.
-ghost use Rattle.std.specs.Prelude.{◌≡◌, ◌+◌, ◌-◌, ◌*◌, ◌<◌, ◌≤◌, ◌^◌, ℕ, length, take, vec_len};
+ghost use Rattle.std.specs.Prelude.{◌≡◌, ◌+◌, ◌<◌, ◌^◌};
 ghost use Rattle.eh_bytes.specs.Memory.{part_of};
-ghost use Rattle.table_forms.specs.LsdaChain.{action_in, action_at, action_end, fails_at, next_of};
-ghost use Rattle.lsda_read.specs.Heads.{head_seen, types_of};
-ghost use Rattle.lsda_read.specs.Filters.{filter_of, IsInRange, IsNear, IsNearAction};
+ghost use Rattle.table_forms.specs.LsdaChain.{action_in, action_at, fails_at, next_of};
+ghost use Rattle.lsda_read.specs.Heads.{head_seen};
+ghost use Rattle.lsda_read.specs.Filters.{filter_of, IsNear, IsNearAction};
 
 use crate::filter::{Named, named_by};
 use crate::head::Head;

@@ -1,13 +1,12 @@
 // Chains of action records.
-ghost use Rattle.std.specs.Prelude.{◌≡◌, ◌+◌, ◌-◌, ◌*◌, ◌<◌, ◌≤◌, ◌^◌, ℕ, suc, Some, length, option_map, vec_len};
+ghost use Rattle.std.specs.Prelude.{◌≡◌, ◌+◌, ◌<◌, ℕ, suc, Some, option_map, vec_len};
 ghost use Rattle.eh_bytes.specs.Memory.{part_of, memory_of};
 ghost use Rattle.table_forms.specs.LsdaChain.{first_record};
-ghost use Rattle.table_forms.specs.LsdaTypes.{filter_faults};
 ghost use Rattle.table_forms.specs.Fault.{least};
 ghost use Rattle.table_forms.specs.Lsda.{filters_of};
 ghost use Rattle.lsda_read.specs.Rests.{chain_rest};
 ghost use Rattle.lsda_read.specs.Reads.{fault_of};
-ghost use Rattle.lsda_read.specs.Heads.{head_seen, types_of};
+ghost use Rattle.lsda_read.specs.Heads.{head_seen};
 ghost use Rattle.lsda_read.specs.Left.{filters_left, next_place, and_filters};
 
 use crate::action::action_here;

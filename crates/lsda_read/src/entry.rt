@@ -1,7 +1,7 @@
 // Type entries.
-ghost use Rattle.std.specs.Prelude.{◌≡◌, ◌+◌, ◌-◌, ◌*◌, ◌<◌, ◌≤◌, ◌^◌, length, IfOk, option_map, vec_len};
+ghost use Rattle.std.specs.Prelude.{◌≡◌, ◌+◌, ◌*◌, ◌<◌, ◌^◌, option_map};
 ghost use Rattle.eh_bytes.specs.Memory.{part_of, memory_of};
-ghost use Rattle.table_forms.specs.LsdaTypes.{entry_at, followed, filter_faults};
+ghost use Rattle.table_forms.specs.LsdaTypes.{entry_at, followed};
 ghost use Rattle.table_forms.specs.Lsda.{entry_value};
 ghost use Rattle.table_forms.specs.Fault.{least, refusal_of};
 ghost use Rattle.lsda_read.specs.Reads.{Reads, fault_of};

@@ -1,7 +1,7 @@
 // Fields of a table, where a refusal stands at the field.
-ghost use Rattle.std.specs.Prelude.{◌≡◌, ◌+◌, ◌<◌, ◌≤◌, ◌^◌, length, IfOk};
+ghost use Rattle.std.specs.Prelude.{◌≡◌, ◌+◌, ◌<◌, ◌≤◌, length, IfOk};
 ghost use Rattle.eh_bytes.specs.Field.{at, byte};
-ghost use Rattle.eh_bytes.specs.Leb128.{uleb, sleb};
+ghost use Rattle.eh_bytes.specs.Leb128.{uleb};
 ghost use Rattle.eh_bytes.specs.Encoded.{encoded};
 ghost use Rattle.table_forms.specs.Fault.{numbered, table_number};
 ghost use Rattle.lsda_read.specs.Reads.{Reads};

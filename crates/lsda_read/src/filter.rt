@@ -1,9 +1,9 @@
 // What a filter names.
-ghost use Rattle.std.specs.Prelude.{◌≡◌, ◌+◌, ◌-◌, ◌*◌, ◌<◌, ◌≤◌, ◌^◌, length, IfOk, option_map, vec_len};
+ghost use Rattle.std.specs.Prelude.{◌≡◌, ◌+◌, ◌<◌, ◌^◌, option_map};
 ghost use Rattle.eh_bytes.specs.Memory.{part_of, memory_of};
 ghost use Rattle.table_forms.specs.LsdaTypes.{filter_faults, list_at, list_faults};
 ghost use Rattle.table_forms.specs.Fault.{least};
-ghost use Rattle.lsda_read.specs.Reads.{Reads, fault_of};
+ghost use Rattle.lsda_read.specs.Reads.{fault_of};
 ghost use Rattle.lsda_read.specs.Heads.{head_seen, types_of};
 ghost use Rattle.lsda_read.specs.Filters.{filter_of, IsInRange};
 

@@ -1,7 +1,7 @@
 // The head of a table.
-ghost use Rattle.std.specs.Prelude.{◌≡◌, ◌+◌, ◌<◌, ◌≤◌, ◌^◌, ◌&&◌, nat_lt, length, IfOk, is_some, option_map, vec_len, IfSome, Some};
+ghost use Rattle.std.specs.Prelude.{◌≡◌, ◌+◌, ◌<◌, ◌≤◌, ◌&&◌, IfOk, is_some, vec_len, IfSome, Some};
 ghost use Rattle.eh_bytes.specs.Memory.{part_of};
-ghost use Rattle.eh_bytes.specs.Encoded.{encoding_format, format_size, is_direct};
+ghost use Rattle.eh_bytes.specs.Encoded.{encoding_format, format_size};
 ghost use Rattle.table_forms.specs.LsdaHead.{head_at, pads_start, type_table};
 ghost use Rattle.lsda_read.specs.Reads.{Reads};
 ghost use Rattle.lsda_read.specs.Heads.{head_seen, types_seen};

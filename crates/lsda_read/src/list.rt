@@ -1,7 +1,7 @@
 // Lists of a specification.
-ghost use Rattle.std.specs.Prelude.{◌≡◌, ◌+◌, ◌-◌, ◌*◌, ◌<◌, ◌≤◌, ◌^◌, ℕ, suc, [], Some, length, IfOk, IfSome, option_map, vec_len};
+ghost use Rattle.std.specs.Prelude.{◌≡◌, ◌+◌, ◌<◌, ◌≤◌, ◌^◌, ℕ, suc, [], Some, IfOk, IfSome, option_map, vec_len};
 ghost use Rattle.eh_bytes.specs.Memory.{part_of, memory_of};
-ghost use Rattle.table_forms.specs.LsdaTypes.{index_at, indices_within, list_at, list_faults};
+ghost use Rattle.table_forms.specs.LsdaTypes.{index_at, indices_within, list_faults};
 ghost use Rattle.table_forms.specs.Lsda.{list_value};
 ghost use Rattle.table_forms.specs.Fault.{least};
 ghost use Rattle.lsda_read.specs.Reads.{Reads, fault_of};

@@ -1,5 +1,5 @@
 // A table that was read.
-ghost use Rattle.std.specs.Prelude.{◌≡◌, ◌+◌, ◌-◌, ◌≤◌, ◌<◌, ◌^◌, [], Contains, length, vec_len};
+ghost use Rattle.std.specs.Prelude.{◌≡◌, ◌+◌, ◌≤◌, ◌<◌, ◌^◌, [], Contains, length, vec_len};
 ghost use Rattle.eh_bytes.specs.Memory.{memory_of, part_of};
 ghost use Rattle.table_forms.specs.Keys.{value_at};
 ghost use Rattle.table_forms.specs.Lsda.{lsda, lsda_in, table_of};

@@ -1,5 +1,5 @@
 // Refusals while a table is read.
-ghost use Rattle.std.specs.Prelude.{◌≡◌, ◌+◌, ◌<◌, ◌^◌, option_map};
+ghost use Rattle.std.specs.Prelude.{◌≡◌, option_map};
 ghost use Rattle.table_forms.specs.Fault.{fault, table_number, least, unless, joined};
 ghost use Rattle.lsda_read.specs.Reads.{fault_of, reported};
 

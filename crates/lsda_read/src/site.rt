@@ -1,8 +1,7 @@
 // Records of the call-site table.
-ghost use Rattle.std.specs.Prelude.{◌≡◌, ◌+◌, ◌-◌, ◌<◌, ◌≤◌, ◌^◌, length, IfOk, option_map};
-ghost use Rattle.table_forms.specs.Fault.{least, unless, joined};
+ghost use Rattle.std.specs.Prelude.{◌≡◌, ◌<◌, ◌≤◌, length, IfOk};
 ghost use Rattle.table_forms.specs.LsdaSites.{record_at, number_at};
-ghost use Rattle.lsda_read.specs.Reads.{Reads, fault_of};
+ghost use Rattle.lsda_read.specs.Reads.{Reads};
 ghost use Rattle.lsda_read.specs.Heads.{head_seen};
 ghost use Rattle.lsda_read.specs.Sites.{record_seen};
 

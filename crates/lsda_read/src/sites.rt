@@ -1,5 +1,5 @@
 // The sites of a table, one after the other.
-ghost use Rattle.std.specs.Prelude.{◌≡◌, ◌+◌, ◌≤◌, ◌<◌, ◌^◌, ℕ, suc, true, Some, List, map, length, take, IfSome, vec_len};
+ghost use Rattle.std.specs.Prelude.{◌≡◌, ◌+◌, ◌≤◌, ℕ, suc, true, Some, List, map, length, take, IfSome, vec_len};
 ghost use Rattle.std.specs.List.{list_all};
 ghost use Rattle.eh_bytes.specs.Memory.{part_of};
 ghost use Rattle.table_forms.specs.LsdaSites.{site_of, site_records};

@@ -1,11 +1,11 @@
 // What is refused behind the head.
-ghost use Rattle.std.specs.Prelude.{◌≡◌, ◌+◌, ◌-◌, ◌*◌, ◌<◌, ◌≤◌, ◌^◌, ◌==◌, ◌||◌, if◌then◌else◌, length, take, IfOk, option_map, vec_len, None};
+ghost use Rattle.std.specs.Prelude.{◌≡◌, ◌+◌, ◌≤◌, ◌==◌, ◌||◌, if◌then◌else◌, length, option_map, vec_len, None};
 ghost use Rattle.eh_bytes.specs.Memory.{part_of, memory_of, is_code};
 ghost use Rattle.table_forms.specs.LsdaSites.{site_of, site_faults};
 ghost use Rattle.table_forms.specs.Lsda.{action_faults, table_faults};
 ghost use Rattle.table_forms.specs.Fault.{least};
-ghost use Rattle.lsda_read.specs.Reads.{Reads, fault_of};
-ghost use Rattle.lsda_read.specs.Heads.{head_seen, types_of};
+ghost use Rattle.lsda_read.specs.Reads.{fault_of};
+ghost use Rattle.lsda_read.specs.Heads.{head_seen};
 ghost use Rattle.lsda_read.specs.Sites.{record_of};
 ghost use Rattle.lsda_read.specs.SiteRests.{site_rest};
 

@@ -1,4 +1,4 @@
-use Rattle.std.proofs.Common.{ℕ, ◌==◌, Bool, if◌then◌else◌, rules, ◌≡◌, ◌+◌, ◌≤◌, true, false, nat_lt, option_map, vec_len, ap, sym, subst, ◌∙◌, Option, Some, None, arith}
+use Rattle.std.proofs.Common.{ℕ, ◌==◌, rules, ◌≡◌, ◌+◌, ◌≤◌, true, false, nat_lt, option_map, vec_len, ap, sym, subst, ◌∙◌, Option, Some, None, arith}
 use Rattle.std.proofs.lemmas.Bool.Decides.{nat_tests}
 use Rattle.eh_bytes.specs.Memory.{part_of, memory_of}
 use Rattle.table_forms.specs.Fault.{Fault, least, joined}
