@@ -1,5 +1,8 @@
 // A sink over a writer, of which nothing is told.
-ghost use Rattle.std.specs.Prelude.{None};
+ghost use Rattle.std.specs.Prelude.{OnOk};
+ghost use Rattle.std.specs.Io.KnownBytes.{Appends};
+ghost use Rattle.eh_outer.specs.Sink.{Puts};
+ghost use Rattle.eh_cli.specs.Seen.{seen};
 
 use crate::whole::write_whole;
 use eh_outer::{Sink, SinkError};
@@ -24,9 +27,12 @@ impl<W: Write + Drop> StreamSink<W> {
 }
 
 impl<W: Write + Drop> Sink for StreamSink<W> {
-    ghost view = { λ s. record { taken = None; faults = s.faults; wanted = s.wanted } };
+    ghost view = { λ s. seen s.faults s.wanted };
 
-    fn put(&mut self, piece: &[u8]) -> Result<(), SinkError> {
+    fn put(&mut self, piece: &[u8]) -> Result<(), SinkError>
+        ensures told { Puts piece.now (seen self.old.faults self.old.wanted) (seen self.new.faults self.new.wanted) result }
+        ensures whole { OnOk result (Appends (W.contents self.old.writer) (W.contents self.new.writer) piece.now) }
+    {
         if write_whole(&mut self.writer, piece) {
             return Ok(());
         }
