@@ -6,10 +6,10 @@ reads once, and taken off; the least time of some runs counts. What is built lie
 """
 import pathlib
 import shutil
-import subprocess
 import sys
 import tempfile
-import time
+
+from building import built_c, rounds_per_second, run
 
 TOP = pathlib.Path(__file__).resolve().parent.parent
 NUMBERS, MANY, RUNS = 1 << 20, 201, 7
@@ -158,49 +158,29 @@ int main(int argc, char **argv) {
 """
 
 
-def run(command, **how):
-    done = subprocess.run(command, capture_output=True, text=True, **how)
-    if done.returncode:
-        sys.exit(f"{command[0]} failed:\n{done.stdout[-3000:]}{done.stderr[-3000:]}")
-    return done.stdout
-
-
-def build_rattle(work):
+def build_rattle(work, peer):
     crate = work / "crates/leb_reader"
     (crate / "src").mkdir(parents=True)
     (crate / "src/main.rt").write_text(PROGRAM.replace("@NUMBERS@", str(NUMBERS)))
     shutil.copytree(TOP / "crates/eh_bytes", work / "crates/eh_bytes")
     shutil.copy(TOP / "HANDLES", work)
     (work / "crates.txt").write_text("eh_bytes: thiserror\nleb_reader: anyhow eh_bytes\n")
-    (crate / "stdout").write_text(run([build_c(work), "unsigned", "any", "1"]))
+    (crate / "stdout").write_text(run([peer, "unsigned", "any", "1"]))
     run(["rt", "run"], cwd=crate)
     return crate / "out/leb_reader"
 
 
-def build_c(work):
-    source = work / "reader.c"
-    source.write_text(PEER.replace("@NUMBERS@", str(NUMBERS)))
-    run(["gcc", "-O2", "-o", work / "reader", source])
-    return work / "reader"
-
-
 def measured(program, kind, size):
     """Million numbers a second, and what was printed."""
-    least, out = {}, ""
-    for rounds in [1, MANY]:
-        times = []
-        for _ in range(RUNS):
-            start = time.perf_counter()
-            out = run([program, kind, size, str(rounds)])
-            times.append(time.perf_counter() - start)
-        least[rounds] = min(times)
-    return NUMBERS * (MANY - 1) / (least[MANY] - least[1]) / 1e6, out
+    rounds, out = rounds_per_second(program, [kind, size], MANY, RUNS)
+    return NUMBERS * rounds / 1e6, out
 
 
 def main():
     with tempfile.TemporaryDirectory() as folder:
         work = pathlib.Path(folder)
-        programs = [build_rattle(work), build_c(work)]
+        peer = built_c(work, "reader", PEER.replace("@NUMBERS@", str(NUMBERS)))
+        programs = [build_rattle(work, peer), peer]
         print(f"{'numbers':<26}{'cursor':>10}{'C -O2':>10}{'ratio':>8}    (million a second)")
         for kind in KINDS:
             for size, name in SIZES:

@@ -7,10 +7,10 @@ What is built lies in a folder of its own.
 """
 import pathlib
 import shutil
-import subprocess
 import sys
 import tempfile
-import time
+
+from building import built_c, rounds_per_second, run
 
 TOP = pathlib.Path(__file__).resolve().parent.parent
 SITES, READ, RUNS = [10, 100, 1000], 50_000_000, 5
@@ -121,20 +121,6 @@ int main(int argc, char **argv) {
 """
 
 
-def run(command, **how):
-    done = subprocess.run(command, capture_output=True, text=True, **how)
-    if done.returncode:
-        sys.exit(f"{command[0]} failed:\n{done.stdout[-3000:]}{done.stderr[-3000:]}")
-    return done.stdout
-
-
-def build_c(work):
-    source = work / "lookup.c"
-    source.write_text(PEER)
-    run(["gcc", "-O2", "-o", work / "lookup", source])
-    return work / "lookup"
-
-
 def build_rattle(work, peer):
     crate = work / "crates/site_lookup"
     (crate / "src").mkdir(parents=True)
@@ -152,22 +138,13 @@ def build_rattle(work, peer):
 
 def measured(program, sites):
     """Look-ups a second, and what was printed."""
-    many = READ // sites
-    least, out = {}, ""
-    for rounds in [1, many]:
-        times = []
-        for _ in range(RUNS):
-            start = time.perf_counter()
-            out = run([program, str(sites), str(rounds)])
-            times.append(time.perf_counter() - start)
-        least[rounds] = min(times)
-    return (many - 1) / (least[many] - least[1]), out
+    return rounds_per_second(program, [str(sites)], READ // sites, RUNS)
 
 
 def main():
     with tempfile.TemporaryDirectory() as folder:
         work = pathlib.Path(folder)
-        peer = build_c(work)
+        peer = built_c(work, "lookup", PEER)
         reader = build_rattle(work, peer)
         print(f"{'sites':>6}{'lsda_read':>14}{'C -O2':>14}   ratio    (thousand look-ups a second)")
         for sites in SITES:
