@@ -5,61 +5,13 @@ use Rattle.std.proofs.lemmas.Bool.{cond_both}
 use Rattle.std.proofs.lemmas.Bool.Decides.{nat_tests}
 use Rattle.eh_bytes.specs.declared.frames.Region64.{Region64}
 use Rattle.eh_bytes.specs.Memory.{Part, Memory}
-use Rattle.table_forms.specs.Keys.{add_key, keys, value_at}
+use Rattle.table_forms.specs.Keys.{keys, value_at}
 use Rattle.table_forms.specs.LsdaHead.{Head}
 use Rattle.table_forms.specs.LsdaSites.{site_of, site_records}
 use Rattle.table_forms.specs.Lsda as forms
 use Rattle.table_forms.specs.Lsda.{Table, table_of, filters_of, entry_value, list_value}
+use Rattle.table_forms.proofs.Kept.{IsIn, is_in, value_kept}
 use Rattle.lsda_read.specs.Names.{actions_named, types_named, lists_named}
-
--- membership by recursion
-abbrev IsIn : ℕ → List ℕ → Type 0
-IsIn k [] = ⊥
-IsIn k (n ∷ ns) = (n ≡ k) ⊎ IsIn k ns
-
-is_in : (k : ℕ) (ns : List ℕ) (i d : ℕ) → i < length ns → slice_index_or ns i d ≡ k → IsIn k ns
-is_in k [] i d inside at = absurd (omega (arith, inside))
-is_in k (n ∷ ns) zero d inside at = inl at
-is_in k (n ∷ ns) (suc i) d inside at = inr (is_in k ns i d (omega (arith, inside)) at)
-
-same : (a b : ℕ) → (a == b) ≡ true → a ≡ b
-same a b e = grind (arith, nat_tests, e)
-
-differs : (a b : ℕ) → (a == b) ≡ false → a ≡ b → ⊥
-differs a b e f = grind (arith, nat_tests, e, f)
-
-in_add : (k j : ℕ) (ns : List ℕ) → (j ≡ k) ⊎ IsIn k ns → IsIn k (add_key j ns)
-in_add k j [] is = is
-in_add k j (n ∷ ns) is =
-    cond_both (nat_lt j n) (j ∷ n ∷ ns) (if j == n then n ∷ ns else n ∷ add_key j ns) (IsIn k) (λ _. is)
-    (λ _. cond_both (j == n) (n ∷ ns) (n ∷ add_key j ns) (IsIn k) (λ e. equal (same j n e) is) (λ _. behind (in_add k j ns) is))
-  where
-    equal : j ≡ n → (j ≡ k) ⊎ IsIn k (n ∷ ns) → IsIn k (n ∷ ns)
-    equal e (inl f) = inl (sym e ∙ f)
-    equal e (inr f) = f
-
-    behind : ((j ≡ k) ⊎ IsIn k ns → IsIn k (add_key j ns)) → (j ≡ k) ⊎ IsIn k (n ∷ ns) → IsIn k (n ∷ add_key j ns)
-    behind more (inl f) = inr (more (inl f))
-    behind more (inr (inl f)) = inl f
-    behind more (inr (inr f)) = inr (more (inr f))
-
-in_keys : (k : ℕ) (ns : List ℕ) → IsIn k ns → IsIn k (keys ns)
-in_keys k [] is = is
-in_keys k (n ∷ ns) (inl e) = in_add k n (keys ns) (inl e)
-in_keys k (n ∷ ns) (inr is) = in_add k n (keys ns) (inr (in_keys k ns is))
-
-value_in : {A : Type 0} (d : A) (f : ℕ → A) (k : ℕ) (ns : List ℕ) → IsIn k ns → value_at d (map (λ n. (n, f n)) ns) k ≡ f k
-value_in d f k [] is = absurd is
-value_in {A} d f k (n ∷ ns) is =
-    cond_both (n == k) (f n) (value_at d (map (λ n. (n, f n)) ns) k) (λ x. x ≡ f k) (λ e. ap f (same n k e)) (λ e. value_in d f k ns (later e is))
-  where
-    later : (n == k) ≡ false → (n ≡ k) ⊎ IsIn k ns → IsIn k ns
-    later e (inl g) = absurd (differs n k e g)
-    later e (inr g) = g
-
--- under the keys of a list each of its numbers keeps its value
-pub value_kept : {A : Type 0} (d : A) (f : ℕ → A) (ns : List ℕ) (k : ℕ) → Contains ns k → value_at d (map (λ n. (n, f n)) (keys ns)) k ≡ f k
-value_kept d f ns k (i, inside, at) = value_in d f k (keys ns) (in_keys k ns (is_in k ns i k inside at))
 
 pub sites_kept : (memory : Memory) (part : Part) (region : Region64) (h : Head) (t : Table) → table_of memory part region h ≡ t →
     map (site_of h region) (site_records part h).records ≡ t.sites

@@ -4,3 +4,4 @@ pub mod Least
 pub mod Beyond
 pub mod RowFold
 mod Worked
+pub mod Kept

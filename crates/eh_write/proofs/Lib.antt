@@ -1,0 +1,16 @@
+mod Offsets
+mod Reading
+mod SitesRead
+mod ChainsRead
+mod ListsRead
+mod Alls
+mod Shape
+mod Aligned
+mod HeadRead
+mod Lengths
+mod EntriesRead
+mod ListsFound
+mod ChainsFound
+mod Clean
+mod TableRead
+mod Writes

@@ -1,0 +1,36 @@
+// Type entries.
+ghost use Rattle.std.specs.Prelude.{◌≡◌, ◌++◌, ◌<◌, ◌^◌, reverse, OnOk};
+ghost use Rattle.std.specs.List.{AllByRecursion};
+ghost use Rattle.eh_write.specs.Fits.{IsWord};
+ghost use Rattle.eh_write.specs.Written.{entry_bytes, entries_from};
+
+use crate::NoMemory;
+
+// The four bytes that lead from a place to a type; 0 is `catch (...)`.
+fn entry_bytes(place: u128, value: u64) -> [u8; 4]
+    ensures bytes { result ≡ entry_bytes place value }
+    ensures words { IsWord value }
+{
+    let raw = if value == 0 {
+        0
+    } else {
+        (value as u128 % 0x1_0000_0000 + 0x1_0000_0000 - place % 0x1_0000_0000) % 0x1_0000_0000
+    };
+    (raw as u32).to_le_bytes()
+}
+
+/// Appends the entries of the types, the last one first, from an address on.
+pub fn put_entries(out: &mut Vec<u8>, types: &[u64], address: u128) -> Result<(), NoMemory>
+    requires { address < 2 ^ 65 }
+    ensures bytes { OnOk result (out.new.items ≡ out.old.items ++ entries_from address (reverse types.now)) }
+    ensures words { OnOk result (AllByRecursion IsWord (reverse types.now)) }
+{
+    let mut place = address;
+    let mut rest = types;
+    'entries: while let Some((value, others)) = rest.split_last() {
+        out.extend_from_slice(entry_bytes(place, *value).as_slice())?;
+        place += 4;
+        rest = others;
+    }
+    Ok(())
+}

@@ -1,0 +1,16 @@
+//! Writes exception tables in one form: without LPStart, with type entries that are relative to
+//! themselves in four bytes at a multiple of 4, and call sites in ULEB128.
+#![tactic(auto)]
+
+mod actions;
+mod entries;
+mod layout;
+mod lists;
+mod lsda;
+mod sites;
+
+pub use lsda::write_lsda;
+pub use std::alloc::AllocError as NoMemory;
+
+#[cfg(test)]
+mod tests;
