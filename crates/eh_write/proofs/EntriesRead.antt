@@ -1,22 +1,22 @@
 -- The entry of a type is read as the type.
-use Rattle.std.proofs.Common.{◌≡◌, ◌≢◌, ◌+◌, ◌-◌, ◌*◌, ◌%◌, ◌<◌, ◌≤◌, ◌^◌, ◌==◌, ℕ, zero, suc, Bool, true, false, nat_lt, nat_le, List, [], ◌∷◌, ◌++◌, length, drop, Ok, refl, ap, sym, subst, ◌∙◌, arith, append_assoc, ◌⊎◌, inl, inr, if◌then◌else◌, length-append}
+use Rattle.std.proofs.Common.{◌≡◌, ◌≢◌, ◌+◌, ◌-◌, ◌*◌, ◌<◌, ◌≤◌, ◌^◌, ◌==◌, ℕ, zero, suc, Bool, true, false, nat_le, List, [], ◌∷◌, ◌++◌, length, drop, Ok, refl, ap, sym, subst, ◌∙◌, arith, append_assoc, ◌⊎◌, inl, inr, if◌then◌else◌}
 use Rattle.std.specs.Prelude.{Some, slice_get, reverse, get_or}
 use Rattle.std.specs.Int.{w32, to_le_bytes}
-use Rattle.std.proofs.lemmas.Bool.{cond_both}
 use Rattle.std.proofs.lemmas.Bool.Decides.{nat_tests}
-use Rattle.std.proofs.lemmas.Nat.{from_le_bytes-to_le_bytes_4}
 use Rattle.std.proofs.lemmas.List.{get_or-reverse, length-reverse}
 use Rattle.std.proofs.lemmas.Option.{slice_get-get_or, slice_get_within, get_or_from_slice_get}
 use Rattle.eh_bytes.specs.declared.frames.Region64.{Region64}
 use Rattle.eh_bytes.specs.Memory.{Part, Memory}
-use Rattle.eh_bytes.specs.Field.{fixed, at, behind}
-use Rattle.eh_bytes.specs.Encoded.{encoded, raw, extended, extends, applied, applies}
+use Rattle.eh_bytes.specs.Field.{at, behind}
+use Rattle.eh_bytes.specs.Encoded.{encoded}
 use Rattle.eh_bytes.specs.Listed.{ListedTable}
 use Rattle.table_forms.specs.Fault.{numbered, table_number}
 use Rattle.table_forms.specs.LsdaHead.{in_table}
 use Rattle.table_forms.specs.LsdaTypes.{entry_at}
 use Rattle.eh_write.specs.Written.{entry_bytes, entries_from, front_bytes, table_bytes}
-use Rattle.eh_write.specs.CanWrite.{IsNear, TypesAreNear}
+use Rattle.eh_write.specs.CanWrite.{TypesAreNear}
+use Rattle.eh_write.specs.Distance.{distance_bytes, IsNear}
+use Rattle.eh_write.proofs.DistanceRead.{zero_read, relative_read}
 use Rattle.eh_write.proofs.Reading.{Stands, next_stands}
 use Rattle.eh_write.proofs.Shape.{IsLaid, entries_address, actions_place, entries_place, base_place, from_lists}
 use Rattle.eh_write.proofs.HeadRead.{types_of, head_of}
@@ -26,59 +26,16 @@ use Rattle.eh_write.proofs.Lengths.{base_is, front_is, table_length, four_bytes}
 abbrev pub IsReached : ℕ → ℕ → Type 0
 IsReached place t = (t ≡ 0) ⊎ (IsNear place t × (t ≢ place))
 
-raw_bytes : ℕ → ℕ → ℕ
-raw_bytes place t = if t == 0 then 0 else (t % 2 ^ 32 + 2 ^ 32 - place % 2 ^ 32) % 2 ^ 32
-
-raw_small : (place t : ℕ) → raw_bytes place t < 2 ^ 32
-unfolding raw_bytes
-raw_small place t = cond_both (t == 0) 0 ((t % 2 ^ 32 + 2 ^ 32 - place % 2 ^ 32) % 2 ^ 32) (λ n. n < 2 ^ 32) (λ _. omega arith) (λ _. omega arith)
-
-four_read : (n : ℕ) (rest : List ℕ) → n < 2 ^ 32 → fixed w32 (to_le_bytes w32 n ++ rest) ≡ Ok (n, 4)
-four_read n rest small =
-    let long : nat_lt (length (to_le_bytes w32 n ++ rest)) 4 ≡ false =
-    let four : length (to_le_bytes w32 n) ≡ 4 = refl in grind (arith, nat_tests, four, length-append (to_le_bytes w32 n) rest) in
-    rw long (ap (λ m. Ok (m, 4)) (from_le_bytes-to_le_bytes_4 n small))
-
-signed_read : (place : ℕ) (bytes : List ℕ) → encoded 27 place bytes ≡ applies 27 place (extends 4 (fixed w32 bytes))
-unfolding encoded raw
-signed_read place bytes = refl
-
--- the number in the four bytes leads from the place to the type
-leads : (place t : ℕ) → t < 2 ^ 64 → IsReached place t → applied 27 place (extended 4 (raw_bytes place t)) ≡ record { value = t; indirect = false }
-unfolding raw_bytes
-leads place t fits (inl none) = let zero_is : (t == 0) ≡ true = grind (arith, nat_tests, none) in rw zero_is (ap (λ v. record { value = v; indirect = false }) (sym none))
-leads place t fits (inr (near, other)) = by_side (nat_lt place t) refl
+type_read : (place t : ℕ) (rest : List ℕ) → t < 2 ^ 64 → IsReached place t → encoded 27 place (entry_bytes place t ++ rest) ≡ Ok (record { value = t; indirect = false }, 4)
+type_read place t rest fits (inl none) =
+    let is : (t == 0) ≡ true = grind (arith, nat_tests, none) in
+    ap (λ b. encoded 27 place ((if b then to_le_bytes w32 0 else distance_bytes place t) ++ rest)) is ∙ zero_read place rest ∙
+    ap (λ v. Ok (record { value = v; indirect = false }, 4)) (sym none)
+type_read place t rest fits (inr (near, other)) = by_zero (t == 0) refl
   where
-    by_zero : (t == 0) ≡ true → applied 27 place (extended 4 (raw_bytes place t)) ≡ record { value = t; indirect = false }
-    by_zero e = let none : t ≡ 0 = grind (arith, nat_tests, e) in rw e (ap (λ v. record { value = v; indirect = false }) (sym none))
-
-    by_side : (b : Bool) → nat_lt place t ≡ b → applied 27 place (extended 4 (raw_bytes place t)) ≡ record { value = t; indirect = false }
-    by_side true above =
-        let lt : place < t = grind (arith, nat_tests, above) in
-        let some : (t == 0) ≡ false = grind (arith, nat_tests, lt) in
-        let number : (t % 2 ^ 32 + 2 ^ 32 - place % 2 ^ 32) % 2 ^ 32 ≡ t - place = omega (arith, near.0, lt) in
-        let positive : nat_lt (t - place) (2 ^ 31) ≡ true = grind (arith, nat_tests, near.0, lt) in
-        let more : (t - place == 0) ≡ false = grind (arith, nat_tests, lt) in
-        let value : (t - place + place) % 2 ^ 64 ≡ t = omega (arith, lt, fits) in
-        rw (some, number, positive, more) (ap (λ v. record { value = v; indirect = false }) value)
-    by_side false below = by_less (nat_lt t place) refl
-      where
-        not_less : nat_lt t place ≡ false → t ≡ place
-        not_less e = grind (arith, nat_tests, below, e)
-
-        some : (b : Bool) → (t == 0) ≡ b → nat_lt t place ≡ true → applied 27 place (extended 4 (raw_bytes place t)) ≡ record { value = t; indirect = false }
-        some true e less = by_zero e
-        some false e less =
-            let lt : t < place = grind (arith, nat_tests, less) in
-            let number : (t % 2 ^ 32 + 2 ^ 32 - place % 2 ^ 32) % 2 ^ 32 ≡ 2 ^ 32 - (place - t) = omega (arith, near.1, lt) in
-            let negative : nat_lt (2 ^ 32 - (place - t)) (2 ^ 31) ≡ false = grind (arith, nat_tests, near.1, lt) in
-            let more : (2 ^ 32 - (place - t) + (2 ^ 64 - 2 ^ 32) == 0) ≡ false = grind (arith, nat_tests, near.1, lt) in
-            let value : (2 ^ 32 - (place - t) + (2 ^ 64 - 2 ^ 32) + place) % 2 ^ 64 ≡ t = omega (arith, near.1, lt, fits) in
-            rw (e, number, negative, more) (ap (λ v. record { value = v; indirect = false }) value)
-
-        by_less : (b : Bool) → nat_lt t place ≡ b → applied 27 place (extended 4 (raw_bytes place t)) ≡ record { value = t; indirect = false }
-        by_less true less = some (t == 0) refl less
-        by_less false same = absurd (other (not_less same))
+    by_zero : (b : Bool) → (t == 0) ≡ b → encoded 27 place ((if b then to_le_bytes w32 0 else distance_bytes place t) ++ rest) ≡ Ok (record { value = t; indirect = false }, 4)
+    by_zero true e = let none : t ≡ 0 = grind (arith, nat_tests, e) in zero_read place rest ∙ ap (λ v. Ok (record { value = v; indirect = false }, 4)) (sym none)
+    by_zero false e = relative_read place t rest fits near other
 
 -- what stands behind a type's entry
 pub entry_stands : (bytes : List ℕ) (p place : ℕ) (ts rest : List ℕ) (k t : ℕ) → Stands bytes p (entries_from place ts) rest → slice_get ts k ≡ Some t →
@@ -105,19 +62,11 @@ entry_stands bytes p place (u ∷ ts) rest (suc k) t here at =
     let address : place + 4 * suc k ≡ place + 4 + 4 * k = omega arith in
     (later.0, ap (λ q. drop q bytes) there ∙ later.1 ∙ ap (λ q. entry_bytes q t ++ later.0) (sym address))
 
-unfolded : (place t : ℕ) → (if t == 0 then 0 else (t % 2 ^ 32 + 2 ^ 32 - place % 2 ^ 32) % 2 ^ 32) ≡ raw_bytes place t
-unfolding raw_bytes
-unfolded place t = refl
-
 field_read : (part : Part) (p place t : ℕ) (more : List ℕ) → t < 2 ^ 64 → IsReached place t → drop p part.bytes ≡ entry_bytes place t ++ more →
     in_table (encoded 27 place) part p ≡ Ok (record { value = t; indirect = false }, p + 4)
 field_read part p place t more fits reached here =
-    let n = raw_bytes place t in
-    let stands : drop p part.bytes ≡ to_le_bytes w32 n ++ more = here ∙ ap (λ m. to_le_bytes w32 m ++ more) (unfolded place t) in
-    ap (λ xs. numbered table_number (part.file_at + p) (behind p (encoded 27 place xs))) stands ∙
-    ap (λ r. numbered table_number (part.file_at + p) (behind p r))
-    (signed_read place (to_le_bytes w32 n ++ more) ∙ ap (λ r. applies 27 place (extends 4 r)) (four_read n more (raw_small place t))) ∙
-    ap (λ v. Ok (v, p + 4)) (leads place t fits reached)
+    ap (λ xs. numbered table_number (part.file_at + p) (behind p (encoded 27 place xs))) here ∙
+    ap (λ r. numbered table_number (part.file_at + p) (behind p r)) (type_read place t more fits reached)
 
 -- the types are reached from their entries
 reached_at : (first end base : ℕ) (ts : List ℕ) (j t : ℕ) → TypesAreNear first end base ts → slice_get ts j ≡ Some t → first ≤ base - 4 - 4 * j → base - 4 - 4 * j < end →

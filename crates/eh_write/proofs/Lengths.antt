@@ -1,5 +1,5 @@
 -- How many bytes the parts of a table take.
-use Rattle.std.proofs.Common.{◌≡◌, ◌+◌, ◌-◌, ◌*◌, ◌/◌, ◌%◌, ◌<◌, ◌≤◌, ℕ, ℤ, zero, suc, Bool, true, false, nat_lt, List, [], ◌∷◌, ◌++◌, length, drop, refl, ap, arith, if◌then◌else◌, length-append}
+use Rattle.std.proofs.Common.{◌≡◌, ◌+◌, ◌==◌, ◌-◌, ◌*◌, ◌/◌, ◌%◌, ◌<◌, ◌≤◌, ℕ, ℤ, zero, suc, Bool, true, false, nat_lt, List, [], ◌∷◌, ◌++◌, length, drop, refl, ap, arith, if◌then◌else◌, length-append}
 use Rattle.std.specs.Prelude.{flat_map, reverse}
 use Rattle.std.proofs.lemmas.Bool.{cond_both}
 use Rattle.std.proofs.lemmas.List.{length-drop, length-replicate, length-reverse}
@@ -7,6 +7,8 @@ use Rattle.eh_bytes.specs.declared.table.ListSite.{ListSite}
 use Rattle.eh_bytes.specs.Spelling.{uleb_spelling, uleb_spelling_within, sleb_spelling, sleb_spelling_within, fits_seven, low_seven, without_seven}
 use Rattle.eh_bytes.specs.Listed.{ListedTable}
 use Rattle.eh_write.specs.Written.{displacement, chain_bytes, action_of, site_bytes, sites_bytes, action_bytes, entry_bytes, entries_from, lists_bytes, body_bytes, front_bytes, table_bytes, is_aligned, offset_from, base_offset, least_offset}
+use Rattle.std.specs.Int.{w32, to_le_bytes}
+use Rattle.eh_write.specs.Distance.{distance_bytes}
 use Rattle.eh_write.proofs.Reading.{Stands}
 use Rattle.eh_write.proofs.Shape.{offset_of, offset_bytes, size_bytes, padding, entries_place, base_place}
 
@@ -47,7 +49,11 @@ inside bytes p x rest here =
     omega (arith, long, length-drop p bytes, length-append x rest)
 
 pub four_bytes : (place t : ℕ) → length (entry_bytes place t) ≡ 4
-four_bytes place t = refl
+four_bytes place t = both (t == 0)
+  where
+    both : (b : Bool) → length (if b then to_le_bytes w32 0 else distance_bytes place t) ≡ 4
+    both true = refl
+    both false = refl
 
 pub entries_length : (place : ℕ) (ts : List ℕ) → length (entries_from place ts) ≡ 4 * length ts
 entries_length place [] = refl

@@ -14,3 +14,6 @@ mod ChainsFound
 mod Clean
 mod TableRead
 mod Writes
+mod DistanceRead
+mod Found
+mod HeaderRead

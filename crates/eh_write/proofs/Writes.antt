@@ -1,10 +1,10 @@
 -- The bytes of a written table stand for its lists.
-use Rattle.std.proofs.Common.{◌≡◌, ◌+◌, ◌-◌, ◌%◌, ◌<◌, ◌≤◌, ◌^◌, ℕ, Bool, true, false, nat_le, nat_lt, List, [], ◌∷◌, ◌++◌, length, drop, refl, sym, subst, arith}
-use Rattle.std.specs.Prelude.{Option, Some, None, IsSomeAnd, IsOkAnd, reverse, ◌&&◌, if◌then◌else◌}
+use Rattle.std.proofs.Common.{◌≡◌, ◌+◌, ◌-◌, ◌%◌, ◌<◌, ◌^◌, ℕ, true, List, ◌++◌, length, drop, refl, sym, subst, arith}
+use Rattle.std.specs.Prelude.{Option, Some, None, IsSomeAnd, IsOkAnd, reverse}
 use Rattle.std.specs.List.{AllByRecursion}
 use Rattle.std.proofs.lemmas.Bool.Decides.{nat_tests}
 use Rattle.eh_bytes.specs.declared.frames.Region64.{Region64}
-use Rattle.eh_bytes.specs.Memory.{Part, Memory, covers, part_with}
+use Rattle.eh_bytes.specs.Memory.{Part, Memory, part_with}
 use Rattle.eh_bytes.specs.Listed.{ListedTable}
 use Rattle.table_forms.specs.LsdaHead.{head_at}
 use Rattle.table_forms.specs.Lsda.{lsda_from, lsda}
@@ -13,31 +13,13 @@ use Rattle.eh_write.specs.Written.{table_bytes, is_aligned, least_offset}
 use Rattle.eh_write.specs.CanWrite.{CanWrite}
 use Rattle.eh_write.specs.Fits.{IsWord, NumbersFit}
 use Rattle.eh_write.proofs.Alls.{all_at}
+use Rattle.eh_write.proofs.Found.{found_covers}
 use Rattle.eh_write.proofs.Aligned.{base_aligned}
 use Rattle.eh_write.proofs.Shape.{entries_address, offset_of, offset_bytes, laid}
 use Rattle.eh_write.proofs.HeadRead.{head_of, head_read}
 use Rattle.eh_write.proofs.EntriesRead.{turned}
 use Rattle.eh_write.proofs.Lengths.{offset_within, sites_within, actions_within}
 use Rattle.eh_write.proofs.TableRead.{Written, table_stands, table_read}
-
--- the part that is found has a byte at the address
-found_covers : (memory : Memory) (address : ℕ) (part : Part) → part_with memory address ≡ Some part → part.address ≤ address
-found_covers [] address part found = cc
-found_covers (other ∷ memory) address part found = by_test (covers other address) refl found (λ f. found_covers memory address part f)
-  where
-    first : (x y : Bool) → (x && y) ≡ true → x ≡ true
-    first true y e = refl
-    first false y e = e
-
-    some_same : (a b : Part) → Some a ≡ Some b → a ≡ b
-    some_same a b e = cc
-
-    by_test : (b : Bool) → covers other address ≡ b → (if b then Some other else part_with memory address) ≡ Some part →
-        (part_with memory address ≡ Some part → part.address ≤ address) → part.address ≤ address
-    by_test true e f later =
-        let le = first (nat_le other.address address) (nat_lt (address - other.address) (length other.bytes)) e in
-        subst (λ x. x.address ≤ address) (some_same other part f) (grind (arith, nat_tests, le))
-    by_test false e f later = later f
 
 written : (list : ListedTable) (address : ℕ) (memory : Memory) (part : Part) (rest : List ℕ) → CanWrite list address → NumbersFit list → length (table_bytes list address) < 2 ^ 64 →
     part_with memory address ≡ Some part → drop (address - part.address) part.bytes ≡ table_bytes list address ++ rest →

@@ -1,9 +1,10 @@
 -- What a table's writer needs of its lists.
-use Rattle.std.specs.Prelude.{◌≡◌, ℕ, zero, suc, ℤ, pos, negsuc, ◌+◌, ◌-◌, ◌*◌, ◌%◌, ◌<◌, ◌≤◌, ◌^◌, List, [], ◌∷◌, length, ⊤, Option, Some, None, IsSome, ◌⊎◌}
+use Rattle.std.specs.Prelude.{◌≡◌, ℕ, zero, suc, ℤ, pos, negsuc, ◌+◌, ◌-◌, ◌*◌, ◌%◌, ◌<◌, ◌≤◌, List, [], ◌∷◌, length, ⊤, Option, Some, None, IsSome, ◌⊎◌}
 use Rattle.std.specs.List.{AllByRecursion}
 use Rattle.eh_bytes.specs.declared.table.ListSite.{ListSite}
 use Rattle.eh_bytes.specs.Listed.{ListedTable}
 use Rattle.table_forms.specs.WrittenTable.{list_from}
+use Rattle.eh_write.specs.Distance.{IsNear}
 use Rattle.eh_write.specs.Written.{front_bytes, table_bytes}
 
 -- each site begins at or behind the end of the one before
@@ -28,10 +29,6 @@ FilterIsThere list (negsuc n) = IsSome (list_from list.lists n)
 
 abbrev pub ChainIsGood : ListedTable → List ℤ → Type 0
 ChainIsGood list chain = (0 < length chain) × AllByRecursion (FilterIsThere list) chain
-
--- a value of 64 bits lies less than 2^31 from a place
-abbrev pub IsNear : ℕ → ℕ → Type 0
-IsNear place value = (value < place + 2 ^ 31) × (place < value + 2 ^ 31)
 
 -- types other than 0 are near the entries that lie down from the base, and outside the table
 abbrev pub TypesAreNear : ℕ → ℕ → ℕ → List ℕ → Type 0

@@ -1,3 +1,5 @@
+pub mod Distance
 pub mod Written
 pub mod CanWrite
 pub mod Fits
+pub mod WrittenHeader

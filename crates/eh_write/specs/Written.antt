@@ -1,8 +1,9 @@
 -- The bytes of an exception table that is written from its lists (Itanium C++ ABI, "Exception Handling Tables"; the form is this profile's).
-use Rattle.std.specs.Prelude.{ℕ, ℤ, zero, suc, ◌+◌, ◌-◌, ◌*◌, ◌%◌, ◌^◌, ◌==◌, List, [], ◌∷◌, ◌++◌, length, flat_map, replicate, reverse, slice_get, Bool, Option, Some, None, unwrap_or, if◌then◌else◌}
+use Rattle.std.specs.Prelude.{ℕ, ℤ, zero, suc, ◌+◌, ◌-◌, ◌*◌, ◌%◌, ◌==◌, List, [], ◌∷◌, ◌++◌, length, flat_map, replicate, reverse, slice_get, Bool, Option, Some, None, unwrap_or, if◌then◌else◌}
 use Rattle.std.specs.Int.{w32, to_le_bytes}
 use Rattle.eh_bytes.specs.declared.table.ListSite.{ListSite}
 use Rattle.eh_bytes.specs.Listed.{ListedTable}
+use Rattle.eh_write.specs.Distance.{distance_bytes}
 use Rattle.eh_bytes.specs.Spelling.{uleb_spelling, sleb_spelling}
 
 -- the displacement of a record: 1 leads to the byte behind itself, where the next record stands, and 0 ends the chain
@@ -36,7 +37,7 @@ sites_bytes list = flat_map (site_bytes (actions_from 0 list.chains)) list.sites
 
 -- the entry at a place, which leads to the type; 0 is `catch (...)`
 abbrev pub entry_bytes : ℕ → ℕ → List ℕ
-entry_bytes place type = to_le_bytes w32 (if type == 0 then 0 else (type % 2 ^ 32 + 2 ^ 32 - place % 2 ^ 32) % 2 ^ 32)
+entry_bytes place type = if type == 0 then to_le_bytes w32 0 else distance_bytes place type
 
 -- entries from a place on
 abbrev pub entries_from : ℕ → List ℕ → List ℕ

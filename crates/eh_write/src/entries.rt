@@ -5,18 +5,18 @@ ghost use Rattle.eh_write.specs.Fits.{IsWord};
 ghost use Rattle.eh_write.specs.Written.{entry_bytes, entries_from};
 
 use crate::NoMemory;
+use crate::distance::distance_bytes;
 
 // The four bytes that lead from a place to a type; 0 is `catch (...)`.
 fn entry_bytes(place: u128, value: u64) -> [u8; 4]
     ensures bytes { result ≡ entry_bytes place value }
     ensures words { IsWord value }
 {
-    let raw = if value == 0 {
-        0
+    if value == 0 {
+        0u32.to_le_bytes()
     } else {
-        (value as u128 % 0x1_0000_0000 + 0x1_0000_0000 - place % 0x1_0000_0000) % 0x1_0000_0000
-    };
-    (raw as u32).to_le_bytes()
+        distance_bytes(place, value)
+    }
 }
 
 /// Appends the entries of the types, the last one first, from an address on.

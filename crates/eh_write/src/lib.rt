@@ -3,12 +3,15 @@
 #![tactic(auto)]
 
 mod actions;
+mod distance;
 mod entries;
+mod header;
 mod layout;
 mod lists;
 mod lsda;
 mod sites;
 
+pub use header::write_hdr;
 pub use lsda::write_lsda;
 pub use std::alloc::AllocError as NoMemory;
 
