@@ -1,6 +1,8 @@
--- The numbers of a table's lists, in the ranges of their types.
-use Rattle.std.specs.Prelude.{◌≡◌, ◌<◌, ◌^◌, ℕ, ℤ, true, reverse}
+-- The numbers of lists, in the ranges of their types.
+use Rattle.std.specs.Prelude.{⊤, ◌≡◌, ◌<◌, ◌^◌, ℕ, ℤ, true, reverse}
 use Rattle.std.specs.List.{AllByRecursion}
+use Rattle.eh_bytes.specs.declared.frames.FrameChange.{FrameChange}
+use Rattle.eh_bytes.specs.declared.frames.FrameChange.TheVariants.{Cfa, Saved, Undefined}
 use Rattle.eh_bytes.specs.declared.table.ListSite.{ListSite}
 use Rattle.eh_bytes.specs.Leb128.{is_i64}
 use Rattle.eh_bytes.specs.Listed.{ListedTable}
@@ -15,6 +17,12 @@ pub record HasWords (s : ListSite) : Type 0 where
   pub start : IsWord s.start
   pub length : IsWord s.length
   pub pad : IsWord s.pad
+
+-- the offset of a change
+abbrev pub HasOffset : FrameChange → Type 0
+HasOffset (Cfa n) = IsSignedWord n
+HasOffset (Saved r n) = IsSignedWord n
+HasOffset (Undefined r) = ⊤
 
 pub record NumbersFit (list : ListedTable) : Type 0 where
   pub sites : AllByRecursion HasWords list.sites

@@ -3,3 +3,5 @@ pub mod Written
 pub mod CanWrite
 pub mod Fits
 pub mod WrittenHeader
+pub mod WrittenFrames
+pub mod CanWriteFrames

@@ -7,8 +7,8 @@ ghost use Rattle.eh_write.specs.Written.{entry_bytes, entries_from};
 use crate::NoMemory;
 use crate::distance::distance_bytes;
 
-// The four bytes that lead from a place to a type; 0 is `catch (...)`.
-fn entry_bytes(place: u128, value: u64) -> [u8; 4]
+/// The four bytes that lead from a place to an address; 0 stays 0.
+pub fn entry_bytes(place: u128, value: u64) -> [u8; 4]
     ensures bytes { result ≡ entry_bytes place value }
     ensures words { IsWord value }
 {

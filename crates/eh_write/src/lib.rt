@@ -5,12 +5,15 @@
 mod actions;
 mod distance;
 mod entries;
+mod frames;
 mod header;
 mod layout;
 mod lists;
 mod lsda;
+mod moves;
 mod sites;
 
+pub use frames::write_eh_frame;
 pub use header::write_hdr;
 pub use lsda::write_lsda;
 pub use std::alloc::AllocError as NoMemory;
