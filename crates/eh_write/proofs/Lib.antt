@@ -17,3 +17,8 @@ mod Writes
 mod DistanceRead
 mod Found
 mod HeaderRead
+mod FrameFields
+mod MovesRead
+mod MovesStand
+mod CieRead
+mod FdeRead

@@ -43,8 +43,7 @@ TableIsGood true first end lsda = (lsda ≡ 0) ⊎ ((lsda < 2 ^ 31) × IsOutside
 TableIsGood false first end lsda = lsda ≡ 0
 
 pub record FrameIsGood (lsda : Bool) (first end : ℕ) (f : ListedFrame) : Type 0 where
-  pub ends : f.region.start + f.region.length ≤ 2 ^ 31
-  pub low : f.region.start < 2 ^ 31
+  pub ends : f.region.start + f.region.length < 2 ^ 31
   pub outside : IsOutside first end f.region.start
   pub table : TableIsGood lsda first end f.lsda
   pub moves : MovesAreGood f.region f.region.start f.moves

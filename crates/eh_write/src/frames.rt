@@ -132,6 +132,7 @@ pub fn write_eh_frame(
 ) -> Result<(), NoMemory>
     ensures bytes { OnOk result (out.new.items ≡ out.old.items ++ frames_bytes (listed_frames frames.now) address) }
     ensures refused { OnErr result (out.new.items ≡ out.old.items) }
+    ensures stands { OnOk result (CanWriteFrames (listed_frames frames.now) address → WritesFrames (listed_frames frames.now) address (frames_bytes (listed_frames frames.now) address)) }
 {
     let bytes = list_of(alloc, frames, address)?;
     out.extend_from_slice(bytes.as_slice())
