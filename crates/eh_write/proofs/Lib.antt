@@ -22,3 +22,6 @@ mod MovesRead
 mod MovesStand
 mod CieRead
 mod FdeRead
+mod SpansRead
+mod PartsRead
+mod FramesWritten

@@ -124,6 +124,7 @@ fn list_of(alloc: Global, frames: &FrameList, address: u64) -> Result<Vec<u8>, N
 /// below 64, and they are saved at multiples of 8 at or below the canonical frame address. Without
 /// tables each table's address is 0. Then the bytes stand for the frames in each memory that has
 /// them at the address. `out` is unchanged where memory is wanted.
+#[tactic(auto, using(crate::proofs::FramesWritten::writes_frames))]
 pub fn write_eh_frame(
     alloc: Global,
     frames: &FrameList,
