@@ -1,18 +1,18 @@
 -- The CIE that is written is read as it is.
-use Rattle.std.proofs.Common.{◌≡◌, ◌+◌, ◌-◌, ◌<◌, ◌≤◌, ◌^◌, ◌==◌, ℕ, ℤ, pos, negsuc, zero, suc, Bool, true, false, nat_lt, nat_le, List, [], ◌∷◌, ◌++◌, length, take, drop, Ok, Some, refl, ap, sym, ◌∙◌, arith, if◌then◌else◌}
+use Rattle.std.proofs.Common.{◌≡◌, ◌+◌, ◌-◌, ◌<◌, ◌≤◌, ℕ, pos, negsuc, Bool, true, false, nat_le, List, [], ◌∷◌, ◌++◌, length, take, drop, Ok, Some, refl, ap, sym, ◌∙◌, arith}
 use Rattle.std.specs.Prelude.{Option, None, replicate}
 use Rattle.std.proofs.lemmas.Bool.Decides.{nat_tests}
 use Rattle.eh_bytes.specs.Memory.{Part}
 use Rattle.eh_bytes.specs.Spelling.{uleb_spelling, sleb_spelling, sleb_spelling_within}
-use Rattle.table_forms.specs.Fault.{Fault, ◌>>=◌, demand}
+use Rattle.table_forms.specs.Fault.{◌>>=◌, demand}
 use Rattle.eh_bytes.specs.Field.{byte}
 use Rattle.eh_bytes.specs.Leb128.{sleb}
 use Rattle.eh_bytes.specs.Encoded.{is_direct}
-use Rattle.table_forms.specs.Instruction.{Instruction, Coding, in_frames, nop, set_cfa, register_at, extended, operands, instruction_at}
+use Rattle.table_forms.specs.Instruction.{Coding, in_frames, nop, set_cfa, register_at, extended, operands, instruction_at}
 use Rattle.table_forms.specs.Instructions.{instructions_within}
 use Rattle.table_forms.specs.Cie.{Cie, Letters, text, wrong_letter, no_wrong, no_letters, letter_at, letters_at, direct_at, sized_at, augmented, return_register_at, cie_at}
 use Rattle.eh_write.proofs.FrameFields.{From, read_from, in_byte, small_spelled, in_small, in_sleb, behind_by, cut_from}
-use Rattle.eh_write.proofs.MovesRead.{the_coding, plain_offset, nop_read, nops_read, begins}
+use Rattle.eh_write.proofs.MovesRead.{the_coding, plain_offset, nops_read, begins}
 
 abbrev pub augmentation : Bool → List ℕ
 augmentation true = 0x7a ∷ 0x4c ∷ 0x52 ∷ []
@@ -59,10 +59,10 @@ cfa_read c part stop p rest here =
     let second = behind_by part stop p 1 (0x0c ∷ 2 ∷ 0 ∷ rest) here in
     let third = behind_by part stop (p + 1) 1 (2 ∷ 0 ∷ rest) second in
     rw (in_byte part stop p 0x0c (2 ∷ 0 ∷ rest) here)
-      (rw (in_small part stop (p + 1) 2 (0 ∷ rest) (omega arith) second)
-        (ap (λ r. r >>= (λ n. Ok (set_cfa 2 n.0, n.1)))
-          (plain_offset part stop (p + 1 + 1) 0 rest (omega arith) (third ∙ ap (λ x. x ++ rest) (sym zero_is)) ∙
-          ap (λ x. Ok (pos 0, p + 1 + 1 + length x)) zero_is)))
+    (rw (in_small part stop (p + 1) 2 (0 ∷ rest) (omega arith) second)
+    (ap (λ r. r >>= (λ n. Ok (set_cfa 2 n.0, n.1)))
+    (plain_offset part stop (p + 1 + 1) 0 rest (omega arith) (third ∙ ap (λ x. x ++ rest) (sym zero_is)) ∙
+    ap (λ x. Ok (pos 0, p + 1 + 1 + length x)) zero_is)))
 
 common_read : (part : Part) (stop p k : ℕ) → From part stop p (0x0c ∷ 2 ∷ 0 ∷ replicate k 0) → stop ≡ p + 3 + k →
     instructions_within stop the_coding part stop p 0 ≡ Ok (record { list = set_cfa 2 (pos 0) ∷ replicate k nop; states = 0 })
@@ -71,8 +71,8 @@ common_read part stop p k here ends =
     let third = behind_by part stop (p + 1) 1 (2 ∷ 0 ∷ replicate k 0) second in
     let fourth = behind_by part stop (p + 1 + 1) 1 (0 ∷ replicate k 0) third in
     begins the_coding part stop p stop (p + 1 + 1 + 1) (set_cfa 2 (pos 0)) (replicate k nop) (omega (arith, ends)) (omega arith) (omega arith)
-      (cfa_read the_coding part stop p (replicate k 0) here) refl
-      (λ n enough. nops_read the_coding part stop (p + 1 + 1 + 1) n k fourth (omega (arith, ends)) enough)
+    (cfa_read the_coding part stop p (replicate k 0) here) refl
+    (λ n enough. nops_read the_coding part stop (p + 1 + 1 + 1) n k fourth (omega (arith, ends)) enough)
 
 direct_read : (part : Part) (stop p : ℕ) (rest : List ℕ) → From part stop p (0x1b ∷ rest) → direct_at part stop p ≡ Ok (27, p + 1)
 direct_read part stop p rest here = ap (λ r. r >>= (λ e. demand (is_direct e.0) 3 (part.file_at + p) >>= (λ _. Ok e))) (in_byte part stop p 27 rest here)
@@ -105,7 +105,7 @@ both_read part stop p rest here room =
     ap (λ r. r >>= (λ d. letters_at part d.1 (0x4c ∷ 0x52 ∷ []) no_letters d.0 >>= (λ l. Ok (l, d.1)))) (size_read part stop p 2 (0x1b ∷ 0x1b ∷ rest) (omega arith) here room) ∙
     ap (λ r. (r >>= (λ x. letters_at part end (0x52 ∷ []) x.0 x.1)) >>= (λ l. Ok (l, end))) (tables_letter part end (p + 1) no_letters (0x1b ∷ left) data') ∙
     ap (λ r. (r >>= (λ x. Ok x.0)) >>= (λ l. Ok (l, end)))
-      (locations_letter part end (p + 1 + 1) (record no_letters { lsda_encoding = Some 27 }) left (behind_by part end (p + 1) 1 (0x1b ∷ 0x1b ∷ left) data'))
+    (locations_letter part end (p + 1 + 1) (record no_letters { lsda_encoding = Some 27 }) left (behind_by part end (p + 1) 1 (0x1b ∷ 0x1b ∷ left) data'))
 
 one_read : (part : Part) (stop p : ℕ) (rest : List ℕ) → From part stop p (1 ∷ 0x1b ∷ rest) → p + 1 + 1 ≤ stop →
     augmented part stop (augmentation false) p ≡ Ok (data_read false, p + 1 + 1)
@@ -128,12 +128,12 @@ tail_read tables part at stop p data' here end letters instructions start versio
     let second = behind_by part stop p 1 (4 ∷ 0x78 ∷ 1 ∷ data') here in
     let third = behind_by part stop (p + 1) 1 (0x78 ∷ 1 ∷ data') second in
     rw version
-      (rw name
-        (rw letters_known
-          (rw (in_small part stop p 4 (0x78 ∷ 1 ∷ data') (omega arith) here)
-            (rw (factor_read part stop (p + 1) (1 ∷ data') second)
-              (rw (register_read part stop (p + 1 + 1) data' third)
-                (rw letters (rw encoding (rw instructions (rw (lsda, signal) refl)))))))))
+    (rw name
+    (rw letters_known
+    (rw (in_small part stop p 4 (0x78 ∷ 1 ∷ data') (omega arith) here)
+    (rw (factor_read part stop (p + 1) (1 ∷ data') second)
+    (rw (register_read part stop (p + 1 + 1) data' third)
+    (rw letters (rw encoding (rw instructions (rw (lsda, signal) refl)))))))))
 
 pub with_tables : (part : Part) (at stop p : ℕ) → From part stop p (1 ∷ 0x7a ∷ 0x4c ∷ 0x52 ∷ 0 ∷ 4 ∷ 0x78 ∷ 1 ∷ 2 ∷ 0x1b ∷ 0x1b ∷ 0x0c ∷ 2 ∷ 0 ∷ 0 ∷ 0 ∷ []) → stop ≡ p + 16 →
     cie_at part at stop p ≡ Ok (cie_of true part at)
@@ -149,8 +149,8 @@ with_tables part at stop p here ends =
     let end = e + 1 + 2 in
     let at_end : From part stop end (drop 11 all) = ap (λ x. drop x (take stop part.bytes)) (let same : end ≡ e + 3 = omega arith in same) ∙ common in
     tail_read true part at stop q (drop 8 all) code end (both_read part stop e (drop 11 all) at_data (omega (arith, ends)))
-      (common_read part stop end 2 at_end (omega (arith, ends))) p (in_byte part stop p 1 (drop 1 all) here)
-      (read_from text part stop (p + 1) (drop 1 all) named) refl refl refl refl
+    (common_read part stop end 2 at_end (omega (arith, ends))) p (in_byte part stop p 1 (drop 1 all) here)
+    (read_from text part stop (p + 1) (drop 1 all) named) refl refl refl refl
 
 pub without_tables : (part : Part) (at stop p : ℕ) → From part stop p (1 ∷ 0x7a ∷ 0x52 ∷ 0 ∷ 4 ∷ 0x78 ∷ 1 ∷ 1 ∷ 0x1b ∷ 0x0c ∷ 2 ∷ 0 ∷ []) → stop ≡ p + 12 →
     cie_at part at stop p ≡ Ok (cie_of false part at)
@@ -166,5 +166,5 @@ without_tables part at stop p here ends =
     let end = e + 1 + 1 in
     let at_end : From part stop end (drop 9 all) = ap (λ x. drop x (take stop part.bytes)) (let same : end ≡ e + 2 = omega arith in same) ∙ common in
     tail_read false part at stop q (drop 7 all) code end (one_read part stop e (drop 9 all) at_data (omega (arith, ends)))
-      (common_read part stop end 0 at_end (omega (arith, ends))) p (in_byte part stop p 1 (drop 1 all) here)
-      (read_from text part stop (p + 1) (drop 1 all) named) refl refl refl refl
+    (common_read part stop end 0 at_end (omega (arith, ends))) p (in_byte part stop p 1 (drop 1 all) here)
+    (read_from text part stop (p + 1) (drop 1 all) named) refl refl refl refl

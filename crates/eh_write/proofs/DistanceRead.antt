@@ -14,7 +14,7 @@ distance_small place a = omega arith
 pub four_read : (n : ℕ) (rest : List ℕ) → n < 2 ^ 32 → fixed w32 (to_le_bytes w32 n ++ rest) ≡ Ok (n, 4)
 four_read n rest small =
     let long : nat_lt (length (to_le_bytes w32 n ++ rest)) 4 ≡ false =
-      let four : length (to_le_bytes w32 n) ≡ 4 = refl in grind (arith, nat_tests, four, length-append (to_le_bytes w32 n) rest) in
+    let four : length (to_le_bytes w32 n) ≡ 4 = refl in grind (arith, nat_tests, four, length-append (to_le_bytes w32 n) rest) in
     rw long (ap (λ m. Ok (m, 4)) (from_le_bytes-to_le_bytes_4 n small))
 
 pub distance_read : (place a : ℕ) (rest : List ℕ) → fixed w32 (distance_bytes place a ++ rest) ≡ Ok (distance place a, 4)

@@ -1,6 +1,6 @@
 -- An FDE that is written is read as its frame.
-use Rattle.std.proofs.Common.{◌≡◌, ◌≢◌, ◌+◌, ◌-◌, ◌*◌, ◌/◌, ◌%◌, ◌<◌, ◌≤◌, ◌^◌, ◌==◌, ℕ, ℤ, pos, negsuc, zero, suc, Bool, true, false, nat_lt, nat_le, List, [], ◌∷◌, ◌++◌, length, take, drop, Ok, Some, refl, ap, sym, ◌∙◌, arith, append_assoc, length-append, if◌then◌else◌, ◌⊎◌, inl, inr}
-use Rattle.std.specs.Prelude.{Option, None, replicate, ◌&&◌}
+use Rattle.std.proofs.Common.{◌≡◌, ◌≢◌, ◌+◌, ◌-◌, ◌%◌, ◌<◌, ◌≤◌, ◌^◌, ◌==◌, ℕ, suc, Bool, true, false, nat_lt, nat_le, List, [], ◌∷◌, ◌++◌, length, take, drop, Ok, Some, refl, ap, sym, ◌∙◌, arith, length-append, if◌then◌else◌, ◌⊎◌, inl, inr}
+use Rattle.std.specs.Prelude.{None, replicate, ◌&&◌}
 use Rattle.std.specs.Int.{w32, to_le_bytes}
 use Rattle.std.specs.List.{AllByRecursion}
 use Rattle.std.proofs.lemmas.Bool.Decides.{nat_tests}
@@ -9,12 +9,11 @@ use Rattle.eh_bytes.specs.declared.frames.FrameMove.{FrameMove}
 use Rattle.eh_bytes.specs.Memory.{Part}
 use Rattle.eh_bytes.specs.Listed.{ListedFrame}
 use Rattle.eh_bytes.specs.Encoded.{encoded}
-use Rattle.table_forms.specs.Fault.{Fault, ◌>>=◌, demand}
-use Rattle.table_forms.specs.Instruction.{Instruction, nop, in_frames}
-use Rattle.table_forms.specs.Instructions.{instructions_within}
-use Rattle.table_forms.specs.Cie.{Cie, sized_at}
-use Rattle.table_forms.specs.Fde.{Fde, region_at, lsda_pointer, lsda_at, fde_at, is_in, row_at}
-use Rattle.table_forms.specs.WrittenFrames.{CieStands, FdeStands}
+use Rattle.table_forms.specs.Fault.{◌>>=◌}
+use Rattle.table_forms.specs.Instruction.{nop, in_frames}
+use Rattle.table_forms.specs.Cie.{Cie}
+use Rattle.table_forms.specs.Fde.{Fde, region_at, lsda_pointer, lsda_at, fde_at}
+use Rattle.table_forms.specs.WrittenFrames.{FdeStands}
 use Rattle.eh_write.specs.Distance.{distance_bytes, IsNear}
 use Rattle.eh_write.specs.WrittenFrames.{data_bytes, moves_bytes}
 use Rattle.eh_write.specs.CanWriteFrames.{ChangeIsGood, MovesAreGood, IsOutside, TableIsGood, FrameIsGood}
@@ -23,7 +22,7 @@ use Rattle.eh_write.proofs.Reading.{next_stands}
 use Rattle.eh_write.proofs.FrameFields.{From, in_relative, in_zero, in_length, behind_by, cut_from}
 use Rattle.eh_write.proofs.MovesRead.{the_coding, moves_list, moves_read}
 use Rattle.eh_write.proofs.MovesStand.{rows_stand}
-use Rattle.eh_write.proofs.CieRead.{augmentation, lsda_encoding, nops_of, cie_of, size_read}
+use Rattle.eh_write.proofs.CieRead.{augmentation, nops_of, cie_of, size_read}
 
 -- bytes of a part from an address on, which end below 2^31
 pub record Within (first end address : ℕ) : Type 0 where
@@ -46,7 +45,7 @@ address_read part stop p first end a rest within low outside here =
     let below = within.below in
     let ends = within.low in
     in_relative part stop p (part.address + p) a rest (omega (arith, low)) (low_near (part.address + p) a (omega (arith, below, ends)) low)
-      (outside_apart first end (part.address + p) a within outside) here
+    (outside_apart first end (part.address + p) a within outside) here
 
 pub region_read : (cie : Cie) (part : Part) (stop p first end : ℕ) (region : Region64) (rest : List ℕ) → cie.coding ≡ the_coding → Within first end (part.address + p) →
     region.start + region.length < 2 ^ 31 → IsOutside first end region.start →
@@ -56,12 +55,12 @@ unfolding region_at
 region_read cie part stop p first end region rest coding within ends outside here =
     let whole : region.length % 2 ^ 32 ≡ region.length = omega (arith, ends) in
     let second : From part stop (p + 4) (to_le_bytes w32 region.length ++ rest) =
-      next_stands (take stop part.bytes) p (distance_bytes (part.address + p) region.start) (to_le_bytes w32 (region.length % 2 ^ 32) ++ rest) here ∙
-      ap (λ n. to_le_bytes w32 n ++ rest) whole in
+    next_stands (take stop part.bytes) p (distance_bytes (part.address + p) region.start) (to_le_bytes w32 (region.length % 2 ^ 32) ++ rest) here ∙
+    ap (λ n. to_le_bytes w32 n ++ rest) whole in
     let fits : nat_lt (region.start + region.length) (2 ^ 64) ≡ true = grind (arith, nat_tests, ends) in
     rw coding
-      (rw (address_read part stop p first end region.start (to_le_bytes w32 (region.length % 2 ^ 32) ++ rest) within (omega (arith, ends)) outside here)
-        (rw (in_length part stop (p + 4) region.length rest (omega (arith, ends)) second) (rw fits refl)))
+    (rw (address_read part stop p first end region.start (to_le_bytes w32 (region.length % 2 ^ 32) ++ rest) within (omega (arith, ends)) outside here)
+    (rw (in_length part stop (p + 4) region.length rest (omega (arith, ends)) second) (rw fits refl)))
 
 abbrev data_size : Bool → ℕ
 data_size true = 4
@@ -92,7 +91,7 @@ table_read true c part stop p first end lsda rest within good here room =
     let left = take (end_at - (p + 1 + length pointer)) rest in
     let place : part.address + p + 1 ≡ part.address + (p + 1) = omega arith in
     let there : From part end_at (p + 1) ((if lsda == 0 then to_le_bytes w32 0 else distance_bytes (part.address + (p + 1)) lsda) ++ left) =
-      cut ∙ ap (λ a. (if lsda == 0 then to_le_bytes w32 0 else distance_bytes a lsda) ++ left) place in
+    cut ∙ ap (λ a. (if lsda == 0 then to_le_bytes w32 0 else distance_bytes a lsda) ++ left) place in
     ap (λ r. r >>= (λ d. lsda_pointer (Some 27) part d.1 d.0 >>= (λ l. Ok (l, d.1)))) (size_read part stop p 4 (pointer ++ rest) (omega arith) here room) ∙
     ap (λ r. r >>= (λ l. Ok (l, end_at))) (pointer_read part end_at (p + 1) first end lsda left within good there)
   where
@@ -148,10 +147,10 @@ fde_read tables c part at stop first end k f good words from below low here ends
     let four_too : length (distance_bytes (place + 8) f.region.start) ≡ 4 = refl in
     let sized = data_length tables (place + 16) f.lsda in
     let long : stop ≡ p + (4 + (4 + (1 + data_size tables + length moves))) =
-      omega (arith, ends, four, four_too, sized, length-append (distance_bytes (place + 8) f.region.start) (len ++ (data' ++ moves)), length-append len (data' ++ moves), length-append data' moves) in
+    omega (arith, ends, four, four_too, sized, length-append (distance_bytes (place + 8) f.region.start) (len ++ (data' ++ moves)), length-append len (data' ++ moves), length-append data' moves) in
     let at_start : place + 8 ≡ part.address + p = omega arith in
     let here_start : From part stop p (distance_bytes (part.address + p) f.region.start ++ (len ++ (data' ++ moves))) =
-      here ∙ ap (λ a. distance_bytes a f.region.start ++ (len ++ (data' ++ moves))) at_start in
+    here ∙ ap (λ a. distance_bytes a f.region.start ++ (len ++ (data' ++ moves))) at_start in
     let here_len = next_stands (take stop part.bytes) p (distance_bytes (part.address + p) f.region.start) (len ++ (data' ++ moves)) here_start in
     let here_data = next_stands (take stop part.bytes) (p + 4) len (data' ++ moves) here_len in
     let q = p + 4 + 4 in
@@ -160,7 +159,7 @@ fde_read tables c part at stop first end k f good words from below low here ends
     let r = q + 1 + data_size tables in
     let at_moves : r ≡ q + length (data_bytes tables (part.address + q) f.lsda) = omega (arith, data_length tables (part.address + q) f.lsda) in
     let moves_here : From part stop r moves =
-      ap (λ x. drop x (take stop part.bytes)) at_moves ∙ next_stands (take stop part.bytes) q (data_bytes tables (part.address + q) f.lsda) moves data_here in
+    ap (λ x. drop x (take stop part.bytes)) at_moves ∙ next_stands (take stop part.bytes) q (data_bytes tables (part.address + q) f.lsda) moves data_here in
     let start_within : Within first end (part.address + p) = record { from = omega (arith, from); below = omega (arith, below, long); low = low } in
     let data_within : Within first end (part.address + (q + 1)) = record { from = omega (arith, from); below = omega (arith, below, long); low = low } in
     let region = region_read cie part stop p first end f.region (data' ++ moves) refl start_within good.ends good.outside here_start in
@@ -175,9 +174,9 @@ fde_stands tables c part at first end k f good = record {
   lsda = refl;
   cie = record { version = refl; code_factor = refl; data_factor = refl; returns = refl; ordinary = refl };
   rows = λ pc inside.
-    let test = first_of (nat_le f.region.start pc) (nat_lt pc (f.region.start + f.region.length)) inside in
-    let from : f.region.start ≤ pc = grind (arith, nat_tests, test) in
-    rows_stand f.region pc (nops_of tables) k f.moves good.moves from (let ends = good.ends in omega (arith, ends));
+      let test = first_of (nat_le f.region.start pc) (nat_lt pc (f.region.start + f.region.length)) inside in
+      let from : f.region.start ≤ pc = grind (arith, nat_tests, test) in
+      rows_stand f.region pc (nops_of tables) k f.moves good.moves from (let ends = good.ends in omega (arith, ends));
 }
   where
     first_of : (x y : Bool) → (x && y) ≡ true → x ≡ true

@@ -1,17 +1,17 @@
 -- Fields of a part of the frames, where the bytes of the part end at a stop.
-use Rattle.std.proofs.Common.{◌≡◌, ◌≢◌, ◌+◌, ◌-◌, ◌<◌, ◌≤◌, ◌^◌, ◌%◌, ◌==◌, ℕ, ℤ, pos, negsuc, Bool, true, false, nat_lt, List, [], ◌∷◌, ◌++◌, length, take, drop, Ok, refl, ap, sym, ◌∙◌, arith, if◌then◌else◌}
+use Rattle.std.proofs.Common.{◌≡◌, ◌≢◌, ◌+◌, ◌-◌, ◌<◌, ◌≤◌, ◌^◌, ◌==◌, ℕ, ℤ, Bool, true, false, nat_lt, List, [], ◌∷◌, ◌++◌, length, take, drop, Ok, refl, ap, sym, ◌∙◌, arith, if◌then◌else◌}
 use Rattle.std.specs.Int.{w32, to_le_bytes}
 use Rattle.std.proofs.lemmas.Bool.Decides.{nat_tests}
 use Rattle.eh_bytes.specs.declared.encoded.Pointer.{Pointer}
 use Rattle.eh_bytes.specs.Memory.{Part}
-use Rattle.eh_bytes.specs.Field.{Field, Reading, byte, fixed, at, behind}
+use Rattle.eh_bytes.specs.Field.{Field, Reading, byte, fixed, behind}
 use Rattle.eh_bytes.specs.Leb128.{uleb, sleb}
-use Rattle.eh_bytes.specs.Encoded.{encoded, raw, extended, extends, applies}
+use Rattle.eh_bytes.specs.Encoded.{encoded, raw, extends, applies}
 use Rattle.eh_bytes.specs.Spelling.{uleb_spelling_within, uleb_spelling, sleb_spelling}
 use Rattle.std.proofs.lemmas.List.{drop-drop, take-take}
 use Rattle.eh_bytes.proofs.Spelled.{magnitude}
 use Rattle.eh_bytes.proofs.ReadAgain.{uleb-uleb_spelling, sleb-sleb_spelling}
-use Rattle.table_forms.specs.Fault.{Fault, frame_number, numbered}
+use Rattle.table_forms.specs.Fault.{frame_number, numbered}
 use Rattle.table_forms.specs.Instruction.{in_frames}
 use Rattle.eh_write.specs.Distance.{distance_bytes, IsNear}
 use Rattle.eh_write.proofs.ChainsFound.{cut_stands}
@@ -63,7 +63,7 @@ pub in_length : (part : Part) (stop p n : ℕ) (rest : List ℕ) → n < 2 ^ 31 
 in_length part stop p n rest small here =
     read_from (encoded 11 0) part stop p (to_le_bytes w32 n ++ rest) here ∙
     ap (λ r. numbered frame_number (part.file_at + p) (behind p r))
-      (signed_read (to_le_bytes w32 n ++ rest) ∙ ap (λ r. applies 11 0 (extends 4 r)) (four_read n rest (omega (arith, small))) ∙ positive ∙ by_zero (n == 0) refl)
+    (signed_read (to_le_bytes w32 n ++ rest) ∙ ap (λ r. applies 11 0 (extends 4 r)) (four_read n rest (omega (arith, small))) ∙ positive ∙ by_zero (n == 0) refl)
   where
     below : nat_lt n (2 ^ 31) ≡ true
     below = grind (arith, nat_tests, small)

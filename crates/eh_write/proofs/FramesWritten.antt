@@ -1,13 +1,13 @@
 -- The bytes of a written list of frames stand for the frames.
-use Rattle.std.proofs.Common.{◌≡◌, ◌+◌, ◌-◌, ◌*◌, ◌%◌, ◌<◌, ◌≤◌, ◌^◌, ◌==◌, ℕ, zero, suc, Bool, true, false, List, [], ◌∷◌, ◌++◌, length, take, drop, Ok, Some, refl, ap, sym, subst, ◌∙◌, arith, append_assoc, length-append, append-nil}
+use Rattle.std.proofs.Common.{◌≡◌, ◌+◌, ◌-◌, ◌%◌, ◌<◌, ◌≤◌, ◌^◌, ℕ, suc, Bool, true, false, List, [], ◌∷◌, ◌++◌, length, take, drop, Ok, Some, refl, ap, sym, ◌∙◌, arith, append_assoc, length-append, append-nil}
 use Rattle.std.specs.Prelude.{Option, None, replicate, IsSomeAnd}
 use Rattle.std.specs.Int.{w32, to_le_bytes}
 use Rattle.std.specs.List.{AllByRecursion}
-use Rattle.eh_bytes.specs.Memory.{Part, Memory, part_with}
+use Rattle.eh_bytes.specs.Memory.{Part, part_with}
 use Rattle.eh_bytes.specs.Field.{fixed}
 use Rattle.eh_bytes.specs.Listed.{ListedFrame, ListedFrames}
 use Rattle.table_forms.specs.Instruction.{in_frames}
-use Rattle.table_forms.specs.Spans.{Span, Spans, and_spans, spans_within}
+use Rattle.table_forms.specs.Spans.{and_spans, spans_within}
 use Rattle.table_forms.specs.Cie.{cie_at}
 use Rattle.table_forms.specs.Parts.{parts_at}
 use Rattle.table_forms.specs.WrittenFrames.{FramesStand, WritesFrames}
@@ -15,14 +15,14 @@ use Rattle.eh_write.specs.Distance.{distance_bytes}
 use Rattle.eh_write.specs.WrittenFrames.{cie_bytes, data_bytes, moves_bytes, fde_body, padded, fde_bytes, fdes_bytes, frames_bytes}
 use Rattle.eh_write.specs.CanWriteFrames.{FrameIsGood, CanWriteFrames}
 use Rattle.eh_write.specs.Fits.{HasOffset}
-use Rattle.eh_write.proofs.Reading.{Stands, next_stands}
+use Rattle.eh_write.proofs.Reading.{next_stands}
 use Rattle.eh_write.proofs.Found.{found_covers}
 use Rattle.eh_write.proofs.ChainsFound.{cut_stands}
 use Rattle.eh_write.proofs.FrameFields.{From, in_four, behind_by}
 use Rattle.eh_write.proofs.CieRead as read
 use Rattle.eh_write.proofs.CieRead.{with_tables, without_tables}
 use Rattle.eh_write.proofs.FdeRead.{described, fde_read}
-use Rattle.eh_write.proofs.SpansRead.{room, body_size, some_body, fde_length, fde_shape, spans_of, span_read, spans_read}
+use Rattle.eh_write.proofs.SpansRead.{room, body_size, fde_length, fde_shape, spans_of, span_read, spans_read}
 use Rattle.eh_write.proofs.PartsRead.{FdeAt, AllFdes, nops_in, parts_read}
 
 -- what ends at the stop stands alone before it
@@ -71,9 +71,9 @@ one_fde tables part c q cie address end f rest at_cie at_fde behind below low go
     let split : size ≡ 4 + length rest_of = ap length shape ∙ length-append d rest_of ∙ ap (λ n. n + length rest_of) four in
     let place : address ≡ part.address + q = sym at_fde in
     let from_rest : From part stop (q + 4 + 4) (described tables (part.address + q) k f) =
-      next_stands (take stop part.bytes) (q + 4) d rest_of from_distance ∙ ap (λ a. described tables a k f) place in
+    next_stands (take stop part.bytes) (q + 4) d rest_of from_distance ∙ ap (λ a. described tables a k f) place in
     let ends : stop ≡ q + 4 + 4 + length (described tables (part.address + q) k f) =
-      omega (arith, split) ∙ ap (λ a. q + 4 + 4 + length (described tables a k f)) place in
+    omega (arith, split) ∙ ap (λ a. q + 4 + 4 + length (described tables a k f)) place in
     let read' = fde_read tables c part q stop cie end k f good words (omega (arith, at_cie, at_fde, behind)) (omega (arith, at_fde, long, below)) low from_rest ends in
     record {
       back = back;
@@ -97,9 +97,10 @@ all_fdes tables part c q cie address end (f ∷ fs) rest at_cie at_fde behind be
     let size = body_size tables cie address f in
     let first : drop q part.bytes ≡ x ++ (xs ++ rest) = here ∙ append_assoc x xs rest in
     let second : drop (q + 4 + size) part.bytes ≡ xs ++ rest =
-      ap (λ n. drop n part.bytes) (let e : q + 4 + size ≡ q + length x = omega (arith, long) in e) ∙ next_stands part.bytes q x (xs ++ rest) first in
-    (one_fde tables part c q cie address end f (xs ++ rest) at_cie at_fde behind (omega (arith, below, both)) low good.0 words.0 first,
-     all_fdes tables part c (q + 4 + size) cie (address + length x) end fs rest at_cie (omega (arith, at_fde, long)) (omega (arith, behind)) (omega (arith, below, both)) low good.1 words.1 second)
+    ap (λ n. drop n part.bytes) (let e : q + 4 + size ≡ q + length x = omega (arith, long) in e) ∙ next_stands part.bytes q x (xs ++ rest) first in (
+      one_fde tables part c q cie address end f (xs ++ rest) at_cie at_fde behind (omega (arith, below, both)) low good.0 words.0 first,
+      all_fdes tables part c (q + 4 + size) cie (address + length x) end fs rest at_cie (omega (arith, at_fde, long)) (omega (arith, behind)) (omega (arith, below, both)) low good.1 words.1 second,
+    )
 
 -- the CIE behind its length
 abbrev cie_body : Bool → List ℕ
@@ -131,12 +132,14 @@ small_size false = omega arith
 
 cie_read : (tables : Bool) (part : Part) (c stop : ℕ) → From part stop (c + 4) (cie_body tables) → stop ≡ c + 4 + cie_size tables →
     (in_frames (fixed w32) part stop (c + 4) ≡ Ok (0, c + 4 + 4)) × (cie_at part c stop (c + 4 + 4) ≡ Ok (read.cie_of tables part c))
-cie_read true part c stop here ends =
-    (in_four part stop (c + 4) 0 (drop 8 (cie_bytes true)) (omega arith) here,
-     with_tables part c stop (c + 4 + 4) (behind_by part stop (c + 4) 4 (cie_body true) here) (omega (arith, ends)))
-cie_read false part c stop here ends =
-    (in_four part stop (c + 4) 0 (drop 8 (cie_bytes false)) (omega arith) here,
-     without_tables part c stop (c + 4 + 4) (behind_by part stop (c + 4) 4 (cie_body false) here) (omega (arith, ends)))
+cie_read true part c stop here ends = (
+  in_four part stop (c + 4) 0 (drop 8 (cie_bytes true)) (omega arith) here,
+  with_tables part c stop (c + 4 + 4) (behind_by part stop (c + 4) 4 (cie_body true) here) (omega (arith, ends)),
+)
+cie_read false part c stop here ends = (
+  in_four part stop (c + 4) 0 (drop 8 (cie_bytes false)) (omega arith) here,
+  without_tables part c stop (c + 4 + 4) (behind_by part stop (c + 4) 4 (cie_body false) here) (omega (arith, ends)),
+)
 
 frames_length : (list : ListedFrames) (address : ℕ) →
     length (frames_bytes list address) ≡ length (cie_bytes list.lsda) + length (fdes_bytes list.lsda address (address + length (cie_bytes list.lsda)) list.frames) + 4
@@ -175,7 +178,7 @@ frames_read list address part c rest can words at here =
     let body_here : drop (c + 4) part.bytes ≡ cie_body tables ++ (x ++ more) = next_stands part.bytes c (to_le_bytes w32 size) (cie_body tables ++ (x ++ more)) shaped in
     let body_long = cie_length tables in
     let fdes_here : drop stop part.bytes ≡ x ++ more =
-      ap (λ n. drop n part.bytes) (let e : stop ≡ c + 4 + length (cie_body tables) = omega (arith, body_long) in e) ∙ next_stands part.bytes (c + 4) (cie_body tables) (x ++ more) body_here in
+    ap (λ n. drop n part.bytes) (let e : stop ≡ c + 4 + length (cie_body tables) = omega (arith, body_long) in e) ∙ next_stands part.bytes (c + 4) (cie_body tables) (x ++ more) body_here in
     let some = some_size tables in
     let n = length part.bytes - 1 in
     let fits = room part.bytes (c + 4) (cie_body tables) (x ++ more) (omega (arith, some, body_long)) body_here in
@@ -184,10 +187,10 @@ frames_read list address part c rest can words at here =
     let four : length (to_le_bytes w32 0) ≡ 4 = refl in
     let end_fits = room part.bytes (stop + length x) (to_le_bytes w32 0) rest (omega arith) zero_here in
     let spans : spans_within (length part.bytes) part c ≡ record { list = record { at = c; stop = stop } ∷ spans_of tables address first stop list.frames; cut = [] } =
-      ap (λ m. spans_within m part c) counted ∙
-      span_read part c n size (cie_body tables) (x ++ more) body_long some (small_size tables) shaped ∙
-      ap (and_spans (record { at = c; stop = stop }))
-        (spans_read tables part address first stop n list.frames rest (omega (arith, low, long)) (omega (arith, no_more_frames tables address first list.frames, end_fits, some)) fdes_here) in
+    ap (λ m. spans_within m part c) counted ∙
+    span_read part c n size (cie_body tables) (x ++ more) body_long some (small_size tables) shaped ∙
+    ap (and_spans (record { at = c; stop = stop }))
+    (spans_read tables part address first stop n list.frames rest (omega (arith, low, long)) (omega (arith, no_more_frames tables address first list.frames, end_fits, some)) fdes_here) in
     let cie = cie_read tables part c stop (alone part (c + 4) stop (cie_body tables) (x ++ more) body_here (omega (arith, body_long))) refl in
     let fdes = all_fdes tables part c stop address first end list.frames more at (omega (arith, at, cie_long)) (omega (arith, some)) (omega (arith, long)) low can.frames words fdes_here in
     parts_read tables part c stop address first address end list.frames spans cie.0 cie.1 fdes can.frames can.apart list refl
@@ -201,5 +204,5 @@ writes_frames list address words can memory has = by_part (part_with memory addr
         IsSomeAnd found (λ part. FramesStand list (parts_at part (address - part.address)))
     by_part None is has = absurd has
     by_part (Some part) is (rest, here) =
-      let below = found_covers memory address part is in
-      frames_read list address part (address - part.address) rest can words (omega (arith, below)) here
+        let below = found_covers memory address part is in
+        frames_read list address part (address - part.address) rest can words (omega (arith, below)) here

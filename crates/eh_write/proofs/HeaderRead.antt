@@ -52,8 +52,8 @@ row_read part start p row rest low location fde here =
     let first : drop p part.bytes ≡ distance_bytes start row.location ++ (distance_bytes start row.fde ++ rest) = here ∙ append_assoc (distance_bytes start row.location) (distance_bytes start row.fde) rest in
     let second : drop (p + 4) part.bytes ≡ distance_bytes start row.fde ++ rest = next_stands part.bytes p (distance_bytes start row.location) (distance_bytes start row.fde ++ rest) first in
     rw (distance_in part p start row.location (distance_bytes start row.fde ++ rest) first)
-      (rw (distance_in part (p + 4) start row.fde rest second)
-        (rw (from_start_is start row.location low location) (rw (from_start_is start row.fde low fde) refl)))
+    (rw (distance_in part (p + 4) start row.fde rest second)
+    (rw (from_start_is start row.location low location) (rw (from_start_is start row.fde low fde) refl)))
 
 rows_read : (part : Part) (start p : ℕ) (rows : List HdrRow) (rest : List ℕ) → IsLow start → AllByRecursion (λ row. IsLow row.location × IsLow row.fde) rows →
     drop p part.bytes ≡ flat_map (row_bytes start) rows ++ rest → rows_within (length rows) part start p ≡ record { rows = rows; cut = [] }
@@ -93,9 +93,9 @@ encodings_read : (part : Part) (p : ℕ) (rest : List ℕ) → drop p part.bytes
 unfolding encodings_at
 encodings_read part p rest here =
     rw (byte_in part p 1 (0x1b ∷ 0x03 ∷ 0x3b ∷ rest) here)
-      (rw (byte_in part (p + 1) 0x1b (0x03 ∷ 0x3b ∷ rest) (later part.bytes p 1 (1 ∷ 0x1b ∷ 0x03 ∷ 0x3b ∷ rest) here))
-        (rw (byte_in part (p + 2) 0x03 (0x3b ∷ rest) (later part.bytes p 2 (1 ∷ 0x1b ∷ 0x03 ∷ 0x3b ∷ rest) here))
-          (rw (byte_in part (p + 3) 0x3b rest (later part.bytes p 3 (1 ∷ 0x1b ∷ 0x03 ∷ 0x3b ∷ rest) here)) refl)))
+    (rw (byte_in part (p + 1) 0x1b (0x03 ∷ 0x3b ∷ rest) (later part.bytes p 1 (1 ∷ 0x1b ∷ 0x03 ∷ 0x3b ∷ rest) here))
+    (rw (byte_in part (p + 2) 0x03 (0x3b ∷ rest) (later part.bytes p 2 (1 ∷ 0x1b ∷ 0x03 ∷ 0x3b ∷ rest) here))
+    (rw (byte_in part (p + 3) 0x3b rest (later part.bytes p 3 (1 ∷ 0x1b ∷ 0x03 ∷ 0x3b ∷ rest) here)) refl)))
 
 -- the pointer leads to the frames, which don't stand at the pointer
 pointer_read : (frames_at place : ℕ) → IsLow frames_at → IsLow place → frames_at ≢ place →
@@ -104,8 +104,8 @@ pointer_read frames_at place low there other = by_zero (distance place frames_at
   where
     by_zero : (b : Bool) → (distance place frames_at == 0) ≡ b → (if b then 0 else (place + extended 4 (distance place frames_at)) % 2 ^ 64) ≡ frames_at
     by_zero true e =
-      let none : distance place frames_at ≡ 0 = grind (arith, nat_tests, e) in
-      absurd (other (none_between place frames_at (low_near place frames_at there low) (ap (extended 4) none)))
+        let none : distance place frames_at ≡ 0 = grind (arith, nat_tests, e) in
+        absurd (other (none_between place frames_at (low_near place frames_at there low) (ap (extended 4) none)))
     by_zero false e = from_start_is place frames_at there low
 
 header_read : (rows : List HdrRow) (frames_at address : ℕ) (part : Part) (p : ℕ) (rest : List ℕ) → CanWriteHeader rows frames_at address → part.address + p ≡ address →
@@ -119,14 +119,14 @@ header_read rows frames_at address part p rest can at here =
     let ends = can.ends in
     let whole_header = here ∙ shaped rows frames_at address rest in
     let pointer : drop (p + 4) part.bytes ≡ d ++ (c ++ (xs ++ rest)) =
-      later part.bytes p 4 (1 ∷ 0x1b ∷ 0x03 ∷ 0x3b ∷ (body rows frames_at address ++ rest)) whole_header ∙ append_assoc (d ++ c) xs rest ∙ append_assoc d c (xs ++ rest) in
+    later part.bytes p 4 (1 ∷ 0x1b ∷ 0x03 ∷ 0x3b ∷ (body rows frames_at address ++ rest)) whole_header ∙ append_assoc (d ++ c) xs rest ∙ append_assoc d c (xs ++ rest) in
     let count : drop (p + 4 + 4) part.bytes ≡ c ++ (xs ++ rest) = next_stands part.bytes (p + 4) d (c ++ (xs ++ rest)) pointer in
     let table : drop (p + 4 + 4 + 4) part.bytes ≡ xs ++ rest = next_stands part.bytes (p + 4 + 4) c (xs ++ rest) count in
     let low : IsLow address = omega (arith, ends, long) in
     let place : part.address + (p + 4) ≡ address + 4 = omega (arith, at) in
     let led_to : (if distance (address + 4) frames_at == 0 then 0 else (part.address + (p + 4) + extended 4 (distance (address + 4) frames_at)) % 2 ^ 64) ≡ frames_at =
-      ap (λ q. if distance (address + 4) frames_at == 0 then 0 else (q + extended 4 (distance (address + 4) frames_at)) % 2 ^ 64) place ∙
-      pointer_read frames_at (address + 4) can.frames (omega (arith, ends, long)) (apart can.outside long) in
+    ap (λ q. if distance (address + 4) frames_at == 0 then 0 else (q + extended 4 (distance (address + 4) frames_at)) % 2 ^ 64) place ∙
+    pointer_read frames_at (address + 4) can.frames (omega (arith, ends, long)) (apart can.outside long) in
     ap (with_encodings part p) (encodings_read part p (body rows frames_at address ++ rest) whole_header) ∙
     ap (with_pointer part p (record { pointer = 0x1b; count = 0x03; table = 0x3b })) (distance_in part (p + 4) (address + 4) frames_at (c ++ (xs ++ rest)) pointer) ∙
     ap (λ f. with_rows (Some f) [] (table_rows true part (part.address + p) (p + 4 + 4))) led_to ∙
@@ -147,5 +147,5 @@ writes_header rows frames_at address can memory has = by_part (part_with memory 
         IsSomeAnd found (λ part. header_at part (address - part.address) ≡ record { frames_at = Some frames_at; rows = Some rows; faults = [] })
     by_part None is has = absurd has
     by_part (Some part) is (rest, here) =
-      let below = found_covers memory address part is in
-      header_read rows frames_at address part (address - part.address) rest can (omega (arith, below)) here
+        let below = found_covers memory address part is in
+        header_read rows frames_at address part (address - part.address) rest can (omega (arith, below)) here

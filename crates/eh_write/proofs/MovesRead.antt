@@ -1,5 +1,5 @@
 -- The instructions of a frame's changes are read as they are written.
-use Rattle.std.proofs.Common.{◌≡◌, ◌+◌, ◌-◌, ◌*◌, ◌/◌, ◌%◌, ◌<◌, ◌≤◌, ◌^◌, ◌==◌, ℕ, ℤ, pos, negsuc, zero, suc, Bool, true, false, nat_lt, List, [], ◌∷◌, ◌++◌, length, take, drop, Ok, Err, Some, refl, ap, sym, ◌∙◌, arith, append_assoc, if◌then◌else◌, length-append}
+use Rattle.std.proofs.Common.{◌≡◌, ◌+◌, ◌-◌, ◌*◌, ◌/◌, ◌%◌, ◌<◌, ◌≤◌, ◌^◌, ◌==◌, ℕ, ℤ, pos, negsuc, zero, suc, Bool, true, false, nat_lt, List, [], ◌∷◌, ◌++◌, length, take, Ok, Err, Some, refl, ap, sym, ◌∙◌, arith, append_assoc, if◌then◌else◌, length-append}
 use Rattle.std.specs.Prelude.{replicate, unsigned_abs, ◌*ℤ◌}
 use Rattle.std.specs.Int.{w32, to_le_bytes}
 use Rattle.std.specs.List.{AllByRecursion}
@@ -13,11 +13,11 @@ use Rattle.eh_bytes.specs.Leb128.{is_i64}
 use Rattle.eh_bytes.specs.Memory.{Part}
 use Rattle.eh_bytes.specs.Spelling.{uleb_spelling}
 use Rattle.table_forms.specs.declared.found.Rule.TheVariants as rules
-use Rattle.table_forms.specs.Fault.{Fault, fault, ◌>>=◌, demand}
+use Rattle.table_forms.specs.Fault.{fault, ◌>>=◌}
 use Rattle.table_forms.specs.Instruction.{Instruction, nop, advance, set_cfa_offset, set_rule, Coding, in_range, unsigned_offset, register_at, extended, operands, instruction_at}
-use Rattle.table_forms.specs.Instructions.{Instructions, states_after, and_instructions, instructions_after, instructions_from, instructions_within}
-use Rattle.eh_write.specs.WrittenFrames.{advance_bytes, change_bytes, moves_bytes}
-use Rattle.eh_write.specs.CanWriteFrames.{IsOffset, IsSlot, ChangeIsGood}
+use Rattle.table_forms.specs.Instructions.{states_after, and_instructions, instructions_after, instructions_from, instructions_within}
+use Rattle.eh_write.specs.WrittenFrames.{change_bytes, moves_bytes}
+use Rattle.eh_write.specs.CanWriteFrames.{IsSlot, ChangeIsGood}
 use Rattle.eh_write.specs.Fits.{HasOffset}
 use Rattle.eh_write.proofs.Reading.{next_stands}
 use Rattle.eh_write.proofs.FrameFields.{From, in_byte, in_uleb, in_four}
@@ -42,7 +42,7 @@ unfolding instruction_at operands extended
 long_advance part stop p steps rest small here =
     let five : p + 1 + 4 ≡ p + 5 = omega arith in
     rw (in_byte part stop p 0x04 (to_le_bytes w32 steps ++ rest) here)
-      (rw (in_four part stop (p + 1) steps rest small (next part stop p (0x04 ∷ []) (to_le_bytes w32 steps ++ rest) here)) (ap (λ q. Ok (advance (steps * 4), q)) five))
+    (rw (in_four part stop (p + 1) steps rest small (next part stop p (0x04 ∷ []) (to_le_bytes w32 steps ++ rest) here)) (ap (λ q. Ok (advance (steps * 4), q)) five))
 
 fits_offset : (n : ℕ) → n < 2 ^ 31 → is_i64 (pos n) ≡ true
 fits_offset n small = grind (arith, nat_tests, small)
@@ -64,7 +64,7 @@ offset_read : (part : Part) (stop p n : ℕ) (rest : List ℕ) → n < 2 ^ 31 �
 unfolding instruction_at operands extended
 offset_read part stop p n rest small here =
     rw (in_byte part stop p 0x0e (uleb_spelling n ++ rest) here)
-      (ap (λ r. r >>= (λ x. Ok (set_cfa_offset x.0, x.1))) (plain_offset part stop (p + 1) n rest small (next part stop p (0x0e ∷ []) (uleb_spelling n ++ rest) here)))
+    (ap (λ r. r >>= (λ x. Ok (set_cfa_offset x.0, x.1))) (plain_offset part stop (p + 1) n rest small (next part stop p (0x0e ∷ []) (uleb_spelling n ++ rest) here)))
 
 -- the factored offset of a place at or below the CFA
 slot_factored : (z : ℤ) → IsSlot z → pos (unsigned_abs z / 8) *ℤ negsuc 7 ≡ z
@@ -86,9 +86,9 @@ saved_read part stop p r z rest few slot fits here =
     let high : (128 + r % 64) / 64 ≡ 2 = omega (arith, few) in
     let low : (128 + r % 64) % 64 ≡ r = omega (arith, few) in
     rw (in_byte part stop p (128 + r % 64) (uleb_spelling k ++ rest) here)
-      (rw (high, low)
-        (rw (in_uleb part stop (p + 1) k rest (abs_small z fits) (next part stop p ((128 + r % 64) ∷ []) (uleb_spelling k ++ rest) here))
-          (rw (slot_factored z slot) (rw fits refl))))
+    (rw (high, low)
+    (rw (in_uleb part stop (p + 1) k rest (abs_small z fits) (next part stop p ((128 + r % 64) ∷ []) (uleb_spelling k ++ rest) here))
+    (rw (slot_factored z slot) (rw fits refl))))
 
 undefined_read : (part : Part) (stop p r : ℕ) (rest : List ℕ) → r < 64 → From part stop p (0x07 ∷ (uleb_spelling r ++ rest)) →
     instruction_at the_coding part stop p ≡ Ok (set_rule r rules.Undefined, p + 1 + length (uleb_spelling r))
@@ -96,7 +96,7 @@ unfolding instruction_at operands extended register_at
 undefined_read part stop p r rest few here =
     let known : nat_lt r 64 ≡ true = grind (arith, nat_tests, few) in
     rw (in_byte part stop p 0x07 (uleb_spelling r ++ rest) here)
-      (rw (in_uleb part stop (p + 1) r rest (omega (arith, few)) (next part stop p (0x07 ∷ []) (uleb_spelling r ++ rest) here)) (rw known refl))
+    (rw (in_uleb part stop (p + 1) r rest (omega (arith, few)) (next part stop p (0x07 ∷ []) (uleb_spelling r ++ rest) here)) (rw known refl))
 
 pub nop_read : (c : Coding) (part : Part) (stop p : ℕ) (rest : List ℕ) → From part stop p (0 ∷ rest) → instruction_at c part stop p ≡ Ok (nop, p + 1)
 unfolding instruction_at operands extended
@@ -162,7 +162,7 @@ nops_read c part stop p n zero here ends fuel =
     ap (λ q. instructions_within n c part stop q 0) there ∙ ends_read c part stop n
 nops_read c part stop p n (suc k) here ends fuel =
     begins c part stop p n (p + 1) nop (replicate k nop) (omega (arith, ends)) fuel (omega arith) (nop_read c part stop p (replicate k 0) here) refl
-      (λ m enough. nops_read c part stop (p + 1) m k (next part stop p (0 ∷ []) (replicate k 0) here) (omega (arith, ends)) enough)
+    (λ m enough. nops_read c part stop (p + 1) m k (next part stop p (0 ∷ []) (replicate k 0) here) (omega (arith, ends)) enough)
 
 change_states : (change : FrameChange) → states_after (change_instruction change) 0 ≡ Some 0
 change_states (Cfa n) = refl
@@ -201,9 +201,9 @@ moves_read part stop p n location k (m ∷ ms) good words here ends fuel =
     changes : (q j : ℕ) → From part stop q (change ++ others) → stop ≡ q + length (change ++ others) → stop ≤ q + j → Others →
         instructions_within j the_coding part stop q 0 ≡ Ok (record { list = change_instruction m.change ∷ (moves_list m.location ms ++ replicate k nop); states = 0 })
     changes q j from at enough rest =
-      let some = some_bytes m.change in
-      let long = length-append change others in
-      begins the_coding part stop q j (q + length change) (change_instruction m.change) (moves_list m.location ms ++ replicate k nop)
+        let some = some_bytes m.change in
+        let long = length-append change others in
+        begins the_coding part stop q j (q + length change) (change_instruction m.change) (moves_list m.location ms ++ replicate k nop)
         (omega (arith, at, some, long)) enough (omega (arith, some)) (change_read part stop q m.change others good.0 words.0 from) (change_states m.change)
         (λ i more. rest (q + length change) i (next part stop q change others from) (omega (arith, at, long)) more)
 
@@ -212,36 +212,36 @@ moves_read part stop p n location k (m ∷ ms) good words here ends fuel =
         stop ≡ p + length (((if b then (64 + steps) ∷ [] else 0x04 ∷ to_le_bytes w32 steps) ++ change ++ moves_bytes m.location ms) ++ replicate k 0) → Others →
         instructions_within n the_coding part stop p 0 ≡ Ok (record { list = advance (steps * 4) ∷ change_instruction m.change ∷ (moves_list m.location ms ++ replicate k nop); states = 0 })
     by_size true few some from at rest =
-      let x : List ℕ = (64 + steps) ∷ [] in
-      let whole : (x ++ change ++ moves_bytes m.location ms) ++ replicate k 0 ≡ x ++ (change ++ others) =
+        let x : List ℕ = (64 + steps) ∷ [] in
+        let whole : (x ++ change ++ moves_bytes m.location ms) ++ replicate k 0 ≡ x ++ (change ++ others) =
         append_assoc (x ++ change) (moves_bytes m.location ms) (replicate k 0) ∙ append_assoc x change others in
-      let there = from ∙ whole in
-      let long : stop ≡ p + (1 + length (change ++ others)) = at ∙ ap (λ ys. p + length ys) whole ∙ (let e : p + suc (length (change ++ others)) ≡ p + (1 + length (change ++ others)) = omega arith in e) in
-      let lt : steps < 64 = grind (arith, nat_tests, few) in
-      begins the_coding part stop p n (p + 1) (advance (steps * 4)) (change_instruction m.change ∷ (moves_list m.location ms ++ replicate k nop))
+        let there = from ∙ whole in
+        let long : stop ≡ p + (1 + length (change ++ others)) = at ∙ ap (λ ys. p + length ys) whole ∙ (let e : p + suc (length (change ++ others)) ≡ p + (1 + length (change ++ others)) = omega arith in e) in
+        let lt : steps < 64 = grind (arith, nat_tests, few) in
+        begins the_coding part stop p n (p + 1) (advance (steps * 4)) (change_instruction m.change ∷ (moves_list m.location ms ++ replicate k nop))
         (omega (arith, long)) fuel (omega arith) (short_advance part stop p steps (change ++ others) lt there) refl
         (λ i more. changes (p + 1) i (next part stop p x (change ++ others) there) (omega (arith, long)) more rest)
     by_size false many some from at rest =
-      let x : List ℕ = 0x04 ∷ to_le_bytes w32 steps in
-      let whole : (x ++ change ++ moves_bytes m.location ms) ++ replicate k 0 ≡ x ++ (change ++ others) =
+        let x : List ℕ = 0x04 ∷ to_le_bytes w32 steps in
+        let whole : (x ++ change ++ moves_bytes m.location ms) ++ replicate k 0 ≡ x ++ (change ++ others) =
         append_assoc (x ++ change) (moves_bytes m.location ms) (replicate k 0) ∙ append_assoc x change others in
-      let there = from ∙ whole in
-      let long : stop ≡ p + (5 + length (change ++ others)) =
+        let there = from ∙ whole in
+        let long : stop ≡ p + (5 + length (change ++ others)) =
         at ∙ ap (λ ys. p + length ys) whole ∙ ap (λ j. p + j) (length-append x (change ++ others)) in
-      begins the_coding part stop p n (p + 5) (advance (steps * 4)) (change_instruction m.change ∷ (moves_list m.location ms ++ replicate k nop))
+        begins the_coding part stop p n (p + 5) (advance (steps * 4)) (change_instruction m.change ∷ (moves_list m.location ms ++ replicate k nop))
         (omega (arith, long)) fuel (omega arith) (long_advance part stop p steps (change ++ others) (omega arith) there) refl
         (λ i more. changes (p + 5) i (next part stop p x (change ++ others) there) (omega (arith, long)) more rest)
 
     by_steps : (b : Bool) → (steps == 0) ≡ b → Others → instructions_within n the_coding part stop p 0 ≡ Ok (record { list = moves_list location (m ∷ ms) ++ replicate k nop; states = 0 })
     by_steps true none rest =
-      let whole : moves_bytes location (m ∷ ms) ++ replicate k 0 ≡ change ++ others =
+        let whole : moves_bytes location (m ∷ ms) ++ replicate k 0 ≡ change ++ others =
         ap (λ b. ((if b then [] else if nat_lt steps 64 then (64 + steps) ∷ [] else 0x04 ∷ to_le_bytes w32 steps) ++ change ++ moves_bytes m.location ms) ++ replicate k 0) none ∙
         append_assoc change (moves_bytes m.location ms) (replicate k 0) in
-      changes p n (here ∙ whole) (ends ∙ ap (λ ys. p + length ys) whole) fuel rest ∙
-      ap (λ b. Ok (record { list = ((if b then [] else advance (steps * 4) ∷ []) ++ change_instruction m.change ∷ moves_list m.location ms) ++ replicate k nop; states = 0 })) (sym none)
+        changes p n (here ∙ whole) (ends ∙ ap (λ ys. p + length ys) whole) fuel rest ∙
+        ap (λ b. Ok (record { list = ((if b then [] else advance (steps * 4) ∷ []) ++ change_instruction m.change ∷ moves_list m.location ms) ++ replicate k nop; states = 0 })) (sym none)
     by_steps false some rest =
-      let whole : moves_bytes location (m ∷ ms) ++ replicate k 0 ≡
-          ((if nat_lt steps 64 then (64 + steps) ∷ [] else 0x04 ∷ to_le_bytes w32 steps) ++ change ++ moves_bytes m.location ms) ++ replicate k 0 =
+        let whole : moves_bytes location (m ∷ ms) ++ replicate k 0 ≡
+        ((if nat_lt steps 64 then (64 + steps) ∷ [] else 0x04 ∷ to_le_bytes w32 steps) ++ change ++ moves_bytes m.location ms) ++ replicate k 0 =
         ap (λ b. ((if b then [] else if nat_lt steps 64 then (64 + steps) ∷ [] else 0x04 ∷ to_le_bytes w32 steps) ++ change ++ moves_bytes m.location ms) ++ replicate k 0) some in
-      by_size (nat_lt steps 64) refl some (here ∙ whole) (ends ∙ ap (λ ys. p + length ys) whole) rest ∙
-      ap (λ b. Ok (record { list = ((if b then [] else advance (steps * 4) ∷ []) ++ change_instruction m.change ∷ moves_list m.location ms) ++ replicate k nop; states = 0 })) (sym some)
+        by_size (nat_lt steps 64) refl some (here ∙ whole) (ends ∙ ap (λ ys. p + length ys) whole) rest ∙
+        ap (λ b. Ok (record { list = ((if b then [] else advance (steps * 4) ∷ []) ++ change_instruction m.change ∷ moves_list m.location ms) ++ replicate k nop; states = 0 })) (sym some)

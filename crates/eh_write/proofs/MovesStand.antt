@@ -1,6 +1,6 @@
 -- The rows of a frame's instructions are those of its changes.
-use Rattle.std.proofs.Common.{◌≡◌, ◌+◌, ◌-◌, ◌*◌, ◌/◌, ◌%◌, ◌<◌, ◌≤◌, ◌^◌, ◌==◌, ℕ, ℤ, pos, negsuc, zero, suc, Bool, true, false, nat_lt, nat_le, List, [], ◌∷◌, ◌++◌, length, refl, ap, sym, ◌∙◌, arith, if◌then◌else◌}
-use Rattle.std.specs.Prelude.{replicate, fold, filter, slice_set}
+use Rattle.std.proofs.Common.{◌≡◌, ◌+◌, ◌-◌, ◌*◌, ◌/◌, ◌%◌, ◌<◌, ◌≤◌, ◌^◌, ◌==◌, ℕ, pos, zero, suc, Bool, true, false, nat_lt, nat_le, List, [], ◌∷◌, ◌++◌, refl, ap, sym, ◌∙◌, arith, if◌then◌else◌}
+use Rattle.std.specs.Prelude.{replicate, fold, filter}
 use Rattle.std.proofs.lemmas.Bool.Decides.{nat_tests}
 use Rattle.eh_bytes.specs.declared.frames.Region64.{Region64}
 use Rattle.eh_bytes.specs.declared.frames.FrameChange.{FrameChange}
@@ -11,7 +11,7 @@ use Rattle.table_forms.specs.Instruction.{Instruction, nop, advance, set_cfa}
 use Rattle.table_forms.specs.Row.{no_rules, first_row, Folding, begun, location_after, after, stepped, with_initial, row_of}
 use Rattle.table_forms.specs.WrittenFrames.{changed, moved_row}
 use Rattle.eh_write.specs.CanWriteFrames.{MovesAreGood}
-use Rattle.eh_write.proofs.MovesRead.{change_instruction, advance_list, moves_list}
+use Rattle.eh_write.proofs.MovesRead.{change_instruction, moves_list}
 
 -- a fold on its way, without states
 abbrev on_way : ℕ → Row → Folding
@@ -65,7 +65,7 @@ unfolding row_after
 moves_stand region pc location k row [] good below two from even low = ap (λ s. s.row) (nops_stay pc location k row below)
 moves_stand region pc location k row (m ∷ ms) good below two from even low =
     by_place (nat_le m.location pc) refl
-      (λ inside. moves_stand region pc m.location k (changed row m.change) ms good.3 inside (still_two row m.change two) good.1.0 good.1.2 low)
+    (λ inside. moves_stand region pc m.location k (changed row m.change) ms good.3 inside (still_two row m.change two) good.1.0 good.1.2 low)
   where
     steps : ℕ
     steps = (m.location - location) / 4 % 2 ^ 32
@@ -75,11 +75,11 @@ moves_stand region pc location k row (m ∷ ms) good below two from even low =
 
     whole : m.location ≡ location + steps * 4
     whole =
-      let order = good.0 in
-      let start = good.1.0 in
-      let inside = good.1.1 in
-      let multiple = good.1.2 in
-      omega (arith, order, start, inside, multiple, from, even, low)
+        let order = good.0 in
+        let start = good.1.0 in
+        let inside = good.1.1 in
+        let multiple = good.1.2 in
+        omega (arith, order, start, inside, multiple, from, even, low)
 
     -- the list of the first change
     shape : (b : Bool) → ((if b then [] else advance (steps * 4) ∷ []) ++ change_instruction m.change ∷ moves_list m.location ms) ++ replicate k nop ≡
@@ -92,35 +92,35 @@ moves_stand region pc location k row (m ∷ ms) good below two from even low =
         fold (stepped pc) (on_way location row) (if b then change_instruction m.change ∷ rest else advance (steps * 4) ∷ change_instruction m.change ∷ rest) ≡
         fold (stepped pc) (on_way m.location (changed row m.change)) rest
     moved inside true none =
-      let same : location ≡ m.location = grind (arith, nat_tests, none, whole) in
-      let le : m.location ≤ pc = grind (arith, nat_tests, inside) in
-      ap (λ l. fold (stepped pc) (stepped pc (on_way l row) (change_instruction m.change)) rest) same ∙
-      ap (λ s. fold (stepped pc) s rest) (change_step pc m.location row m.change le two)
+        let same : location ≡ m.location = grind (arith, nat_tests, none, whole) in
+        let le : m.location ≤ pc = grind (arith, nat_tests, inside) in
+        ap (λ l. fold (stepped pc) (stepped pc (on_way l row) (change_instruction m.change)) rest) same ∙
+        ap (λ s. fold (stepped pc) s rest) (change_step pc m.location row m.change le two)
     moved inside false some =
-      let le : m.location ≤ pc = grind (arith, nat_tests, inside) in
-      let test : nat_lt pc (location + steps * 4) ≡ false = grind (arith, nat_tests, le, whole) in
-      ap (λ b. fold (stepped pc) (stepped pc (if b then record (on_way location row) { stopped = true } else on_way (location + steps * 4) row) (change_instruction m.change)) rest) test ∙
-      ap (λ l. fold (stepped pc) (stepped pc (on_way l row) (change_instruction m.change)) rest) (sym whole) ∙
-      ap (λ s. fold (stepped pc) s rest) (change_step pc m.location row m.change le two)
+        let le : m.location ≤ pc = grind (arith, nat_tests, inside) in
+        let test : nat_lt pc (location + steps * 4) ≡ false = grind (arith, nat_tests, le, whole) in
+        ap (λ b. fold (stepped pc) (stepped pc (if b then record (on_way location row) { stopped = true } else on_way (location + steps * 4) row) (change_instruction m.change)) rest) test ∙
+        ap (λ l. fold (stepped pc) (stepped pc (on_way l row) (change_instruction m.change)) rest) (sym whole) ∙
+        ap (λ s. fold (stepped pc) s rest) (change_step pc m.location row m.change le two)
 
     -- before the move
     waits : nat_le m.location pc ≡ false → (b : Bool) → (steps == 0) ≡ b →
         (fold (stepped pc) (on_way location row) (if b then change_instruction m.change ∷ rest else advance (steps * 4) ∷ change_instruction m.change ∷ rest)).row ≡ row
     waits outside true none = absurd (let gt : pc < m.location = grind (arith, nat_tests, outside) in let z : steps ≡ 0 = grind (arith, nat_tests, none) in omega (arith, gt, z, whole, below))
     waits outside false some =
-      let test : nat_lt pc (location + steps * 4) ≡ true = let gt : pc < m.location = grind (arith, nat_tests, outside) in grind (arith, nat_tests, gt, whole) in
-      ap (λ b. (fold (stepped pc) (if b then record (on_way location row) { stopped = true } else on_way (location + steps * 4) row) (change_instruction m.change ∷ rest)).row) test ∙
-      ap (λ s. s.row) (stays pc (record (on_way location row) { stopped = true }) (change_instruction m.change ∷ rest) refl)
+        let test : nat_lt pc (location + steps * 4) ≡ true = let gt : pc < m.location = grind (arith, nat_tests, outside) in grind (arith, nat_tests, gt, whole) in
+        ap (λ b. (fold (stepped pc) (if b then record (on_way location row) { stopped = true } else on_way (location + steps * 4) row) (change_instruction m.change ∷ rest)).row) test ∙
+        ap (λ s. s.row) (stays pc (record (on_way location row) { stopped = true }) (change_instruction m.change ∷ rest) refl)
 
     by_place : (b : Bool) → nat_le m.location pc ≡ b →
         (m.location ≤ pc → (fold (stepped pc) (on_way m.location (changed row m.change)) rest).row ≡ fold (λ r x. changed r x.change) (changed row m.change) (filter (λ x. nat_le x.location pc) ms)) →
         (fold (stepped pc) (on_way location row) (moves_list location (m ∷ ms) ++ replicate k nop)).row ≡
         fold (λ r x. changed r x.change) row (if b then m ∷ filter (λ x. nat_le x.location pc) ms else filter (λ x. nat_le x.location pc) ms)
     by_place true inside later =
-      ap (λ is. (fold (stepped pc) (on_way location row) is).row) (shape (steps == 0)) ∙ ap (λ s. s.row) (moved inside (steps == 0) refl) ∙ later (grind (arith, nat_tests, inside))
+        ap (λ is. (fold (stepped pc) (on_way location row) is).row) (shape (steps == 0)) ∙ ap (λ s. s.row) (moved inside (steps == 0) refl) ∙ later (grind (arith, nat_tests, inside))
     by_place false outside later =
-      ap (λ is. (fold (stepped pc) (on_way location row) is).row) (shape (steps == 0)) ∙ waits outside (steps == 0) refl ∙
-      sym (ap (fold (λ r x. changed r x.change) row) (none_later region pc m.location ms good.3 (grind (arith, nat_tests, outside))))
+        ap (λ is. (fold (stepped pc) (on_way location row) is).row) (shape (steps == 0)) ∙ waits outside (steps == 0) refl ∙
+        sym (ap (fold (λ r x. changed r x.change) row) (none_later region pc m.location ms good.3 (grind (arith, nat_tests, outside))))
 
 -- the rows of a whole frame, whose CIE says x2 + 0
 pub rows_stand : (region : Region64) (pc common own : ℕ) (ms : List FrameMove) → MovesAreGood region region.start ms → region.start ≤ pc → region.start + region.length ≤ 2 ^ 31 →
@@ -130,7 +130,7 @@ rows_stand region pc common own ms good from low =
     let row : Row = record { cfa_register = 2; cfa_offset = pos 0; rules = no_rules } in
     let test : nat_lt pc region.start ≡ false = grind (arith, nat_tests, from) in
     let cie : fold (stepped pc) (on_way region.start row) (set_cfa 2 (pos 0) ∷ replicate common nop) ≡ on_way region.start row =
-      ap (λ b. fold (stepped pc) (if b then record (on_way region.start row) { stopped = true } else on_way region.start row) (replicate common nop)) test ∙
-      nops_stay pc region.start common row from in
+    ap (λ b. fold (stepped pc) (if b then record (on_way region.start row) { stopped = true } else on_way region.start row) (replicate common nop)) test ∙
+    nops_stay pc region.start common row from in
     ap (λ s. (fold (stepped pc) (with_initial s) (moves_list region.start ms ++ replicate own nop)).row) cie ∙
     moves_stand region pc region.start own row ms good from refl (omega arith) (omega arith) low

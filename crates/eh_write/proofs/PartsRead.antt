@@ -1,11 +1,11 @@
 -- The parts of a written list are read as its frames.
-use Rattle.std.proofs.Common.{◌≡◌, ◌+◌, ◌-◌, ◌*◌, ◌%◌, ◌<◌, ◌≤◌, ◌^◌, ◌==◌, ℕ, zero, suc, Bool, true, false, nat_lt, nat_le, List, [], ◌∷◌, ◌++◌, length, take, drop, map, Ok, Err, Result, Some, refl, ap, sym, subst, ◌∙◌, arith, append_assoc, length-append, if◌then◌else◌}
-use Rattle.std.specs.Prelude.{Option, ⊤, None, replicate, find, flat_map, filter_map, option_map, IsSomeAnd, ◌||◌}
-use Rattle.std.specs.Int.{w32, to_le_bytes}
+use Rattle.std.proofs.Common.{◌≡◌, ◌+◌, ◌-◌, ◌%◌, ◌<◌, ◌==◌, ℕ, zero, suc, Bool, true, false, List, [], ◌∷◌, ◌++◌, length, map, Ok, Err, Result, Some, refl, ap, sym, subst, ◌∙◌, arith, if◌then◌else◌}
+use Rattle.std.specs.Prelude.{Option, ⊤, None, flat_map, filter_map, option_map, ◌||◌}
+use Rattle.std.specs.Int.{w32}
 use Rattle.std.specs.List.{AllByRecursion, AllZip, list_any, cons_option}
 use Rattle.std.proofs.lemmas.Bool.Decides.{nat_tests}
 use Rattle.eh_bytes.specs.declared.frames.Region64.{Region64}
-use Rattle.eh_bytes.specs.Memory.{Part, Memory, part_with}
+use Rattle.eh_bytes.specs.Memory.{Part}
 use Rattle.eh_bytes.specs.Field.{fixed}
 use Rattle.eh_bytes.specs.Listed.{ListedFrame, ListedFrames}
 use Rattle.table_forms.specs.Fault.{Fault, fault}
@@ -13,11 +13,10 @@ use Rattle.table_forms.specs.Instruction.{in_frames}
 use Rattle.table_forms.specs.Spans.{Span, Spans, spans_within, distance_at}
 use Rattle.table_forms.specs.Cie.{Cie, cie_at}
 use Rattle.table_forms.specs.Fde.{Fde, fde_at, region_at, overlap}
-use Rattle.table_forms.specs.Parts.{cie_of, cies_of, cie_behind, Said, said_cie, said_fde, said_behind, said_of, fde_said, cie_said, says, region_behind, region_of, regions_of, overlaps, refusal_said, cie_in, fde_in, Parts, parts_at}
+use Rattle.table_forms.specs.Parts.{cie_of, cies_of, cie_behind, said_cie, said_fde, said_behind, said_of, fde_said, cie_said, says, region_behind, region_of, regions_of, overlaps, refusal_said, cie_in, fde_in, Parts, parts_at}
 use Rattle.table_forms.specs.WrittenFrames.{FdeStands, FramesStand}
-use Rattle.eh_write.specs.WrittenFrames.{fde_body, fde_bytes, fdes_bytes}
+use Rattle.eh_write.specs.WrittenFrames.{fde_body, fde_bytes}
 use Rattle.eh_write.specs.CanWriteFrames.{FrameIsGood, AreApart}
-use Rattle.eh_write.specs.Fits.{HasOffset}
 use Rattle.eh_write.proofs.CieRead as read
 use Rattle.eh_write.proofs.FdeRead.{fde_of, fde_stands}
 use Rattle.eh_write.proofs.SpansRead.{body_size, spans_of}
@@ -161,9 +160,10 @@ fdes_back (f ∷ fs) = ap (λ x. f ∷ x) (fdes_back fs)
 all_stand : (tables : Bool) (part : Part) (c cie address p first end : ℕ) (frames : List ListedFrame) → AllByRecursion (FrameIsGood tables first end) frames →
     AllZip FdeStands frames (fdes_of tables part c cie address p frames)
 all_stand tables part c cie address p first end [] good = tt
-all_stand tables part c cie address p first end (f ∷ fs) good =
-    (fde_stands tables c part p first end (nops_in tables cie address f) f good.0,
-     all_stand tables part c cie (address + length (fde_bytes tables cie address f)) (p + 4 + body_size tables cie address f) first end fs good.1)
+all_stand tables part c cie address p first end (f ∷ fs) good = (
+  fde_stands tables c part p first end (nops_in tables cie address f) f good.0,
+  all_stand tables part c cie (address + length (fde_bytes tables cie address f)) (p + 4 + body_size tables cie address f) first end fs good.1,
+)
 
 -- the CIE and the FDEs of a list from a place on
 pub parts_read : (tables : Bool) (part : Part) (c stop cie address first end : ℕ) (frames : List ListedFrame) →
@@ -186,19 +186,19 @@ parts_read tables part c stop cie address first end frames spans none first_cie 
 
     from_spans : Spans → Parts
     from_spans s =
-      let cies = filter_map (λ x. cie_of part x (distance_at part x)) s.list in
-      let said = map (says part cies) s.list in
-      record {
-        cies = filter_map cie_in said;
-        fdes = filter_map fde_in said;
-        faults = s.cut ++ flat_map refusal_said said ++ overlaps part [] (filter_map (λ x. region_of part cies x (distance_at part x)) s.list);
-      }
+        let cies = filter_map (λ x. cie_of part x (distance_at part x)) s.list in
+        let said = map (says part cies) s.list in
+        record {
+          cies = filter_map cie_in said;
+          fdes = filter_map fde_in said;
+          faults = s.cut ++ flat_map refusal_said said ++ overlaps part [] (filter_map (λ x. region_of part cies x (distance_at part x)) s.list);
+        }
 
     cies_are : filter_map (λ x. cie_of part x (distance_at part x)) (s0 ∷ tail) ≡ one_cie tables part c
     cies_are =
-      ap (λ r. cons_option (cie_of part s0 r) (filter_map (λ x. cie_of part x (distance_at part x)) tail)) none ∙
-      ap (λ r. (c, r) ∷ filter_map (λ x. cie_of part x (distance_at part x)) tail) first_cie ∙
-      ap (λ xs. (c, Ok (read.cie_of tables part c)) ∷ xs) (fdes_no_cies tables part c cie address stop frames all)
+        ap (λ r. cons_option (cie_of part s0 r) (filter_map (λ x. cie_of part x (distance_at part x)) tail)) none ∙
+        ap (λ r. (c, r) ∷ filter_map (λ x. cie_of part x (distance_at part x)) tail) first_cie ∙
+        ap (λ xs. (c, Ok (read.cie_of tables part c)) ∷ xs) (fdes_no_cies tables part c cie address stop frames all)
 
     fdes : List Fde
     fdes = fdes_of tables part c cie address stop frames
@@ -211,19 +211,19 @@ parts_read tables part c stop cie address first end frames spans none first_cie 
 
     regions_are : filter_map (λ x. region_of part (one_cie tables part c) x (distance_at part x)) (s0 ∷ tail) ≡ places tables cie address stop frames
     regions_are =
-      ap (λ r. cons_option (region_of part (one_cie tables part c) s0 r) (filter_map (λ x. region_of part (one_cie tables part c) x (distance_at part x)) tail)) none ∙
-      fdes_regions tables part c cie address stop frames all
+        ap (λ r. cons_option (region_of part (one_cie tables part c) s0 r) (filter_map (λ x. region_of part (one_cie tables part c) x (distance_at part x)) tail)) none ∙
+        fdes_regions tables part c cie address stop frames all
 
     whole : (from_spans read_spans).faults ≡ []
     whole =
-      ap (λ cies. flat_map refusal_said (map (says part cies) (s0 ∷ tail)) ++ overlaps part [] (filter_map (λ x. region_of part cies x (distance_at part x)) (s0 ∷ tail))) cies_are ∙
-      ap (λ said. flat_map refusal_said said ++ overlaps part [] (filter_map (λ x. region_of part (one_cie tables part c) x (distance_at part x)) (s0 ∷ tail))) said_are ∙
-      ap (λ xs. xs ++ overlaps part [] (filter_map (λ x. region_of part (one_cie tables part c) x (distance_at part x)) (s0 ∷ tail))) (fdes_alone fdes) ∙
-      ap (overlaps part []) regions_are ∙ regions_apart tables part cie address stop [] frames apart
+        ap (λ cies. flat_map refusal_said (map (says part cies) (s0 ∷ tail)) ++ overlaps part [] (filter_map (λ x. region_of part cies x (distance_at part x)) (s0 ∷ tail))) cies_are ∙
+        ap (λ said. flat_map refusal_said said ++ overlaps part [] (filter_map (λ x. region_of part (one_cie tables part c) x (distance_at part x)) (s0 ∷ tail))) said_are ∙
+        ap (λ xs. xs ++ overlaps part [] (filter_map (λ x. region_of part (one_cie tables part c) x (distance_at part x)) (s0 ∷ tail))) (fdes_alone fdes) ∙
+        ap (overlaps part []) regions_are ∙ regions_apart tables part cie address stop [] frames apart
 
     fdes_are : (from_spans read_spans).fdes ≡ fdes
     fdes_are =
-      ap (λ cies. filter_map fde_in (map (says part cies) (s0 ∷ tail))) cies_are ∙ ap (filter_map fde_in) said_are ∙ fdes_back fdes
+        ap (λ cies. filter_map fde_in (map (says part cies) (s0 ∷ tail))) cies_are ∙ ap (filter_map fde_in) said_are ∙ fdes_back fdes
 
     stand : AllZip FdeStands frames (from_spans read_spans).fdes
     stand = subst (AllZip FdeStands frames) (sym fdes_are) (all_stand tables part c cie address stop first end frames good)

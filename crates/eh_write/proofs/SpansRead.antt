@@ -1,5 +1,5 @@
 -- Where the parts of a written list stand.
-use Rattle.std.proofs.Common.{◌≡◌, ◌+◌, ◌-◌, ◌*◌, ◌%◌, ◌<◌, ◌≤◌, ◌^◌, ℕ, zero, suc, Bool, true, false, nat_lt, nat_le, List, [], ◌∷◌, ◌++◌, length, take, drop, Ok, Err, Result, refl, ap, sym, ◌∙◌, arith, append_assoc, length-append}
+use Rattle.std.proofs.Common.{◌≡◌, ◌+◌, ◌%◌, ◌<◌, ◌≤◌, ◌^◌, ℕ, zero, suc, Bool, true, nat_lt, nat_le, List, [], ◌∷◌, ◌++◌, length, drop, Ok, refl, ap, ◌∙◌, arith, append_assoc, length-append}
 use Rattle.std.specs.Int.{w32, to_le_bytes}
 use Rattle.std.proofs.Math.Seq.{take-length}
 use Rattle.std.proofs.lemmas.List.{length-drop}
@@ -7,11 +7,10 @@ use Rattle.std.proofs.lemmas.Bool.Decides.{nat_tests}
 use Rattle.eh_bytes.specs.Memory.{Part}
 use Rattle.eh_bytes.specs.Field.{fixed}
 use Rattle.eh_bytes.specs.Listed.{ListedFrame}
-use Rattle.table_forms.specs.Fault.{Fault}
 use Rattle.table_forms.specs.Instruction.{in_frames}
-use Rattle.table_forms.specs.Spans.{Span, Spans, no_spans, and_spans, spans_after, spans_from, spans_within}
+use Rattle.table_forms.specs.Spans.{Span, no_spans, and_spans, spans_after, spans_from, spans_within}
 use Rattle.eh_write.specs.WrittenFrames.{padded, fde_body, fde_bytes, fdes_bytes}
-use Rattle.eh_write.proofs.Reading.{Stands, next_stands}
+use Rattle.eh_write.proofs.Reading.{next_stands}
 use Rattle.eh_write.proofs.FrameFields.{From, in_four}
 
 -- up to the end of a part all its bytes count
@@ -99,7 +98,7 @@ spans_read tables part cie address p (suc n) (f ∷ fs) rest small fuel here =
     let more : List ℕ = xs ++ (to_le_bytes w32 0 ++ rest) in
     let first : drop p part.bytes ≡ x ++ more = here ∙ append_assoc x xs (to_le_bytes w32 0 ++ rest) in
     let second : drop (p + 4 + size) part.bytes ≡ more =
-      ap (λ q. drop q part.bytes) (let e : p + 4 + size ≡ p + length x = omega (arith, long) in e) ∙ next_stands part.bytes p x more first in
+    ap (λ q. drop q part.bytes) (let e : p + 4 + size ≡ p + length x = omega (arith, long) in e) ∙ next_stands part.bytes p x more first in
     span_read part p n size (padded (fde_body tables cie address f)) more refl (some_body tables cie address f) (omega (arith, long, both, small)) (first ∙ fde_shape tables cie address f more (omega (arith, long, both, small))) ∙
     ap (and_spans (record { at = p; stop = p + 4 + size }))
-      (spans_read tables part cie (address + length x) (p + 4 + size) n fs rest (omega (arith, both, small)) (omega (arith, fuel)) second)
+    (spans_read tables part cie (address + length x) (p + 4 + size) n fs rest (omega (arith, both, small)) (omega (arith, fuel)) second)

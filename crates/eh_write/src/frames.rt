@@ -59,7 +59,13 @@ fn put_data(out: &mut Vec<u8>, tables: bool, place: u128, lsda: u64) -> Result<(
 
 // An FDE at a place, behind its length.
 #[tactic(auto, unfolding(crate::specs::WrittenFrames::fde_body))]
-fn body_of(alloc: Global, tables: bool, cie: u128, place: u128, fde: &ListFde) -> Result<Vec<u8>, NoMemory>
+fn body_of(
+    alloc: Global,
+    tables: bool,
+    cie: u128,
+    place: u128,
+    fde: &ListFde,
+) -> Result<Vec<u8>, NoMemory>
     requires order { cie ≤ place }
     requires room { place < 2 ^ 65 }
     ensures bytes { IfOk result (λ body. body.items ≡ padded (fde_body tables cie place (listed_frame fde.now))) }
@@ -78,7 +84,14 @@ fn body_of(alloc: Global, tables: bool, cie: u128, place: u128, fde: &ListFde) -
 
 // Appends an FDE for a place.
 #[tactic(auto, unfolding(crate::specs::WrittenFrames::fde_bytes))]
-fn put_fde(alloc: Global, out: &mut Vec<u8>, tables: bool, cie: u128, place: u128, fde: &ListFde) -> Result<(), NoMemory>
+fn put_fde(
+    alloc: Global,
+    out: &mut Vec<u8>,
+    tables: bool,
+    cie: u128,
+    place: u128,
+    fde: &ListFde,
+) -> Result<(), NoMemory>
     requires order { cie ≤ place }
     requires room { place < 2 ^ 65 }
     ensures bytes { OnOk result (out.new.items ≡ out.old.items ++ fde_bytes tables cie place (listed_frame fde.now)) }
@@ -90,7 +103,13 @@ fn put_fde(alloc: Global, out: &mut Vec<u8>, tables: bool, cie: u128, place: u12
 }
 
 // The FDEs of a list for an address, where `out` has what stands before them.
-fn put_fdes(alloc: Global, out: &mut Vec<u8>, tables: bool, address: u64, fdes: &[ListFde]) -> Result<(), NoMemory>
+fn put_fdes(
+    alloc: Global,
+    out: &mut Vec<u8>,
+    tables: bool,
+    address: u64,
+    fdes: &[ListFde],
+) -> Result<(), NoMemory>
     ensures bytes { OnOk result (out.new.items ≡ out.old.items ++ fdes_bytes tables address (address + length out.old.items) (map listed_frame fdes.now)) }
     ensures words { OnOk result (AllByRecursion (λ f. AllByRecursion (λ m. HasOffset m.change) f.moves) (map listed_frame fdes.now)) }
 {
@@ -111,7 +130,13 @@ fn list_of(alloc: Global, frames: &FrameList, address: u64) -> Result<Vec<u8>, N
 {
     let mut bytes = Vec::new(alloc);
     bytes.extend_from_slice(cie_bytes(frames.lsda))?;
-    put_fdes(alloc, &mut bytes, frames.lsda, address, frames.fdes.as_slice())?;
+    put_fdes(
+        alloc,
+        &mut bytes,
+        frames.lsda,
+        address,
+        frames.fdes.as_slice(),
+    )?;
     bytes.extend_from_slice(0u32.to_le_bytes().as_slice())?;
     Ok(bytes)
 }

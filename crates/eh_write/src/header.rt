@@ -32,7 +32,12 @@ fn put_rows(out: &mut Vec<u8>, rows: &[HdrRow], start: u64) -> Result<(), NoMemo
 
 // The whole header.
 #[tactic(auto, unfolding(crate::specs::WrittenHeader::header_bytes))]
-fn header_of(alloc: Global, rows: &[HdrRow], frames_at: u64, address: u64) -> Result<Vec<u8>, NoMemory>
+fn header_of(
+    alloc: Global,
+    rows: &[HdrRow],
+    frames_at: u64,
+    address: u64,
+) -> Result<Vec<u8>, NoMemory>
     ensures { IfOk result (λ bytes. bytes.items ≡ header_bytes rows.now frames_at address) }
 {
     let count = u32::try_from(rows.len()).map_err(|_| AllocError)?;

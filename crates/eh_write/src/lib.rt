@@ -1,5 +1,6 @@
-//! Writes exception tables in one form: without LPStart, with type entries that are relative to
-//! themselves in four bytes at a multiple of 4, and call sites in ULEB128.
+//! Writes exception tables, frames and their header, each in one form. Tables are without LPStart,
+//! with type entries that are relative to themselves in four bytes at a multiple of 4, and call
+//! sites in ULEB128. Frames have one CIE; the header has a row for each FDE.
 #![tactic(auto)]
 
 mod actions;
@@ -18,5 +19,7 @@ pub use header::write_hdr;
 pub use lsda::write_lsda;
 pub use std::alloc::AllocError as NoMemory;
 
+#[cfg(test)]
+mod frame_tests;
 #[cfg(test)]
 mod tests;

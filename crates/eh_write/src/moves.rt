@@ -8,12 +8,17 @@ use crate::NoMemory;
 use eh_bytes::{FrameChange, FrameMove, put_uleb};
 
 const ADVANCE: u8 = 0x40;
+
 const ADVANCE_FOUR_BYTES: u8 = 0x04;
+
 const UNDEFINED: u8 = 0x07;
+
 const CFA_OFFSET: u8 = 0x0e;
+
 const OFFSET: u8 = 0x80;
 
 const CODE_FACTOR: u64 = 4;
+
 const DATA_FACTOR: u64 = 8;
 
 // Moves the location over so many instructions of four bytes.

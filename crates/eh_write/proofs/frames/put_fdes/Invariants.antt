@@ -8,9 +8,9 @@ use Rattle.eh_write.proofs.frames.put_fdes.Given as goal
 abbrev pub invariant-fdes : goal.invariant-fdes
 invariant-fdes l =
     (l.initial.out.items ++ fdes_bytes l.tables l.address (l.address + length l.initial.out.items) (map listed_frame l.fdes) ≡
-     l.out.items ++ fdes_bytes l.tables l.address (l.address + length l.out.items) (map listed_frame l.rest)) ×
+    l.out.items ++ fdes_bytes l.tables l.address (l.address + length l.out.items) (map listed_frame l.rest)) ×
     (AllByRecursion (λ f. AllByRecursion (λ m. HasOffset m.change) f.moves) (map listed_frame l.rest) →
-     AllByRecursion (λ f. AllByRecursion (λ m. HasOffset m.change) f.moves) (map listed_frame l.fdes))
+    AllByRecursion (λ f. AllByRecursion (λ m. HasOffset m.change) f.moves) (map listed_frame l.fdes))
 
 abbrev pub decreases-fdes : goal.decreases-fdes
 decreases-fdes l = length l.rest
