@@ -28,63 +28,90 @@ impl Random {
     }
 }
 
-fn generated(alloc: Global, random: &mut Random) -> Result<LsdaList, Fail> {
+// Some of them are 0, the others lie above the table's first address.
+fn types(alloc: Global, random: &mut Random) -> Result<Vec<u64>, Fail> {
     let mut types = Vec::new(alloc);
     for _ in 0..random.below(5) + 1 {
         let kind = random.below(3);
-        types.push(if kind == 0 {
-            0
-        } else {
-            0x1_0000 + random.below(0x8000)
-        })?;
+        let address = 0x1_0000 + random.below(0x8000);
+        types.push(if kind == 0 { 0 } else { address })?;
     }
+    Ok(types)
+}
+
+// Lists of so many types, and the filter of each, whose sign is turned.
+fn lists(
+    alloc: Global,
+    random: &mut Random,
+    types: u64,
+) -> Result<(Vec<Vec<u64>>, Vec<i64>), Fail> {
     let mut lists: Vec<Vec<u64>> = Vec::new(alloc);
     let mut firsts = Vec::new(alloc);
     let mut first = 1i64;
     for _ in 0..random.below(4) {
         let mut list = Vec::new(alloc);
         for _ in 0..random.below(4) {
-            list.push(random.below(types.len() as u64) + 1)?;
+            list.push(random.below(types) + 1)?;
         }
         firsts.push(first)?;
         first = first.wrapping_add(list.len() as i64).wrapping_add(1);
         lists.push(list)?;
     }
+    Ok((lists, firsts))
+}
+
+fn filter(random: &mut Random, types: u64, firsts: &[i64]) -> i64 {
+    match random.below(3) {
+        0 => 0,
+        1 => random.below(types) as i64 + 1,
+        _ => {
+            let at = random.below(firsts.len() as u64) as usize;
+            0i64.wrapping_sub(firsts.get(at).copied().unwrap_or(0))
+        }
+    }
+}
+
+fn chains(
+    alloc: Global,
+    random: &mut Random,
+    types: u64,
+    firsts: &[i64],
+) -> Result<Vec<Vec<i64>>, Fail> {
     let mut chains: Vec<Vec<i64>> = Vec::new(alloc);
     for _ in 0..random.below(40) + 1 {
         let mut chain = Vec::new(alloc);
         for _ in 0..random.below(4) + 1 {
-            let filter = match random.below(3) {
-                0 => 0,
-                1 => random.below(types.len() as u64) as i64 + 1,
-                _ => {
-                    let at = random.below(firsts.len() as u64) as usize;
-                    0i64.wrapping_sub(firsts.get(at).copied().unwrap_or(0))
-                }
-            };
-            chain.push(filter)?;
+            chain.push(filter(random, types, firsts))?;
         }
         chains.push(chain)?;
     }
+    Ok(chains)
+}
+
+fn sites(alloc: Global, random: &mut Random, chains: u64) -> Result<Vec<ListSite>, Fail> {
     let mut sites = Vec::new(alloc);
     let mut start = 0u64;
     for _ in 0..random.below(20) {
         start = start.wrapping_add(random.below(20));
         let length = random.below(40);
         let pad = random.below(0x1000);
-        let chain = random.below(chains.len() as u64 + 1);
+        let chain = random.below(chains.saturating_add(1)) as u32;
         sites.push(ListSite {
             start,
             length,
             pad,
-            chain: if chain == 0 {
-                None
-            } else {
-                Some((chain - 1) as u32)
-            },
+            chain: chain.checked_sub(1),
         })?;
         start = start.wrapping_add(length);
     }
+    Ok(sites)
+}
+
+fn generated(alloc: Global, random: &mut Random) -> Result<LsdaList, Fail> {
+    let types = types(alloc, random)?;
+    let (lists, firsts) = lists(alloc, random, types.len() as u64)?;
+    let chains = chains(alloc, random, types.len() as u64, &firsts)?;
+    let sites = sites(alloc, random, chains.len() as u64)?;
     Ok(LsdaList {
         sites,
         chains,

@@ -31,11 +31,12 @@ all_members (n ∷ ns) = (inl refl, all_more (λ k. IsIn k ns) (λ k. IsIn k (n 
 -- what an item gives is among what all give
 pub all_given : {X : Type 0} (f : X → List ℕ) (xs : List X) → AllByRecursion (λ x. AllByRecursion (λ n. IsIn n (flat_map f xs)) (f x)) xs
 all_given f [] = tt
-all_given f (x ∷ xs) =
-    (all_more (λ n. IsIn n (f x)) (λ n. IsIn n (f x ++ flat_map f xs)) (λ n is. in_left n (f x) (flat_map f xs) is) (f x) (all_members (f x)),
-     all_more (λ y. AllByRecursion (λ n. IsIn n (flat_map f xs)) (f y)) (λ y. AllByRecursion (λ n. IsIn n (f x ++ flat_map f xs)) (f y))
-       (λ y holds. all_more (λ n. IsIn n (flat_map f xs)) (λ n. IsIn n (f x ++ flat_map f xs)) (λ n is. in_right n (f x) (flat_map f xs) is) (f y) holds)
-       xs (all_given f xs))
+all_given f (x ∷ xs) = (
+  all_more (λ n. IsIn n (f x)) (λ n. IsIn n (f x ++ flat_map f xs)) (λ n is. in_left n (f x) (flat_map f xs) is) (f x) (all_members (f x)),
+  all_more (λ y. AllByRecursion (λ n. IsIn n (flat_map f xs)) (f y)) (λ y. AllByRecursion (λ n. IsIn n (f x ++ flat_map f xs)) (f y))
+      (λ y holds. all_more (λ n. IsIn n (flat_map f xs)) (λ n. IsIn n (f x ++ flat_map f xs)) (λ n is. in_right n (f x) (flat_map f xs) is) (f y) holds)
+      xs (all_given f xs),
+)
 
 pub all_front : {X : Type 0} (P : X → Type 0) (xs ys : List X) → AllByRecursion P (xs ++ ys) → AllByRecursion P xs
 all_front P [] ys holds = tt

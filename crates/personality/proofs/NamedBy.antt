@@ -43,7 +43,7 @@ indices_named t j =
     let entries = flat_map forms.entries_named (flat_map (λ a. a.1) t.actions) in
     let indices = flat_map (λ l. l.1) t.lists in
     all_kept (Contains (types_named t)) t.lists j
-      (all_more (λ n. IsIn n indices) (Contains (types_named t)) (λ n is. contains n (types_named t) (in_right n entries indices is)) indices (all_members indices))
+    (all_more (λ n. IsIn n indices) (Contains (types_named t)) (λ n is. contains n (types_named t) (in_right n entries indices is)) indices (all_members indices))
 
 -- a site that is found names its action
 found_named : (test : Site → Bool) (sites : List Site) (s : Site) → find test sites ≡ Some s → s.action ≢ 0 → IsIn s.action (filter (λ a. not (a == 0)) (map (λ x. x.action) sites))
@@ -62,14 +62,14 @@ found_named test (r ∷ rs) s found some = by_test (test r) found (λ f. found_n
 
     behind : Acts → IsIn s.action (filter (λ a. not (a == 0)) (r.action ∷ map (λ x. x.action) rs))
     behind is =
-      let rest = filter (λ a. not (a == 0)) (map (λ x. x.action) rs) in
-      cond_both (not (r.action == 0)) (r.action ∷ rest) rest (IsIn s.action) (λ _. inr is) (λ _. is)
+        let rest = filter (λ a. not (a == 0)) (map (λ x. x.action) rs) in
+        cond_both (not (r.action == 0)) (r.action ∷ rest) rest (IsIn s.action) (λ _. inr is) (λ _. is)
 
     first : r ≡ s → IsIn s.action (filter (λ a. not (a == 0)) (r.action ∷ map (λ x. x.action) rs))
     first same =
-      let rest = filter (λ a. not (a == 0)) (map (λ x. x.action) rs) in
-      let e : r.action ≡ s.action = ap (λ x. x.action) same in
-      cond_both (not (r.action == 0)) (r.action ∷ rest) rest (IsIn s.action) (λ _. inl e) (λ passed. absurd (zero_is (r.action == 0) refl passed e))
+        let rest = filter (λ a. not (a == 0)) (map (λ x. x.action) rs) in
+        let e : r.action ≡ s.action = ap (λ x. x.action) same in
+        cond_both (not (r.action == 0)) (r.action ∷ rest) rest (IsIn s.action) (λ _. inl e) (λ passed. absurd (zero_is (r.action == 0) refl passed e))
 
     by_test : (b : Bool) → (if b then Some r else find test rs) ≡ Some s → (find test rs ≡ Some s → Acts) → IsIn s.action (filter (λ a. not (a == 0)) (r.action ∷ map (λ x. x.action) rs))
     by_test true f later = first (some_same r s f)

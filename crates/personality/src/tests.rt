@@ -17,7 +17,9 @@ const REGION: Region64 = Region64 {
 
 // The records of two types, and of one that is derived from the first.
 const BASE: u64 = 0x500;
+
 const OTHER: u64 = 0x600;
+
 const DERIVED: u64 = 0x700;
 
 // Two lists: of the first type, and none. Their filters are -1 and -3.
