@@ -1,0 +1,48 @@
+// Why an image is refused.
+ghost use Rattle.std.specs.Prelude.{◌≡◌};
+
+use std::alloc::AllocError;
+use table_refusals::Refusal;
+use thiserror::Error;
+
+/// Why there is no image.
+#[derive(Clone, Copy, Debug, Drop, PartialEq, Eq, Error)]
+pub enum ImageError {
+    /// The file is refused: a number of docs/TABLES.md, a place in the file, and two locations
+    /// where a header's table and the frames differ, else 0.
+    #[error("image refused: {number} at {place}")]
+    Refused {
+        number: u8,
+        place: u64,
+        location: u64,
+        other: u64,
+    },
+    #[error("no memory")]
+    NoMemory,
+}
+
+impl From<AllocError> for ImageError {
+    ghost use Rattle.elf_image.specs.declared.error.ImageError.TheVariants as errors;
+
+    ghost from_gives = { λ _ e. e ≡ errors.NoMemory };
+
+    fn from(_error: AllocError) -> ImageError {
+        ImageError::NoMemory
+    }
+}
+
+impl From<Refusal> for ImageError {
+    ghost use Rattle.table_refusals.specs.Seen.{fault_of};
+    ghost use Rattle.elf_image.specs.Reports.{reported};
+
+    ghost from_gives = { λ r e. e ≡ reported (fault_of r) };
+
+    fn from(refusal: Refusal) -> ImageError {
+        ImageError::Refused {
+            number: refusal.number,
+            place: refusal.place.min(u64::MAX as u128) as u64,
+            location: refusal.location,
+            other: refusal.other,
+        }
+    }
+}
