@@ -3,7 +3,7 @@ use crate::{ImageError, RuntimeRecord, read_elf};
 use std::alloc::Global;
 use std::test::Fail;
 
-#[derive(Clone, Copy)]
+#[derive(Clone, Copy, Debug)]
 struct Program {
     kind: u32,
     flags: u32,
@@ -81,125 +81,112 @@ fn image(alloc: Global, programs: &[Program], changes: &[(usize, u8)]) -> Result
     Ok(bytes)
 }
 
-fn number_of(read: Result<crate::Elf, ImageError>) -> (u8, u64) {
-    match read {
+// The number and place of the refusal; 0 where there is none.
+fn refusal(
+    alloc: Global,
+    programs: &[Program],
+    changes: &[(usize, u8)],
+    run: bool,
+) -> Result<(u8, u64), Fail> {
+    let file = image(alloc, programs, changes)?;
+    Ok(match read_elf(alloc, &file, run) {
         Ok(_) => (0, 0),
         Err(ImageError::Refused { number, place, .. }) => (number, place),
         Err(ImageError::NoMemory) => (255, 0),
-    }
+    })
 }
 
 #[test]
-fn each_refusal(rt: HostRuntime) -> Result<(), Fail> {
+fn changed_bytes(rt: HostRuntime) -> Result<(), Fail> {
     let alloc = rt.alloc();
-    let all = [LOAD, FRAMES, RUNTIME];
-    let twice = [LOAD, FRAMES, LOAD];
-    let low = [
-        Program {
-            address: 0x8000,
-            ..LOAD
-        },
-        Program {
-            address: 0x8300,
-            ..FRAMES
-        },
-        RUNTIME,
-    ];
-    let long = [
-        Program {
-            memory_size: 0x4000_0001,
-            ..LOAD
-        },
-        FRAMES,
-        RUNTIME,
-    ];
-    let large = [
-        Program {
-            memory_size: 0x400_0001,
-            ..LOAD
-        },
-        FRAMES,
-        RUNTIME,
-    ];
-    let short = [
-        Program {
-            memory_size: 0x3ff,
-            ..LOAD
-        },
-        FRAMES,
-        RUNTIME,
-    ];
-    let behind = [Program { offset: 1, ..LOAD }, FRAMES, RUNTIME];
-    let high = [
-        Program {
-            address: 0xffff_ffff_ffff_fe00,
-            ..LOAD
-        },
-        FRAMES,
-        RUNTIME,
-    ];
-    let outside = [
-        LOAD,
-        Program {
-            address: 0x1_0500,
-            ..FRAMES
-        },
-        RUNTIME,
-    ];
-    let stub = [
-        LOAD,
-        FRAMES,
-        Program {
-            offset: 0x321,
-            ..RUNTIME
-        },
-    ];
-    let none: [(usize, u8); 0] = [];
     let rows = [
-        (all.as_slice(), none.as_slice(), false, (0, 0)),
-        (all.as_slice(), none.as_slice(), true, (0, 0)),
-        (all.as_slice(), [(3, 0)].as_slice(), false, (60, 0)),
-        (all.as_slice(), [(4, 1)].as_slice(), false, (61, 4)),
-        (all.as_slice(), [(5, 2), (16, 1)].as_slice(), false, (61, 4)),
-        (all.as_slice(), [(16, 1)].as_slice(), false, (63, 16)),
-        (all.as_slice(), [(18, 62)].as_slice(), false, (62, 18)),
-        (all.as_slice(), [(33, 4)].as_slice(), false, (63, 32)),
-        (all.as_slice(), [(54, 64)].as_slice(), false, (63, 54)),
-        (all.as_slice(), [(56, 0)].as_slice(), false, (63, 56)),
-        (all.as_slice(), [(56, 65)].as_slice(), false, (63, 32)),
-        (behind.as_slice(), none.as_slice(), false, (64, 64)),
-        (short.as_slice(), none.as_slice(), false, (64, 64)),
-        (long.as_slice(), none.as_slice(), false, (64, 64)),
-        (high.as_slice(), none.as_slice(), false, (66, 0)),
-        (low.as_slice(), none.as_slice(), false, (68, 176)),
-        (low.as_slice(), none.as_slice(), true, (64, 64)),
-        (large.as_slice(), none.as_slice(), true, (64, 64)),
-        (twice.as_slice(), none.as_slice(), false, (65, 176)),
-        (outside.as_slice(), none.as_slice(), false, (66, 0)),
-        (
-            all.as_slice(),
-            [(0x302, 255), (0x303, 255)].as_slice(),
-            true,
-            (66, 0),
-        ),
-        (
-            all.as_slice(),
-            [(0x302, 255), (0x303, 255)].as_slice(),
-            false,
-            (0, 0),
-        ),
-        (&twice[..2], none.as_slice(), true, (67, 0)),
-        (stub.as_slice(), none.as_slice(), false, (68, 176)),
-        (all.as_slice(), [(0x328, 0x42)].as_slice(), false, (68, 176)),
-        (all.as_slice(), [(0x329, 5)].as_slice(), false, (68, 176)),
+        ([(3, 0x46), (4, 2)], false, (0, 0)),
+        ([(3, 0x46), (4, 2)], true, (0, 0)),
+        ([(3, 0), (4, 1)], false, (60, 0)),
+        ([(4, 1), (5, 1)], false, (61, 4)),
+        ([(5, 2), (16, 1)], false, (61, 4)),
+        ([(16, 1), (18, 62)], false, (63, 16)),
+        ([(18, 62), (33, 4)], false, (62, 18)),
+        ([(33, 4), (54, 64)], false, (63, 32)),
+        ([(54, 64), (56, 0)], false, (63, 54)),
+        ([(56, 0), (57, 0)], false, (63, 56)),
+        ([(56, 65), (57, 0)], false, (63, 32)),
+        ([(0x302, 255), (0x303, 255)], true, (66, 0)),
+        ([(0x302, 255), (0x303, 255)], false, (0, 0)),
+        ([(0x302, 255), (0x303, 0)], true, (0, 0)),
+        ([(0x320, 2), (0x321, 0)], false, (68, 176)),
+        ([(0x328, 0x42), (0x329, 0)], false, (68, 176)),
+        ([(0x328, 0x40), (0x329, 5)], false, (68, 176)),
     ];
-    for (programs, changes, run, wanted) in rows {
-        let file = image(alloc, programs, changes)?;
-        let found = number_of(read_elf(alloc, &file, run));
+    for (changes, run, wanted) in rows {
+        let found = refusal(alloc, &[LOAD, FRAMES, RUNTIME], &changes, run)?;
         assert_eq!(rt; found, wanted, "{changes:?}, {run}");
     }
     let empty: [u8; 0] = [];
-    assert_eq!(rt; number_of(read_elf(alloc, &empty, false)), (60, 0));
+    let read = read_elf(alloc, &empty, false).expect_err(&rt, "an empty file");
+    assert_eq!(rt; read.to_string(alloc)?.as_str(), "image refused: 60 at 0");
+    Ok(())
+}
+
+const LOW: Program = Program {
+    address: 0x8000,
+    ..LOAD
+};
+
+const LOW_FRAMES: Program = Program {
+    address: 0x8300,
+    ..FRAMES
+};
+
+const LONG: Program = Program {
+    memory_size: 0x4000_0001,
+    ..LOAD
+};
+
+const LARGE: Program = Program {
+    memory_size: 0x400_0001,
+    ..LOAD
+};
+
+const SHORT: Program = Program {
+    memory_size: 0x3ff,
+    ..LOAD
+};
+
+const CUT: Program = Program { offset: 1, ..LOAD };
+
+const OUTSIDE: Program = Program {
+    address: 0x1_0500,
+    ..FRAMES
+};
+
+const MOVED: Program = Program {
+    offset: 0x321,
+    ..RUNTIME
+};
+
+#[test]
+fn program_headers(rt: HostRuntime) -> Result<(), Fail> {
+    let alloc = rt.alloc();
+    let rows = [
+        ([CUT, FRAMES, RUNTIME], false, (64, 64)),
+        ([SHORT, FRAMES, RUNTIME], false, (64, 64)),
+        ([LONG, FRAMES, RUNTIME], false, (64, 64)),
+        ([LOW, LOW_FRAMES, RUNTIME], false, (68, 176)),
+        ([LOW, LOW_FRAMES, RUNTIME], true, (64, 64)),
+        ([LARGE, FRAMES, RUNTIME], true, (64, 64)),
+        ([LOAD, FRAMES, LOAD], false, (65, 176)),
+        ([LOAD, FRAMES, LOAD], true, (67, 0)),
+        ([LOAD, OUTSIDE, RUNTIME], false, (66, 0)),
+        ([LOAD, OUTSIDE, FRAMES], false, (66, 0)),
+        ([LOAD, FRAMES, OUTSIDE], false, (0, 0)),
+        ([LOAD, FRAMES, OUTSIDE], true, (67, 0)),
+        ([LOAD, FRAMES, MOVED], false, (68, 176)),
+    ];
+    for (programs, run, wanted) in rows {
+        let found = refusal(alloc, &programs, &[], run)?;
+        assert_eq!(rt; found, wanted, "{programs:?}, {run}");
+    }
     Ok(())
 }
 
