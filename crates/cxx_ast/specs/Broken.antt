@@ -1,6 +1,7 @@
 -- The rules that a program breaks, by number and place: those of each declaration, over what the declarations before it make known, those on names
 -- that are declared once only, and those on `main` and on functions that are used.
-use Rattle.std.specs.Prelude.{ℕ, ◌≡◌, Bool, true, false, not, ◌&&◌, ◌||◌, ◌==◌, List, [], ◌∷◌, ◌++◌, length, bytes_eq, codes, Option, Some, None, find, if◌then◌else◌}
+use Rattle.std.specs.Prelude.{ℕ, ◌≡◌, Bool, true, false, not, ◌&&◌, ◌||◌, ◌==◌, List, [], ◌∷◌, ◌++◌, length, bytes_eq, codes, Option, Some, None, if◌then◌else◌}
+use Rattle.cxx_ast.specs.declared.name.Name.{Name}
 use Rattle.cxx_ast.specs.declared.types.Ty.TheVariants.{Int}
 use Rattle.cxx_ast.specs.Plain.{Function, Declaration, class_declaration, global_declaration, function_declaration, Program}
 use Rattle.cxx_ast.specs.Environment.{Kind, same_kind, Passing, Signature, function_thing, Entry, Environment}
@@ -9,8 +10,8 @@ use Rattle.cxx_ast.specs.Rule.{redeclared, specification_mismatch, no_main, not_
 use Rattle.cxx_ast.specs.Finding.{Finding, breaks, uses, breaks_if}
 use Rattle.cxx_ast.specs.TypeNames.{signature, has_body}
 use Rattle.cxx_ast.specs.Locals.{outermost}
-use Rattle.cxx_ast.specs.Declare.{declare_behind, declare_all, at_the_start, body_environment}
-use Rattle.cxx_ast.specs.FunctionRules.{function_found}
+use Rattle.cxx_ast.specs.Declare.{declare_behind, definitions, at_the_start, body_environment}
+use Rattle.cxx_ast.specs.FunctionRules.{function_found, has_text}
 use Rattle.cxx_ast.specs.ClassRules.{same_test, is_taken, class_rules_found}
 use Rattle.cxx_ast.specs.DeclaredNames.{once_only_found}
 
@@ -84,21 +85,20 @@ has_main [] = false
 has_main (function_declaration f ∷ ds) = is_main f || has_main ds
 has_main (d ∷ ds) = has_main ds
 
--- a function that is used, by its first declaration
-abbrev pub used_found : Environment → Option Signature → List (ℕ × ℕ)
-used_found env None = []
-used_found env (Some s) = if defined_in env.signatures s.name.text then [] else (not_defined, s.name.place) ∷ []
+-- a function that is used, by the name of its first declaration, and is none of those that are defined
+abbrev pub used_found : List (List ℕ) → Name → List (ℕ × ℕ)
+used_found defined n = if has_text n.text defined then [] else (not_defined, n.place) ∷ []
 
 -- the rules that are broken, and those functions that are used and never defined
-abbrev pub pairs : Environment → List Finding → List (ℕ × ℕ)
-pairs env [] = []
-pairs env (breaks number place ∷ found) = (number, place) ∷ pairs env found
-pairs env (uses text ∷ found) = used_found env (find (λ s. bytes_eq s.name.text text) env.signatures) ++ pairs env found
+abbrev pub pairs : List (List ℕ) → List Finding → List (ℕ × ℕ)
+pairs defined [] = []
+pairs defined (breaks number place ∷ found) = (number, place) ∷ pairs defined found
+pairs defined (uses n ∷ found) = used_found defined n ++ pairs defined found
 
 -- each rule that a program breaks
 unfoldable pub broken : Program → List (ℕ × ℕ)
 broken p =
-    pairs (declare_all (at_the_start p.declarations) p.declarations)
+    pairs (definitions p.declarations)
     (declarations_found (at_the_start p.declarations) p.declarations ++ once_only_found p.declarations ++ breaks_if (not (has_main p.declarations)) no_main p.length)
 
 -- a program breaks no rule

@@ -40,7 +40,7 @@ ints_found (a ∷ more) = int_found a ++ ints_found more
 abbrev pub handler_meant : ℕ → Meaning → List Finding
 handler_meant place unknown = breaks unknown_name place ∷ []
 handler_meant place (a_function s) =
-    uses s.name.text ∷ breaks_if (bytes_eq s.name.text (codes "main")) main_use place
+    uses s.name ∷ breaks_if (bytes_eq s.name.text (codes "main")) main_use place
     ++ breaks_if (not (same_kind s.result void_kind && length s.parameters == 0)) handler_form place
 handler_meant place _ = breaks handler_form place ∷ []
 
@@ -91,7 +91,7 @@ meant_valued env sc thrown n given unknown = broken_call (breaks unknown_name n.
 meant_valued env sc thrown n given (a_method k i s) = call_valued env s n.place given
 meant_valued env sc thrown n given (a_function s) =
     let v = if bytes_eq n.text (codes "main") then broken_call (breaks main_use n.place ∷ []) given else call_valued env s n.place given in
-    record { kind = v.kind; found = uses n.text ∷ v.found }
+    record { kind = v.kind; found = uses s.name ∷ v.found }
 meant_valued env sc thrown n given (a_class k) = construction_valued env thrown k n.place n.place given
 meant_valued env sc thrown n given (a_builtin b) = builtin_valued env sc b n.place given
 meant_valued env sc thrown n given _ = broken_call (breaks type_mismatch n.place ∷ []) given

@@ -1,0 +1,54 @@
+//! The static rules of a program, part by part: names and scopes, types and conversions, references and const, calls and
+//! constructions, statements and handlers, initialisers and bodies. Each call says which refusal answers for its part of the
+//! tree: the broken rule at the least place, and there the least number.
+#![tactic(auto)]
+
+mod call;
+mod construct;
+mod entry;
+mod environment;
+mod expression;
+mod found;
+mod function;
+mod handler;
+mod initialiser;
+mod judgement;
+mod kind;
+mod lookup;
+mod lvalue;
+mod meaning;
+mod member;
+mod names;
+mod object_call;
+mod reference;
+mod rule;
+mod scope;
+mod simple;
+mod statement;
+#[cfg(test)]
+mod tests;
+mod texts;
+mod thrown;
+mod types;
+
+pub use construct::construction_found;
+pub use entry::{ClassEntry, Field, Passing, Signature};
+pub use environment::Environment;
+pub use expression::{all_judged, judged};
+pub use found::{Found, Refusal};
+pub use function::{body_found, params_twice};
+pub use judgement::{Judged, Reached, Target, Valued};
+pub use kind::Kind;
+pub use lookup::Meaning;
+pub use lvalue::reached;
+pub use meaning::{look, member_meaning, own_meaning};
+pub use member::derives;
+pub use names::{Names, Thing};
+pub use rule::Rule;
+pub use scope::{Scope, Variable};
+pub use statement::statements;
+pub use std::alloc::AllocError as NoMemory;
+pub use texts::Texts;
+pub use types::{
+    class_found, class_of_name, head_types_found, passing, signature, type_found, type_kind,
+};
