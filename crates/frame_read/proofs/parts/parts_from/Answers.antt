@@ -1,0 +1,32 @@
+use Rattle.std.proofs.Common.{map, option_map, refl, ap, sym, ◌∙◌, arith}
+use Rattle.std.proofs.lemmas.List.Sorted.{IsPermutation-map}
+use Rattle.eh_bytes.specs.Memory.{part_of}
+use Rattle.table_forms.specs.Fault.{least, joined}
+use Rattle.table_forms.specs.Parts.{cies_of}
+use Rattle.frame_read.specs.Reads.{fault_of}
+use Rattle.frame_read.specs.SeenSpan.{spans_seen, cut_of}
+use Rattle.frame_read.specs.SeenPart.{entries_seen}
+use Rattle.frame_read.specs.SeenParts.{parts_seen, placed_seen}
+use Rattle.frame_read.specs.Sweep.{meets_at}
+use Rattle.frame_read.specs.Gathered.{nothing, gathered}
+use Rattle.frame_read.proofs.Joined.{least_cut}
+use Rattle.frame_read.proofs.Overlaps.{sorted_from}
+use Rattle.frame_read.proofs.Wholes.{read_whole}
+use Rattle.frame_read.proofs.parts.parts_from.Goals as goal
+
+pub returns : goal.returns
+returns c =
+    let s = part_of c.args.segment.now in let parts = parts_seen c.in_ok-parts.parts in
+    let spans = c.in_ok-spans.spans.items in let cut = c.in_ok-spans.cut in
+    let entries = c.in_ok-entries.entries.items in let sorted = c.first_overlap.new.regions.items in
+    ap (λ o. record { cies = parts.cies; fdes = parts.fdes; least = o })
+    (c.joined-parts.ensures ∙
+    ap (λ o. joined o (option_map fault_of c.overlap_refusal.result)) (c.joined-refusal.ensures ∙ ap (λ o. joined o parts.least) (sym (least_cut cut))) ∙
+    ap (joined (joined (least (cut_of cut)) parts.least)) (c.overlap_refusal.ensures s refl ∙ ap (option_map (meets_at s)) c.in_ok-overlap.ensures.first)) ∙
+    read_whole s c.args.place (spans_seen spans) (cut_of cut) (entries_seen s entries) parts (map placed_seen sorted)
+    c.in_ok-spans.ensures.spans
+    (c.in_ok-entries.ensures ∙ ap (λ x. cies_of s (spans_seen x)) c.deref.ensures.value)
+    (c.in_ok-parts.ensures ∙ ap (λ x. gathered s (entries_seen s x) nothing (spans_seen c.deref-3.result.now)) c.deref-2.ensures.value ∙
+    ap (λ x. gathered s (entries_seen s entries) nothing (spans_seen x)) c.deref-3.ensures.value)
+    (IsPermutation-map placed_seen c.in_ok-parts.parts.regions.items sorted c.in_ok-overlap.ensures.permutation)
+    (sorted_from sorted c.in_ok-overlap.ensures.order 0 (λ d some. omega arith))

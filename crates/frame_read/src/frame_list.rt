@@ -1,0 +1,52 @@
+// Frames that were read.
+ghost use Rattle.std.specs.Prelude.{◌≡◌, ◌↔◌, true, false, All, Contains, IfSome, IsNone};
+ghost use Rattle.table_forms.specs.Fde.{is_in};
+
+use crate::listed::{Cie, Fde};
+use std::marker::Model;
+
+/// The frames of a memory, of which nothing is refused. Contracts see the list of CIEs and that of
+/// FDEs, in the order of their places.
+#[derive(Drop)]
+pub struct Frames {
+    cies: Vec<Cie>,
+    fdes: Vec<Fde>,
+}
+
+impl Model for Frames {
+    ghost use Rattle.frame_read.specs.ReadsFrames.{Listing};
+
+    ghost Value = { Listing };
+
+    ghost view = { λ f. record { cies = f.cies.items; fdes = f.fdes.items } };
+}
+
+impl Frames {
+    pub(crate) fn of(cies: Vec<Cie>, fdes: Vec<Fde>) -> Frames
+        ensures { result ≡ record { cies = cies.items; fdes = fdes.items } }
+    {
+        Frames { cies, fdes }
+    }
+
+    /// The CIEs, in the order of their places.
+    pub fn cies(&self) -> &[Cie]
+        ensures { result.now ≡ self.now.cies }
+    {
+        self.cies.as_slice()
+    }
+
+    /// The FDEs, in the order of their places.
+    pub fn fdes(&self) -> &[Fde]
+        ensures { result.now ≡ self.now.fdes }
+    {
+        self.fdes.as_slice()
+    }
+
+    /// The FDE whose region holds a place; none exactly where no region holds it.
+    pub fn fde_for(&self, pc: u64) -> Option<Fde>
+        ensures found { IfSome result (λ f. Contains self.now.fdes f × (is_in f.region pc ≡ true)) }
+        ensures none { IsNone result ↔ All (λ f. is_in f.region pc ≡ false) self.now.fdes }
+    {
+        self.fdes.iter().find(|fde| fde.holds(pc)).copied()
+    }
+}
