@@ -4,3 +4,4 @@ pub mod Module
 pub mod Schedule
 pub mod MemStore
 pub mod MemSink
+pub mod Replies

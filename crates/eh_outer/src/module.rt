@@ -1,6 +1,7 @@
 // A module of another language, which answers calls and may raise.
 ghost use Rattle.std.specs.Prelude.{◌≡◌};
 ghost use Rattle.eh_outer.specs.Module.{ModuleView, cleaned, replied, reply_of};
+ghost use Rattle.eh_outer.specs.Replies.{raises};
 
 /// What a module answers to a call.
 #[derive(Clone, Copy, Debug, PartialEq, Eq)]
@@ -9,6 +10,15 @@ pub enum Reply {
     Value(i32),
     /// The call raises a foreign exception with the token.
     Raise(u32),
+}
+
+impl Reply {
+    /// Whether it raises an exception.
+    pub fn raises(&self) -> bool
+        ensures { result ≡ raises self.now }
+    {
+        matches!(self, Reply::Raise(_))
+    }
 }
 
 /// A module that is called from outside its language, and owns the foreign exceptions that it raises.

@@ -1,0 +1,84 @@
+// A module in memory that gives each of its replies once.
+ghost use Rattle.std.specs.Prelude.{◌≡◌, [], IfOk};
+ghost use Rattle.eh_outer.specs.Module.{cleaned, replied, reply_of};
+ghost use Rattle.eh_outer.specs.Replies.{raise_count, raises};
+
+use crate::tokens::Tokens;
+use crate::{Module, NoMemory, Reply};
+use std::alloc::Global;
+use std::marker::Model;
+
+/// Replies in memory, each given once, and the tokens cleaned.
+#[derive(Debug, Drop)]
+pub struct Once {
+    replies: Vec<Reply>,
+    given: usize,
+    tokens: Tokens,
+}
+
+impl Model for Once {
+    ghost use Rattle.std.specs.Prelude.{drop};
+    ghost use Rattle.eh_outer.specs.Module.{ModuleView};
+
+    ghost Value = { ModuleView };
+
+    ghost view = { λ a. record {
+      rest = drop a.given a.replies.items;
+      cleaned = a.tokens.kept;
+      room = a.tokens.room;
+    } };
+}
+
+impl Once {
+    /// A module that gives these replies in order, and has room for as many tokens as they raise.
+    pub fn new(alloc: Global, replies: Vec<Reply>) -> Result<Once, NoMemory>
+        ensures { IfOk result (λ m. m ≡ record { rest = replies.items; cleaned = []; room = raise_count replies.items }) }
+    {
+        let room = replies.iter().filter(|reply| reply.raises()).count();
+        Ok(Once {
+            replies,
+            given: 0,
+            tokens: Tokens::new(alloc, room)?,
+        })
+    }
+}
+
+impl Module for Once {
+    ghost view = { λ m. m };
+
+    fn call(&mut self, _arg: i32) -> Reply {
+        match self.replies.get(self.given) {
+            Some(reply) => {
+                let reply = *reply;
+                self.given += 1;
+                reply
+            }
+            None => Reply::Value(0),
+        }
+    }
+
+    fn cleanup(&mut self, token: u32) {
+        self.tokens.keep(token);
+    }
+}
+
+#[cfg(test)]
+mod tests {
+    use super::*;
+    use std::test::Fail;
+
+    #[test]
+    fn gives_each_reply_once(rt: HostRuntime) -> Result<(), Fail> {
+        let alloc = rt.alloc();
+        let replies = [Reply::Raise(7), Reply::Value(-5)];
+        let mut once = Once::new(alloc, replies.to_vec(alloc)?)?;
+        for want in [replies[0], replies[1], Reply::Value(0), Reply::Value(0)] {
+            assert_eq!(rt; once.call(9), want);
+        }
+        for token in [7, 8] {
+            once.cleanup(token);
+            assert_eq!(rt; once.tokens.as_slice(), [7].as_slice());
+        }
+        Ok(())
+    }
+}
