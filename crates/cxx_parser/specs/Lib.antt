@@ -1,0 +1,14 @@
+pub mod Classes
+pub mod Contexts
+pub mod Expressions
+pub mod Functions
+pub mod Gives
+pub mod Headings
+pub mod Members
+pub mod Operators
+pub mod Reading
+pub mod Signs
+pub mod States
+pub mod Statements
+pub mod Stored
+pub mod Types
