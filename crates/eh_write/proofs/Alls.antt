@@ -5,10 +5,6 @@ use Rattle.std.specs.List.{AllByRecursion}
 use Rattle.std.proofs.lemmas.Bool.{cond_both}
 use Rattle.table_forms.specs.Keys.{add_key, keys}
 
-pub all_more : {X : Type 0} (P Q : X → Type 0) → ((x : X) → P x → Q x) → (xs : List X) → AllByRecursion P xs → AllByRecursion Q xs
-all_more P Q more [] holds = tt
-all_more P Q more (x ∷ xs) holds = (more x holds.0, all_more P Q more xs holds.1)
-
 pub all_append : {X : Type 0} (P : X → Type 0) (xs ys : List X) → AllByRecursion P xs → AllByRecursion P ys → AllByRecursion P (xs ++ ys)
 all_append P [] ys holds others = others
 all_append P (x ∷ xs) ys holds others = (holds.0, all_append P xs ys holds.1 others)

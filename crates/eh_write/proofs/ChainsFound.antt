@@ -16,7 +16,8 @@ use Rattle.table_forms.specs.LsdaChain.{ended, chain_of, links_within, first_rec
 use Rattle.eh_write.specs.Written.{chain_bytes, action_bytes, actions_from}
 use Rattle.eh_write.specs.CanWrite.{ChainIsGood}
 use Rattle.eh_write.specs.Fits.{IsSignedWord}
-use Rattle.eh_write.proofs.Alls.{all_more, all_at}
+use Rattle.table_forms.proofs.Alls.{all_more}
+use Rattle.eh_write.proofs.Alls.{all_at}
 use Rattle.eh_write.proofs.Reading.{Stands, next_stands}
 use Rattle.eh_write.proofs.ChainsRead.{links_of, chain_read}
 use Rattle.eh_write.proofs.Shape.{IsLaid, padding, actions_place, base_place, from_entries}

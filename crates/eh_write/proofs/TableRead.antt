@@ -19,7 +19,8 @@ use Rattle.table_forms.proofs.Kept.{IsIn, in_keys, value_in}
 use Rattle.eh_write.specs.Written.{action_of, actions_from, site_bytes, sites_bytes, action_bytes}
 use Rattle.eh_write.specs.CanWrite.{AreInOrder, ChainIsThere, TypeIsThere, FilterIsThere, ChainIsGood}
 use Rattle.eh_write.specs.Fits.{HasWords}
-use Rattle.eh_write.proofs.Alls.{all_more, all_append, all_flat_map, all_map, all_filter, all_keys, all_at}
+use Rattle.table_forms.proofs.Alls.{all_more, all_members}
+use Rattle.eh_write.proofs.Alls.{all_append, all_flat_map, all_map, all_filter, all_keys, all_at}
 use Rattle.eh_write.proofs.SitesRead.{record_of, records_of, sites_stand}
 use Rattle.eh_write.proofs.Shape.{entries_address, offset_of, sites_place, actions_place, from_actions}
 use Rattle.eh_write.proofs.HeadRead.{types_of, head_of, head_read}
@@ -163,11 +164,6 @@ types_stand list address memory part region p rest named good there lists =
     read : (i : ℕ) → TypeIsThere list i → slice_get list.types (i - 1) ≡ Some (entry_value memory part (head_of list region p) (Some (types_of list p)) i)
     read i some = let t = type_read list address memory part region p rest 0 i good some in t.1 ∙ ap Some (sym (ap value_of t.2))
 
--- each number of a list is in it
-all_in : (ns : List ℕ) → AllByRecursion (λ n. IsIn n ns) ns
-all_in [] = tt
-all_in (n ∷ ns) = (inl refl, all_more (λ k. IsIn k ns) (λ k. IsIn k (n ∷ ns)) (λ k is. inr is) ns (all_in ns))
-
 in_filter : (k : ℕ) (ns : List ℕ) → (k ≡ 0 → ⊥) → IsIn k ns → IsIn k (filter (λ a. not (a == 0)) ns)
 in_filter k [] some is = is
 in_filter k (n ∷ ns) some is =
@@ -279,7 +275,7 @@ table_stands list address memory part region p rest w =
     let filters = filters_there list part h named (actions_are_chains list address part region p rest list.sites w.good w.good.sites) in
     let lists = lists_stand list address part region p rest named w.good filters in
     subst (TableStands list region) (sym is) (record {
-      sites = sites_stand_for list address part region p (sites_place list p) rest table named list.sites w.good w.good.sites refl (all_in named);
+      sites = sites_stand_for list address part region p (sites_place list p) rest table named list.sites w.good w.good.sites refl (all_members named);
       types = types_stand list address memory part region p rest named w.good filters lists;
       lists = lists;
     })

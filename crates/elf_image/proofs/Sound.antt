@@ -8,33 +8,9 @@ use Rattle.eh_bytes.specs.declared.segment.Segment.{Segment}
 use Rattle.eh_bytes.specs.Extent.{Extent, extent_of, extents_of, Holds, AreApart, AreInRange}
 use Rattle.eh_bytes.specs.Memory as memories
 use Rattle.table_forms.specs.Fault.{Fault, is_before, least, joined, unless}
-use Rattle.table_forms.proofs.Least.{least-append}
+use Rattle.table_forms.proofs.Least.{least-append, none_left, none_right, holds}
 use Rattle.elf_image.specs.declared.program.ProgramHeader.{ProgramHeader}
 use Rattle.elf_image.specs.Loads.{part_of, is_placed, meet, one_faults, load_faults, AreSound, Placed}
-
--- of two groups nothing is refused
-pub none_left : (a b : Option Fault) → joined a b ≡ None → a ≡ None
-none_left None b e = refl
-none_left (Some f) None e = e
-none_left (Some f) (Some g) e = absurd (some (is_before f g) e)
-  where
-    some : (b : Bool) → (if b then Some f else Some g) ≡ None → ⊥
-    some true e = absurd cc
-    some false e = absurd cc
-
-none_right : (a b : Option Fault) → joined a b ≡ None → b ≡ None
-none_right None b e = e
-none_right (Some f) None e = refl
-none_right (Some f) (Some g) e = absurd (some (is_before f g) e)
-  where
-    some : (b : Bool) → (if b then Some f else Some g) ≡ None → ⊥
-    some true e = absurd cc
-    some false e = absurd cc
-
-holds : (b : Bool) (n p : ℕ) → least (unless b n p) ≡ None → b ≡ true
-unfolding least
-holds true n p e = refl
-holds false n p e = absurd cc
 
 no_more : (b : Bool) → not b ≡ true → b ≡ false
 no_more true e = cc

@@ -2,7 +2,7 @@
 use Rattle.std.proofs.Common.{◌≡◌, ℕ, Bool, true, List, [], ◌++◌, length, Ok, Err, Result, refl, ap, sym, subst, ◌∙◌}
 use Rattle.std.specs.Prelude.{Some, None}
 use Rattle.table_forms.specs.Fault.{Fault, ◌>>=◌, unless, least, answer}
-use Rattle.table_forms.proofs.Least.{least-append}
+use Rattle.table_forms.proofs.Least.{least-append, none_left}
 use Rattle.elf_image.specs.declared.error.ImageError.{ImageError}
 use Rattle.elf_image.specs.Header.{header_faults}
 use Rattle.elf_image.specs.Programs.{headers_of, loaded, frames_header, runtime_header}
@@ -11,7 +11,7 @@ use Rattle.elf_image.specs.Runtime.{runtime_faults}
 use Rattle.elf_image.specs.Elf.{Image, image_of, segment_faults, faults_to_run, elf}
 use Rattle.elf_image.specs.Reports.{reported}
 use Rattle.elf_image.specs.Reads.{ReadsImage}
-use Rattle.elf_image.proofs.Sound.{none_left, sound}
+use Rattle.elf_image.proofs.Sound.{sound}
 
 abbrev all_faults : Bool → List ℕ → List Fault
 all_faults run file = segment_faults file (headers_of file) ++ faults_to_run run file (headers_of file)

@@ -1,17 +1,17 @@
 -- Where nothing is refused, the addresses of sites are those of 64 bits.
-use Rattle.std.proofs.Common.{◌≡◌, ◌<◌, ◌+◌, ◌^◌, ◌==◌, ◌&&◌, ◌||◌, ℕ, suc, Bool, true, false, nat_le, List, [], ◌∷◌, ◌++◌, map, Option, Some, None, refl, ap, sym, ◌∙◌, arith, if◌then◌else◌}
+use Rattle.std.proofs.Common.{◌≡◌, ◌<◌, ◌+◌, ◌^◌, ◌==◌, ◌&&◌, ◌||◌, ℕ, suc, Bool, true, false, nat_le, List, [], ◌∷◌, ◌++◌, map, None, refl, ap, ◌∙◌, arith}
 use Rattle.std.specs.List.{list_all}
 use Rattle.std.proofs.lemmas.Bool.Decides.{nat_tests}
 use Rattle.eh_bytes.specs.declared.frames.Region64.{Region64}
 use Rattle.eh_bytes.specs.declared.segment.Segment.{Segment}
 use Rattle.eh_bytes.specs.Extent.{AreInRange, extents_of, extent_of}
 use Rattle.eh_bytes.specs.Memory.{Part, part_of, covers, is_code}
-use Rattle.table_forms.specs.Fault.{Fault, least, joined, unless, is_before}
+use Rattle.table_forms.specs.Fault.{least, unless}
 use Rattle.table_forms.specs.LsdaHead.{Head}
 use Rattle.table_forms.specs.LsdaSites.{SiteRecord, site_of, site_faults, site_records}
 use Rattle.table_forms.specs.declared.found.Site.{Site}
 use Rattle.table_forms.specs.Lsda.{records_faults, action_faults, table_faults}
-use Rattle.table_forms.proofs.Least.{least-append}
+use Rattle.table_forms.proofs.Least.{none_first, none_second, holds}
 use Rattle.lsda_read.specs.Names.{site_fits}
 
 -- the first of two tests that both hold
@@ -36,36 +36,6 @@ code_below (s ∷ parts) a range code =
         let c : covers (part_of s) a ≡ true = second s.exec (covers (part_of s) a) here in
         grind (arith, nat_tests, c, r.0)
     by_first false here any later = later any
-
--- of two lists nothing is refused
-none_left : (a b : Option Fault) → joined a b ≡ None → a ≡ None
-none_left None b e = refl
-none_left (Some f) None e = e
-none_left (Some f) (Some g) e = absurd (some (is_before f g) e)
-  where
-    some : (b : Bool) → (if b then Some f else Some g) ≡ None → ⊥
-    some true e = absurd cc
-    some false e = absurd cc
-
-none_right : (a b : Option Fault) → joined a b ≡ None → b ≡ None
-none_right None b e = e
-none_right (Some f) None e = refl
-none_right (Some f) (Some g) e = absurd (some (is_before f g) e)
-  where
-    some : (b : Bool) → (if b then Some f else Some g) ≡ None → ⊥
-    some true e = absurd cc
-    some false e = absurd cc
-
-none_first : (xs ys : List Fault) → least (xs ++ ys) ≡ None → least xs ≡ None
-none_first xs ys e = none_left (least xs) (least ys) (sym (least-append xs ys) ∙ e)
-
-none_second : (xs ys : List Fault) → least (xs ++ ys) ≡ None → least ys ≡ None
-none_second xs ys e = none_right (least xs) (least ys) (sym (least-append xs ys) ∙ e)
-
-holds : (b : Bool) (n p : ℕ) → least (unless b n p) ≡ None → b ≡ true
-unfolding least
-holds true n p e = refl
-holds false n p e = absurd cc
 
 site_is_fit : (parts : List Segment) (place before : ℕ) (region : Region64) (s : Site) → AreInRange (extents_of parts) →
     region.start + region.length < 2 ^ 64 → least (site_faults (map part_of parts) place region before s) ≡ None → site_fits s ≡ true

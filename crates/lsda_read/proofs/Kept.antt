@@ -1,11 +1,10 @@
 -- What a table keeps under the numbers that are named in it.
-use Rattle.std.proofs.Common.{◌≡◌, ◌<◌, ◌==◌, ℕ, ℤ, pos, negsuc, zero, suc, true, false, nat_lt, List, [], ◌∷◌, map, length, slice_index_or, ap, sym, subst, ◌∙◌, arith, ◌⊎◌, inl, inr, if◌then◌else◌}
+use Rattle.std.proofs.Common.{◌≡◌, ◌<◌, ◌==◌, ℕ, ℤ, pos, negsuc, zero, suc, true, List, [], ◌∷◌, map, ap, sym, subst, arith, ◌⊎◌, inl, inr}
 use Rattle.std.specs.Prelude.{Contains, not, filter, flat_map}
 use Rattle.std.proofs.lemmas.Bool.{cond_both}
-use Rattle.std.proofs.lemmas.Bool.Decides.{nat_tests}
 use Rattle.eh_bytes.specs.declared.frames.Region64.{Region64}
 use Rattle.eh_bytes.specs.Memory.{Part, Memory}
-use Rattle.table_forms.specs.Keys.{keys, value_at}
+use Rattle.table_forms.specs.Keys.{value_at}
 use Rattle.table_forms.specs.LsdaHead.{Head}
 use Rattle.table_forms.specs.LsdaSites.{site_of, site_records}
 use Rattle.table_forms.specs.Lsda as forms

@@ -2,11 +2,9 @@
 use Rattle.std.specs.Prelude.{◌≡◌, ◌-◌, ◌^◌, min, Result, Ok, Err, IsErrAnd}
 use Rattle.table_forms.specs.Fault.{Fault}
 use Rattle.table_forms.specs.Lsda.{Table}
-use Rattle.lsda_read.specs.declared.refusal.Refusal.{Refusal}
+use Rattle.table_refusals.specs.declared.Refusal.{Refusal}
+use Rattle.table_refusals.specs.Seen.{fault_of}
 use Rattle.lsda_read.specs.declared.error.TableError.{TableError}
-
-abbrev pub fault_of : Refusal → Fault
-fault_of e = record { number = e.number; place = e.place; location = 0; other = 0 }
 
 -- it gives what is read, seen by view, or its first refusal
 abbrev pub Reads : {X Y : Type 0} → (X → Y) → Result X Refusal → Result Y Fault → Type 0

@@ -5,17 +5,17 @@ ghost use Rattle.table_forms.specs.LsdaChain.{first_record};
 ghost use Rattle.table_forms.specs.Fault.{least};
 ghost use Rattle.table_forms.specs.Lsda.{filters_of};
 ghost use Rattle.lsda_read.specs.Rests.{chain_rest};
-ghost use Rattle.lsda_read.specs.Reads.{fault_of};
+ghost use Rattle.table_refusals.specs.Seen.{fault_of};
 ghost use Rattle.lsda_read.specs.Heads.{head_seen};
 ghost use Rattle.lsda_read.specs.Left.{filters_left, next_place, and_filters};
 
 use crate::action::action_here;
 use crate::filter::filter_refusal;
 use crate::head::Head;
-use crate::refusal::{Refusal, joined, refused};
 use eh_bytes::{Segment, Segments};
 use std::marker::Model;
 use table_forms::{Action, Next};
+use table_refusals::{Refusal, joined, refused};
 
 /// What is refused in the chain of an action that a site at this place names.
 pub fn chain_refusal(

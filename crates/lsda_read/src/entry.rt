@@ -4,13 +4,14 @@ ghost use Rattle.eh_bytes.specs.Memory.{part_of, memory_of};
 ghost use Rattle.table_forms.specs.LsdaTypes.{entry_at, followed};
 ghost use Rattle.table_forms.specs.Lsda.{entry_value};
 ghost use Rattle.table_forms.specs.Fault.{least, refusal_of};
-ghost use Rattle.lsda_read.specs.Reads.{Reads, fault_of};
+ghost use Rattle.table_refusals.specs.Seen.{fault_of};
+ghost use Rattle.lsda_read.specs.Reads.{Reads};
 ghost use Rattle.lsda_read.specs.Heads.{head_seen, types_of};
 
 use crate::field::encoded_at;
 use crate::head::{Head, Types};
-use crate::refusal::{Refusal, refused};
 use eh_bytes::{Pointer, Segment, Segments};
+use table_refusals::{Refusal, refused};
 
 // An address, or the word that is stored there.
 fn followed(memory: &Segments, place: u128, pointer: Pointer) -> Result<u64, Refusal>

@@ -6,8 +6,9 @@ ghost use Rattle.eh_bytes.specs.Encoded.{encoded};
 ghost use Rattle.table_forms.specs.Fault.{numbered, table_number};
 ghost use Rattle.lsda_read.specs.Reads.{Reads};
 
-use crate::refusal::{Refusal, field_refusal};
+use crate::refusal::field_refusal;
 use eh_bytes::{Pointer, RawCursor};
+use table_refusals::Refusal;
 
 /// The byte at a place, and the place behind it.
 pub fn byte_at(bytes: &[u8], file_at: u64, place: usize) -> Result<(u8, usize), Refusal>

@@ -3,15 +3,15 @@ ghost use Rattle.std.specs.Prelude.{◌≡◌, ◌+◌, ◌<◌, ◌^◌, option
 ghost use Rattle.eh_bytes.specs.Memory.{part_of, memory_of};
 ghost use Rattle.table_forms.specs.LsdaTypes.{filter_faults, list_at, list_faults};
 ghost use Rattle.table_forms.specs.Fault.{least};
-ghost use Rattle.lsda_read.specs.Reads.{fault_of};
+ghost use Rattle.table_refusals.specs.Seen.{fault_of};
 ghost use Rattle.lsda_read.specs.Heads.{head_seen, types_of};
 ghost use Rattle.lsda_read.specs.Filters.{filter_of, IsInRange};
 
 use crate::entry::entry_refusal;
 use crate::head::{Head, Types};
 use crate::list::list_refusal;
-use crate::refusal::{Refusal, refused};
 use eh_bytes::{Segment, Segments};
+use table_refusals::{Refusal, refused};
 
 /// Nothing, an entry of the types, or the list that begins so many bytes behind their base.
 #[derive(Clone, Copy, Drop)]

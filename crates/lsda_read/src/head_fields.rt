@@ -8,8 +8,8 @@ ghost use Rattle.lsda_read.specs.Heads.{head_seen, types_seen};
 
 use crate::field::{byte_at, encoded_at, uleb_at};
 use crate::head::{Head, Types};
-use crate::refusal::{Refusal, refused};
 use eh_bytes::{Region64, Segment};
+use table_refusals::{Refusal, refused};
 
 // Whether it is an encoding.
 fn is_encoding(encoding: u8) -> bool

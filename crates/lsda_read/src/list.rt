@@ -4,15 +4,16 @@ ghost use Rattle.eh_bytes.specs.Memory.{part_of, memory_of};
 ghost use Rattle.table_forms.specs.LsdaTypes.{index_at, indices_within, list_faults};
 ghost use Rattle.table_forms.specs.Lsda.{list_value};
 ghost use Rattle.table_forms.specs.Fault.{least};
-ghost use Rattle.lsda_read.specs.Reads.{Reads, fault_of};
+ghost use Rattle.table_refusals.specs.Seen.{fault_of};
+ghost use Rattle.lsda_read.specs.Reads.{Reads};
 ghost use Rattle.lsda_read.specs.Heads.{head_seen, types_of};
 ghost use Rattle.lsda_read.specs.Left.{indices_left, and_indices};
 
 use crate::entry::entry_refusal;
 use crate::head::{Head, Types};
-use crate::refusal::{Refusal, joined, refused};
 use eh_bytes::{ByteError, RawCursor, Segment, Segments};
 use std::marker::Model;
+use table_refusals::{Refusal, joined, refused};
 
 /// An index of the list that begins at `first`.
 pub fn index_of(segment: &Segment, first: usize, place: usize) -> Result<(u64, usize), Refusal>

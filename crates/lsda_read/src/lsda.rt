@@ -12,11 +12,11 @@ use crate::error::TableError;
 use crate::head::Head;
 use crate::head_fields::head_of;
 use crate::list::SpecList;
-use crate::refusal::{Refusal, refused};
 use crate::sites::Sites;
 use crate::table::table_refusal;
 use eh_bytes::{Region64, Segment, Segments};
 use std::marker::Model;
+use table_refusals::{Refusal, refused};
 
 /// An exception table in its memory, of which nothing is refused. Contracts see its four lists.
 #[derive(Drop)]

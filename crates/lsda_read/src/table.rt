@@ -4,17 +4,17 @@ ghost use Rattle.eh_bytes.specs.Memory.{part_of, memory_of, is_code};
 ghost use Rattle.table_forms.specs.LsdaSites.{site_of, site_faults};
 ghost use Rattle.table_forms.specs.Lsda.{action_faults, table_faults};
 ghost use Rattle.table_forms.specs.Fault.{least};
-ghost use Rattle.lsda_read.specs.Reads.{fault_of};
+ghost use Rattle.table_refusals.specs.Seen.{fault_of};
 ghost use Rattle.lsda_read.specs.Heads.{head_seen};
 ghost use Rattle.lsda_read.specs.Sites.{record_of};
 ghost use Rattle.lsda_read.specs.SiteRests.{site_rest};
 
 use crate::chain::chain_refusal;
 use crate::head::Head;
-use crate::refusal::{Refusal, joined, unless};
 use crate::site::{SiteRecord, record_of};
 use crate::sites::site_bytes;
 use eh_bytes::{Region64, Segment, Segments};
+use table_refusals::{Refusal, joined, unless};
 
 // The address of a pad, or 0.
 fn pad_of(head: &Head, pad: u64) -> u128

@@ -5,6 +5,7 @@ use Rattle.std.specs.List.{AllByRecursion}
 use Rattle.std.proofs.lemmas.Bool.{cond_both}
 use Rattle.table_forms.specs.Keys.{value_at}
 use Rattle.table_forms.proofs.Kept.{IsIn}
+use Rattle.table_forms.proofs.Alls.{all_more, all_members}
 
 pub contains : (k : ℕ) (ns : List ℕ) → IsIn k ns → Contains ns k
 contains k [] is = absurd is
@@ -19,14 +20,6 @@ in_left k (x ∷ xs) ys (inr is) = inr (in_left k xs ys is)
 pub in_right : (k : ℕ) (xs ys : List ℕ) → IsIn k ys → IsIn k (xs ++ ys)
 in_right k [] ys is = is
 in_right k (x ∷ xs) ys is = inr (in_right k xs ys is)
-
-pub all_more : {X : Type 0} (P Q : X → Type 0) → ((x : X) → P x → Q x) → (xs : List X) → AllByRecursion P xs → AllByRecursion Q xs
-all_more P Q more [] holds = tt
-all_more P Q more (x ∷ xs) holds = (more x holds.0, all_more P Q more xs holds.1)
-
-pub all_members : (ns : List ℕ) → AllByRecursion (λ n. IsIn n ns) ns
-all_members [] = tt
-all_members (n ∷ ns) = (inl refl, all_more (λ k. IsIn k ns) (λ k. IsIn k (n ∷ ns)) (λ k is. inr is) ns (all_members ns))
 
 -- what an item gives is among what all give
 pub all_given : {X : Type 0} (f : X → List ℕ) (xs : List X) → AllByRecursion (λ x. AllByRecursion (λ n. IsIn n (flat_map f xs)) (f x)) xs

@@ -12,7 +12,8 @@ use Rattle.table_forms.specs.Lsda.{Table}
 use Rattle.table_forms.specs.Verdict.{site_at}
 use Rattle.table_forms.proofs.Kept.{IsIn}
 use Rattle.personality.specs.Named.{FilterIsNamed, SiteIsNamed}
-use Rattle.personality.proofs.Members.{contains, in_left, in_right, all_more, all_members, all_given, all_kept}
+use Rattle.table_forms.proofs.Alls.{all_more, all_members}
+use Rattle.personality.proofs.Members.{contains, in_left, in_right, all_given, all_kept}
 
 -- the filters of a chain name what is there
 pub filters_named : (t : Table) (a : ℕ) → AllByRecursion (FilterIsNamed t) (value_at [] t.actions a)

@@ -5,3 +5,4 @@ pub mod Beyond
 pub mod RowFold
 mod Worked
 pub mod Kept
+pub mod Alls

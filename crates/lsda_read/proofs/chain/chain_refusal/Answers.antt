@@ -7,7 +7,7 @@ use Rattle.table_forms.specs.declared.found.Action.TheVariants.{Record}
 use Rattle.table_forms.specs.Fault.{fault, least, joined}
 use Rattle.table_forms.specs.LsdaTypes.{filter_faults}
 use Rattle.table_forms.proofs.Least.{joined_joined, joined_none}
-use Rattle.lsda_read.specs.Reads.{fault_of}
+use Rattle.table_refusals.specs.Seen.{fault_of}
 use Rattle.lsda_read.specs.Heads.{head_seen}
 use Rattle.lsda_read.specs.Filters.{IsNear}
 use Rattle.lsda_read.specs.Rests.{chain_rest}

@@ -1,7 +1,7 @@
 use Rattle.std.proofs.Common.{◌+◌, nat_le, option_map, ap, sym, ◌∙◌, ◌++◌, ◌==◌, ◌||◌}
 use Rattle.eh_bytes.specs.Memory.{memory_of, is_code}
 use Rattle.table_forms.specs.Fault.{least, joined, unless}
-use Rattle.lsda_read.specs.Reads.{fault_of}
+use Rattle.table_refusals.specs.Seen.{fault_of}
 use Rattle.lsda_read.proofs.Records.{three}
 use Rattle.lsda_read.proofs.table.site_refusal.Goals as goal
 
