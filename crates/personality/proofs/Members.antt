@@ -1,5 +1,5 @@
 -- Members of lists of numbers, and of what is kept under numbers.
-use Rattle.std.proofs.Common.{◌==◌, ℕ, suc, List, [], ◌∷◌, ◌++◌, refl, arith, inl, inr}
+use Rattle.std.proofs.Common.{◌==◌, ℕ, suc, List, [], ◌∷◌, ◌++◌, arith, inl, inr}
 use Rattle.std.specs.Prelude.{Contains, flat_map}
 use Rattle.std.specs.List.{AllByRecursion}
 use Rattle.std.proofs.lemmas.Bool.{cond_both}
