@@ -2,3 +2,4 @@ mod Joined
 mod Turns
 mod Sound
 mod Whole
+pub mod Sizes

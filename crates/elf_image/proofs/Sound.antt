@@ -1,13 +1,13 @@
 -- Segments of which nothing is refused.
-use Rattle.std.proofs.Common.{◌≡◌, ◌+◌, ◌-◌, ◌<◌, ◌≤◌, ◌^◌, ℕ, zero, suc, Bool, true, false, nat_lt, List, [], ◌∷◌, ◌++◌, length, take, drop, map, refl, ap, sym, subst, ◌∙◌, arith, append_assoc, append-nil, length-append, if◌then◌else◌}
-use Rattle.std.specs.Prelude.{Option, Some, None, slice_get, replicate, not, ◌||◌}
+use Rattle.std.proofs.Common.{◌≡◌, ◌+◌, ◌-◌, ◌<◌, ◌≤◌, ◌^◌, ℕ, zero, suc, Bool, true, false, nat_lt, List, [], ◌∷◌, ◌++◌, length, take, drop, map, refl, ap, sym, subst, ◌∙◌, arith, append_assoc, append-nil, length-append}
+use Rattle.std.specs.Prelude.{Some, None, slice_get, replicate, not, ◌||◌}
 use Rattle.std.specs.List.{list_any, AllByRecursion}
 use Rattle.std.proofs.lemmas.Bool.Decides.{nat_tests}
 use Rattle.std.proofs.lemmas.List.{length-take-le, length-drop, length-replicate}
 use Rattle.eh_bytes.specs.declared.segment.Segment.{Segment}
 use Rattle.eh_bytes.specs.Extent.{Extent, extent_of, extents_of, Holds, AreApart, AreInRange}
 use Rattle.eh_bytes.specs.Memory as memories
-use Rattle.table_forms.specs.Fault.{Fault, is_before, least, joined, unless}
+use Rattle.table_forms.specs.Fault.{least, unless}
 use Rattle.table_forms.proofs.Least.{least-append, none_left, none_right, holds}
 use Rattle.elf_image.specs.declared.program.ProgramHeader.{ProgramHeader}
 use Rattle.elf_image.specs.Loads.{part_of, is_placed, meet, one_faults, load_faults, AreSound, Placed}
@@ -120,7 +120,7 @@ range_seen len (h ∷ hs) short all zero x at =
 range_seen len (h ∷ hs) short all (suc i) x at = range_seen len hs short all.1 i x at
 
 -- the bytes of a segment are as many as its memory size
-size_seen : (file : List ℕ) (h : ProgramHeader) → Placed (length file) h → length (part_of file h).bytes ≡ h.memory_size
+pub size_seen : (file : List ℕ) (h : ProgramHeader) → Placed (length file) h → length (part_of file h).bytes ≡ h.memory_size
 size_seen file h p =
     let inside = p.inside in
     let room = p.room in

@@ -6,3 +6,5 @@ pub mod Runtime
 pub mod Elf
 pub mod Reports
 pub mod Reads
+pub mod Clean
+pub mod Runnable
