@@ -3,3 +3,4 @@ mod Turns
 mod Sound
 mod Whole
 pub mod Sizes
+pub mod Cleaned

@@ -1,7 +1,8 @@
 -- Clean images: all that the bytes of an image stand for, or what is refused first: of the file, then of the header and the frames, then of each exception table in the order of its function's region.
 use Rattle.std.specs.Prelude.{ℕ, ◌==◌, Bool, false, List, [], ◌∷◌, Option, Some, None, Result, Ok, Err, if◌then◌else◌}
+use Rattle.eh_bytes.specs.declared.frames.Region64.{Region64}
 use Rattle.eh_bytes.specs.Memory.{Memory}
-use Rattle.table_forms.specs.Fault.{Fault, ◌>>=◌}
+use Rattle.table_forms.specs.Fault.{Fault, fault, ◌>>=◌}
 use Rattle.table_forms.specs.Lsda.{Table, lsda}
 use Rattle.table_forms.specs.Cie.{Cie}
 use Rattle.table_forms.specs.Fde.{Fde}
@@ -19,13 +20,19 @@ pub record CleanImage : Type 0 where
   pub cies : List Cie
   pub functions : List Function
 
-abbrev pub with_table : Fde → Result Table Fault → Result Function Fault
-with_table f (Ok t) = Ok (record { fde = f; table = Some t })
-with_table f (Err e) = Err e
+-- a table is refused at one place, without locations that differ
+abbrev pub table_read : Result Table Fault → Result (Option Table) Fault
+table_read (Ok t) = Ok (Some t)
+table_read (Err e) = Err (fault e.number e.place)
 
 -- address 0 is no table
+abbrev pub table_named : Memory → ℕ → Region64 → Result (Option Table) Fault
+table_named memory address region = if address == 0 then Ok None else table_read (lsda memory address region)
+
 abbrev pub function_of : Memory → Fde → Result Function Fault
-function_of memory f = if f.lsda == 0 then Ok (record { fde = f; table = None }) else with_table f (lsda memory f.lsda f.region)
+function_of memory f = do
+  table ← table_named memory f.lsda f.region
+  Ok (record { fde = f; table = table })
 
 -- the first table that is refused answers
 abbrev pub functions_of : Memory → List Fde → Result (List Function) Fault
