@@ -19,7 +19,7 @@ abbrev Stands : ℕ → Result Fde Fault → Type 0
 Stands n (Ok f) = f.place ≡ n
 Stands n (Err e) = n ≡ n
 
-abbrev read_fde : Cie → Part → ℕ → Region64 → ℕ → Instructions → Fde
+abbrev pub read_fde : Cie → Part → ℕ → Region64 → ℕ → Instructions → Fde
 read_fde cie part at region lsda is = record {
   address = part.address + at;
   place = part.file_at + at;

@@ -1,4 +1,4 @@
--- A fold of a row on its way over instructions.
+-- A fold on its way over instructions.
 use Rattle.std.proofs.Common.{◌≡◌, ◌≤◌, ◌<◌, ◌+◌, ℕ, zero, suc, Bool, true, false, List, [], ◌∷◌, Option, Some, None, Result, Ok, Err, refl, ap, sym, ◌∙◌, arith, nat_lt, fold}
 use Rattle.std.specs.Prelude.{IsSome, IsOk}
 use Rattle.eh_bytes.specs.Memory.{Part}
@@ -50,38 +50,38 @@ and_list i (Ok rest) k e = refl
 and_list i (Err f) k e = absurd cc
 
 -- a fold on its way: what it gives of the rest is what it gives of all
-pub record Folds (pc : ℕ) (whole : Folding) (k : ℕ) (c : Coding) (part : Part) (stop : ℕ) (s : Folding) (states p : ℕ) : Type 0 where
+pub record Folds {S : Type 0} (step : S → Instruction → S) (whole : S) (k : ℕ) (c : Coding) (part : Part) (stop : ℕ) (s : S) (states p : ℕ) : Type 0 where
   pub fuel : ℕ
   pub enough : stop ≤ p + fuel
-  pub all : whole ≡ fold (stepped pc) s (list_of (instructions_within fuel c part stop p states))
+  pub all : whole ≡ fold step s (list_of (instructions_within fuel c part stop p states))
   pub kept : states_of (instructions_within fuel c part stop p states) ≡ Ok k
 
 -- there is a first instruction, and the states after it are counted
-pub goes_some : {pc : ℕ} {whole : Folding} {k : ℕ} {c : Coding} {part : Part} {stop : ℕ} {s : Folding} {states p : ℕ} (i : Instruction) (next : ℕ) →
-    p < stop → nat_lt p stop ≡ true → instruction_at c part stop p ≡ Ok (i, next) → Folds pc whole k c part stop s states p → IsSome (states_after i states)
-goes_some {pc = pc} {whole = whole} {k = k} {c = c} {part = part} {stop = stop} {s = s} {states = states} {p = p} i next inside inside' read w = by w.fuel w.enough w.kept
+pub goes_some : {S : Type 0} {step : S → Instruction → S} {whole : S} {k : ℕ} {c : Coding} {part : Part} {stop : ℕ} {s : S} {states p : ℕ} (i : Instruction) (next : ℕ) →
+    p < stop → nat_lt p stop ≡ true → instruction_at c part stop p ≡ Ok (i, next) → Folds step whole k c part stop s states p → IsSome (states_after i states)
+goes_some {S = S} {step = step} {whole = whole} {k = k} {c = c} {part = part} {stop = stop} {s = s} {states = states} {p = p} i next inside inside' read w = by w.fuel w.enough w.kept
   where
     by : (n : ℕ) → stop ≤ p + n → states_of (instructions_within n c part stop p states) ≡ Ok k → IsSome (states_after i states)
     by zero enough kept = absurd (omega (arith, enough, inside))
     by (suc n) enough kept = counted c part stop states p n k i next inside' read kept
 
 -- none is refused
-pub goes_whole : {pc : ℕ} {whole : Folding} {k : ℕ} {c : Coding} {part : Part} {stop : ℕ} {s : Folding} {states p : ℕ} (f : Fault) →
-    p < stop → nat_lt p stop ≡ true → instruction_at c part stop p ≡ Err f → Folds pc whole k c part stop s states p → ⊥
-goes_whole {pc = pc} {whole = whole} {k = k} {c = c} {part = part} {stop = stop} {s = s} {states = states} {p = p} f inside inside' read w = by w.fuel w.enough w.kept
+pub goes_whole : {S : Type 0} {step : S → Instruction → S} {whole : S} {k : ℕ} {c : Coding} {part : Part} {stop : ℕ} {s : S} {states p : ℕ} (f : Fault) →
+    p < stop → nat_lt p stop ≡ true → instruction_at c part stop p ≡ Err f → Folds step whole k c part stop s states p → ⊥
+goes_whole {S = S} {step = step} {whole = whole} {k = k} {c = c} {part = part} {stop = stop} {s = s} {states = states} {p = p} f inside inside' read w = by w.fuel w.enough w.kept
   where
     by : (n : ℕ) → stop ≤ p + n → states_of (instructions_within n c part stop p states) ≡ Ok k → ⊥
     by zero enough kept = omega (arith, enough, inside)
     by (suc n) enough kept = let wrong : Err f ≡ Ok k = ap states_of (sym (fails_at c part stop states p n f inside' read)) ∙ kept in cc
 
 -- one instruction on
-pub goes_on : {pc : ℕ} {whole : Folding} {k : ℕ} {c : Coding} {part : Part} {stop : ℕ} {s : Folding} {states p : ℕ} (i : Instruction) (next states' : ℕ) →
+pub goes_on : {S : Type 0} {step : S → Instruction → S} {whole : S} {k : ℕ} {c : Coding} {part : Part} {stop : ℕ} {s : S} {states p : ℕ} (i : Instruction) (next states' : ℕ) →
     p < stop → nat_lt p stop ≡ true → p < next → instruction_at c part stop p ≡ Ok (i, next) → states_after i states ≡ Some states' →
-    Folds pc whole k c part stop s states p → Folds pc whole k c part stop (stepped pc s i) states' next
-goes_on {pc = pc} {whole = whole} {k = k} {c = c} {part = part} {stop = stop} {s = s} {states = states} {p = p} i next states' inside inside' on read counts w = by w.fuel w.enough w.all w.kept
+    Folds step whole k c part stop s states p → Folds step whole k c part stop (step s i) states' next
+goes_on {S = S} {step = step} {whole = whole} {k = k} {c = c} {part = part} {stop = stop} {s = s} {states = states} {p = p} i next states' inside inside' on read counts w = by w.fuel w.enough w.all w.kept
   where
-    by : (n : ℕ) → stop ≤ p + n → whole ≡ fold (stepped pc) s (list_of (instructions_within n c part stop p states)) →
-        states_of (instructions_within n c part stop p states) ≡ Ok k → Folds pc whole k c part stop (stepped pc s i) states' next
+    by : (n : ℕ) → stop ≤ p + n → whole ≡ fold step s (list_of (instructions_within n c part stop p states)) →
+        states_of (instructions_within n c part stop p states) ≡ Ok k → Folds step whole k c part stop (step s i) states' next
     by zero enough all kept = absurd (omega (arith, enough, inside))
     by (suc n) enough all kept =
         let rest = instructions_within n c part stop next states' in
@@ -90,15 +90,15 @@ goes_on {pc = pc} {whole = whole} {k = k} {c = c} {part = part} {stop = stop} {s
         record {
           fuel = n;
           enough = omega (arith, enough, on);
-          all = all ∙ ap (λ r. fold (stepped pc) s (list_of r)) first ∙ ap (fold (stepped pc) s) (and_list i rest k kept');
+          all = all ∙ ap (λ r. fold step s (list_of r)) first ∙ ap (fold step s) (and_list i rest k kept');
           kept = kept';
         }
 
 -- one instruction on, where the fold stops
-pub goes_off : {pc : ℕ} {whole : Folding} {k : ℕ} {c : Coding} {part : Part} {stop : ℕ} {s : Folding} {states p : ℕ} (i : Instruction) (next : ℕ) →
+pub goes_off : (pc : ℕ) {whole : Folding} {k : ℕ} {c : Coding} {part : Part} {stop : ℕ} {s : Folding} {states p : ℕ} (i : Instruction) (next : ℕ) →
     p < stop → nat_lt p stop ≡ true → p < next → instruction_at c part stop p ≡ Ok (i, next) → (stepped pc s i).stopped ≡ true →
-    Folds pc whole k c part stop s states p → whole ≡ stepped pc s i
-goes_off {pc = pc} {whole = whole} {k = k} {c = c} {part = part} {stop = stop} {s = s} {states = states} {p = p} i next inside inside' on read stopped w =
+    Folds (stepped pc) whole k c part stop s states p → whole ≡ stepped pc s i
+goes_off pc {whole = whole} {k = k} {c = c} {part = part} {stop = stop} {s = s} {states = states} {p = p} i next inside inside' on read stopped w =
     by (states_after i states) refl (goes_some i next inside inside' read w)
   where
     by : (o : Option ℕ) → states_after i states ≡ o → IsSome o → whole ≡ stepped pc s i
@@ -108,17 +108,17 @@ goes_off {pc = pc} {whole = whole} {k = k} {c = c} {part = part} {stop = stop} {
         f.all ∙ fold_off pc (stepped pc s i) (list_of (instructions_within f.fuel c part stop next states')) stopped
 
 -- at the end
-pub goes_out : {pc : ℕ} {whole : Folding} {k : ℕ} {c : Coding} {part : Part} {stop : ℕ} {s : Folding} {states p : ℕ} →
-    nat_lt p stop ≡ false → Folds pc whole k c part stop s states p → (whole ≡ s) × (k ≡ states)
-goes_out {pc = pc} {whole = whole} {k = k} {c = c} {part = part} {stop = stop} {s = s} {states = states} {p = p} outside w =
+pub goes_out : {S : Type 0} {step : S → Instruction → S} {whole : S} {k : ℕ} {c : Coding} {part : Part} {stop : ℕ} {s : S} {states p : ℕ} →
+    nat_lt p stop ≡ false → Folds step whole k c part stop s states p → (whole ≡ s) × (k ≡ states)
+goes_out {S = S} {step = step} {whole = whole} {k = k} {c = c} {part = part} {stop = stop} {s = s} {states = states} {p = p} outside w =
     let e = ends_at c part stop states p outside w.fuel in (
-      w.all ∙ ap (λ r. fold (stepped pc) s (list_of r)) e,
+      w.all ∙ ap (λ r. fold step s (list_of r)) e,
       ap states_read (sym w.kept ∙ ap states_of e),
     )
 
-pub starts : (pc : ℕ) (c : Coding) (part : Part) (stop : ℕ) (s : Folding) (states p k : ℕ) → states_of (instructions_within stop c part stop p states) ≡ Ok k →
-    Folds pc (fold (stepped pc) s (list_of (instructions_within stop c part stop p states))) k c part stop s states p
-starts pc c part stop s states p k kept = record { fuel = stop; enough = omega arith; all = refl; kept = kept }
+pub starts : {S : Type 0} (step : S → Instruction → S) (c : Coding) (part : Part) (stop : ℕ) (s : S) (states p k : ℕ) → states_of (instructions_within stop c part stop p states) ≡ Ok k →
+    Folds step (fold step s (list_of (instructions_within stop c part stop p states))) k c part stop s states p
+starts step c part stop s states p k kept = record { fuel = stop; enough = omega arith; all = refl; kept = kept }
 
 abbrev pub count_of : Result Instructions Fault → ℕ
 count_of (Ok is) = is.states

@@ -19,3 +19,7 @@ mod Wholes
 mod Orders
 mod FdesRise
 mod Reading
+mod Again
+mod FoundAgain
+mod Searches
+mod Searched

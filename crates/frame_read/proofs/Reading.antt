@@ -17,13 +17,13 @@ first_of memory p part = least ((header_at part p).faults ++ (parts_there memory
 abbrev pub table_of : Memory → ℕ → Part → Option Fault
 table_of memory p part = table_disagreement (part.file_at + (p + 12)) (header_at part p).rows (parts_there memory p part).fdes
 
-abbrev read_of : Memory → ℕ → Part → Frames
+abbrev pub read_of : Memory → ℕ → Part → Frames
 read_of memory p part = record { cies = (parts_there memory p part).cies; fdes = (parts_there memory p part).fdes }
 
-abbrev frames_by : Memory → ℕ → Part → Option Fault → Option Fault → Result Frames Fault
+abbrev pub frames_by : Memory → ℕ → Part → Option Fault → Option Fault → Result Frames Fault
 frames_by memory p part first table = answer first true >>= λ whole. answer table (read_of memory p part)
 
-by_both : (memory : Memory) (p : ℕ) (part : Part) → frames_in memory p part ≡ frames_by memory p part (first_of memory p part) (table_of memory p part)
+pub by_both : (memory : Memory) (p : ℕ) (part : Part) → frames_in memory p part ≡ frames_by memory p part (first_of memory p part) (table_of memory p part)
 unfolding frames_in
 by_both memory p part = refl
 

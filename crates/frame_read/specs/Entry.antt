@@ -8,7 +8,7 @@ use Rattle.table_forms.specs.Fault.{Fault}
 use Rattle.table_forms.specs.Instruction.{in_frames}
 use Rattle.table_forms.specs.Spans.{Span, distance_at}
 use Rattle.table_forms.specs.Cie.{Cie, cie_at}
-use Rattle.table_forms.specs.Fde.{Fde, fde_at, row_at}
+use Rattle.table_forms.specs.Fde.{Fde, fde_at, row_at, next_location}
 
 abbrev pub ok_of : {A : Type 0} → Result A Fault → Option A
 ok_of (Ok x) = Some x
@@ -42,10 +42,16 @@ fde_from part s _ = None
 unfoldable pub fde_here : Part → ℕ → Option Fde
 fde_here part at = option_and_then (λ s. fde_from part s (distance_at part s)) (span_at part at)
 
--- the row that it gives a place which is not before its region
+-- the FDE whose length stands at an address
+unfoldable pub fde_in : Memory → ℕ → Option Fde
+fde_in memory address = option_and_then (λ part. fde_here part (address - part.address)) (part_with memory address)
+
+-- the row that an FDE gives a place which is not before its region
 abbrev pub row_from : Option Fde → ℕ → Option Row
 row_from None pc = None
 row_from (Some f) pc = if nat_le f.region.start pc then Some (row_at f pc) else None
 
-unfoldable pub row_in : Memory → ℕ → ℕ → Option Row
-row_in memory address pc = option_and_then (λ part. row_from (fde_here part (address - part.address)) pc) (part_with memory address)
+-- the next location of an FDE
+abbrev pub next_from : Option Fde → ℕ → Option ℕ
+next_from None pc = None
+next_from (Some f) pc = next_location f pc

@@ -20,3 +20,5 @@ pub mod SeenSweep
 pub mod Whole
 pub mod Order
 pub mod ReadsFrames
+pub mod Given
+pub mod Search

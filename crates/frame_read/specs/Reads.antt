@@ -1,10 +1,8 @@
 -- What a reader returned, against what the definition reads.
 use Rattle.std.specs.Prelude.{◌≡◌, Result, Ok, Err}
 use Rattle.table_forms.specs.Fault.{Fault}
-use Rattle.frame_read.specs.declared.refusal.Refusal.{Refusal}
-
-abbrev pub fault_of : Refusal → Fault
-fault_of e = record { number = e.number; place = e.place; location = e.location; other = e.other }
+use Rattle.table_refusals.specs.declared.Refusal.{Refusal}
+use Rattle.table_refusals.specs.Seen.{fault_of}
 
 -- it gives what is read, seen by view, or its refusal
 abbrev pub Reads : {X Y : Type 0} → (X → Y) → Result X Refusal → Result Y Fault → Type 0

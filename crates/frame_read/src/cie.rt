@@ -15,10 +15,10 @@ use crate::cie_part::CiePart;
 use crate::field::{byte_at, sleb_at, uleb_at};
 use crate::instruction::Coding;
 use crate::letters::augmented;
-use crate::refusal::{Refusal, refused};
 use crate::states::instructions_of;
 use crate::text::{text_at, wrong_letter};
 use eh_bytes::Segment;
+use table_refusals::{Refusal, refused};
 
 // The number that a byte is.
 fn byte_number(segment: &Segment, stop: usize, place: usize) -> Result<(u64, usize), Refusal>

@@ -14,9 +14,9 @@ use crate::cie_part::CiePart;
 use crate::fde_part::FdePart;
 use crate::field::encoded_at;
 use crate::letters::sized_of;
-use crate::refusal::{Refusal, refused};
 use crate::states::instructions_of;
 use eh_bytes::{Pointer, Region64, Segment};
+use table_refusals::{Refusal, refused};
 
 // A number in the format of an encoding, which applies to no address.
 fn length_at(

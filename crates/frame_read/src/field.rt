@@ -8,8 +8,9 @@ ghost use Rattle.eh_bytes.specs.Encoded.{encoded};
 ghost use Rattle.table_forms.specs.Instruction.{in_frames};
 ghost use Rattle.frame_read.specs.Reads.{Reads};
 
-use crate::refusal::{Refusal, field_refusal};
+use crate::refusal::field_refusal;
 use eh_bytes::{ByteError, Pointer, RawCursor, Segment};
+use table_refusals::Refusal;
 
 /// The byte at a place, and the place behind it.
 pub fn byte_at(segment: &Segment, stop: usize, place: usize) -> Result<(u8, usize), Refusal>

@@ -4,15 +4,16 @@ ghost use Rattle.eh_bytes.specs.Memory.{part_of};
 ghost use Rattle.eh_bytes.specs.Encoded.{extended};
 ghost use Rattle.table_forms.specs.Fault.{least};
 ghost use Rattle.table_forms.specs.Header.{is_bare, encodings_at, encoding_faults, from_start, row_in, rows_within, table_rows, with_encodings, header_at};
-ghost use Rattle.frame_read.specs.Reads.{Reads, fault_of};
+ghost use Rattle.table_refusals.specs.Seen.{fault_of};
+ghost use Rattle.frame_read.specs.Reads.{Reads};
 ghost use Rattle.frame_read.specs.SeenSpan.{cut_of};
 ghost use Rattle.frame_read.specs.SeenHeader.{encodings_seen, rows_seen, summary, header_seen};
 
 use crate::field::{byte_at, u32_at};
 use crate::header_read::{Encodings, HeaderRead};
-use crate::refusal::{Refusal, joined, refused, unless};
 use eh_bytes::{HdrRow, Segment};
 use std::alloc::{AllocError, Global};
+use table_refusals::{Refusal, joined, refused, unless};
 
 // The three encodings behind the version.
 #[tactic(auto, unfolding(table_forms::specs::Header::encodings_at))]

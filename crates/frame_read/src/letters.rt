@@ -8,8 +8,8 @@ ghost use Rattle.frame_read.specs.SeenCie.{letters_seen, lettered_seen};
 
 use crate::augmentation::{Letters, NO_LETTERS};
 use crate::field::{byte_at, encoded_at, uleb_at};
-use crate::refusal::{Refusal, refused};
 use eh_bytes::Segment;
+use table_refusals::{Refusal, refused};
 
 // Whether it is an encoding.
 fn is_encoding(encoding: u8) -> bool

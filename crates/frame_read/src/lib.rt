@@ -13,6 +13,7 @@ mod fde_part;
 mod field;
 mod folding;
 mod frame_list;
+mod frame_row;
 mod frames;
 mod gather;
 mod header;
@@ -32,6 +33,8 @@ mod refusal;
 mod row;
 mod row_fold;
 mod rule;
+mod search;
+mod search_fold;
 mod span;
 mod spans;
 mod states;
@@ -42,8 +45,11 @@ mod text;
 pub use error::FrameError;
 pub use frame_list::Frames;
 pub use listed::{Augmentation, Cie, Fde};
-pub use lookup::row_in;
 pub use read::read_frames;
 
+#[cfg(test)]
+mod list_tests;
+#[cfg(test)]
+mod row_tests;
 #[cfg(test)]
 mod tests;

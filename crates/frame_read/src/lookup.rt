@@ -7,7 +7,7 @@ ghost use Rattle.frame_read.specs.SeenCie.{cie_seen};
 ghost use Rattle.frame_read.specs.SeenFde.{fde_seen};
 ghost use Rattle.frame_read.specs.SeenSpan.{span_seen};
 ghost use Rattle.frame_read.specs.States.{states_of};
-ghost use Rattle.frame_read.specs.Entry.{span_at, cie_here, fde_behind, fde_here, row_from, row_in};
+ghost use Rattle.frame_read.specs.Entry.{span_at, cie_here, fde_behind, fde_here, fde_in, row_from, next_from};
 ghost use Rattle.frame_read.specs.Ready.{here_seen, IsReady};
 
 use crate::cie::cie_of;
@@ -16,6 +16,7 @@ use crate::fde::fde_of;
 use crate::fde_part::FdePart;
 use crate::field::u32_at;
 use crate::row_fold::row_of;
+use crate::search_fold::next_of;
 use crate::span::Span;
 use eh_bytes::{Segment, Segments};
 use table_forms::Row;
@@ -136,12 +137,33 @@ fn row_here(segment: &Segment, at: usize, pc: u64) -> Option<Row>
     }
 }
 
+// The next location of the FDE there.
+fn next_here(segment: &Segment, at: usize, pc: u64) -> Option<u64>
+    requires { at ≤ length segment.now.bytes.items }
+    ensures { result ≡ next_from (fde_here (part_of segment.now) at) pc }
+{
+    match fde_here(segment, at) {
+        None => None,
+        Some(here) => next_of(&here.cie, &here.fde, segment, pc),
+    }
+}
+
 /// The row of a place by the FDE whose length stands at an address: none where no FDE that can be
-/// read stands there, or where the place is before its region (DWARF 5, 6.4.3). No memory is taken.
-#[tactic(auto, unfolding(crate::specs::Entry::row_in))]
+/// read stands there, or where the place is before its region (DWARF 5, 6.4.3).
+#[tactic(auto, unfolding(crate::specs::Entry::fde_in))]
 pub fn row_in(memory: &Segments, address: u64, pc: u64) -> Option<Row>
-    ensures { result ≡ row_in (memory_of memory.now) address pc }
+    ensures { result ≡ row_from (fde_in (memory_of memory.now) address) pc }
 {
     let segment = memory.segment_with(address)?;
     row_here(segment, (address - segment.address) as usize, pc)
+}
+
+/// The next location behind a place by the FDE whose length stands at an address: none where no FDE
+/// that can be read stands there, or where it has none.
+#[tactic(auto, unfolding(crate::specs::Entry::fde_in))]
+pub fn next_in(memory: &Segments, address: u64, pc: u64) -> Option<u64>
+    ensures { result ≡ next_from (fde_in (memory_of memory.now) address) pc }
+{
+    let segment = memory.segment_with(address)?;
+    next_here(segment, (address - segment.address) as usize, pc)
 }

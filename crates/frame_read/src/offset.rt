@@ -5,8 +5,8 @@ ghost use Rattle.table_forms.specs.Instruction.{register_at, in_range, unsigned_
 ghost use Rattle.frame_read.specs.Reads.{Reads};
 
 use crate::field::{sleb_at, uleb_at};
-use crate::refusal::{Refusal, refused};
 use eh_bytes::Segment;
+use table_refusals::{Refusal, refused};
 
 /// A register of 0 to 63.
 #[tactic(auto, unfolding(table_forms::specs::Instruction::register_at))]

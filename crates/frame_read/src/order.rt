@@ -5,13 +5,13 @@ ghost use Rattle.table_forms.specs.Frames.{differs, sorted, disagreement};
 ghost use Rattle.frame_read.specs.Listed.{fde_listed};
 ghost use Rattle.std.specs.List.Sorted.{IsPermutation, IsNonDecreasingBy, IsStableByKey};
 ghost use Rattle.std.specs.Ordering.{nat_cmp};
-ghost use Rattle.frame_read.specs.Reads.{fault_of};
+ghost use Rattle.table_refusals.specs.Seen.{fault_of};
 ghost use Rattle.frame_read.specs.Order.{disagrees, PlacesRise};
 
 use crate::listed::Fde;
-use crate::refusal::Refusal;
 use eh_bytes::HdrRow;
 use std::alloc::{AllocError, Global};
+use table_refusals::Refusal;
 
 // The FDEs by location; those of one location stay as they are.
 fn in_order(alloc: Global, fdes: &[Fde]) -> Result<Vec<Fde>, AllocError>

@@ -16,9 +16,9 @@ use crate::cie_part::CiePart;
 use crate::entry::{CieEntry, Said};
 use crate::fde::{fde_of, region_of};
 use crate::field::u32_at;
-use crate::refusal::{Refusal, refused};
 use crate::span::Span;
 use eh_bytes::{Region64, Segment};
+use table_refusals::{Refusal, refused};
 
 /// The CIE of a part, if it is one.
 pub fn cie_entry(segment: &Segment, span: Span) -> Option<CieEntry<'_>>

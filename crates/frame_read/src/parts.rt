@@ -2,7 +2,7 @@
 ghost use Rattle.std.specs.Prelude.{◌≡◌, ◌+◌, ◌<◌, ◌≤◌, ◌^◌, [], ◌∷◌, All, IfOk, OnOk, length, option_map};
 ghost use Rattle.eh_bytes.specs.Memory.{Part, part_of};
 ghost use Rattle.table_forms.specs.Parts.{cies_of, parts_at};
-ghost use Rattle.frame_read.specs.Reads.{fault_of};
+ghost use Rattle.table_refusals.specs.Seen.{fault_of};
 ghost use Rattle.frame_read.specs.Sweep.{meets_at};
 ghost use Rattle.frame_read.specs.Whole.{whole, whole_seen};
 ghost use Rattle.frame_read.specs.SeenCie.{cie_seen};
@@ -20,11 +20,11 @@ use crate::gather::{PartsRead, Placed};
 use crate::listed::{Augmentation, Cie, Fde};
 use crate::overlap::first_overlap;
 use crate::part::{cie_entry, region_in, said_by};
-use crate::refusal::{Refusal, joined, refused};
 use crate::span::Span;
 use crate::spans::spans_of;
 use eh_bytes::{Region64, Segment};
 use std::alloc::{AllocError, Global};
+use table_refusals::{Refusal, joined, refused};
 
 // A CIE as it is listed.
 fn listed_cie(alloc: Global, segment: &Segment, cie: &CiePart<'_>) -> Result<Cie, AllocError>

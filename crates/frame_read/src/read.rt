@@ -6,7 +6,7 @@ ghost use Rattle.table_forms.specs.Fde as forms;
 ghost use Rattle.table_forms.specs.Parts.{Parts};
 ghost use Rattle.table_forms.specs.Header.{Header};
 ghost use Rattle.table_forms.specs.Frames.{parts_behind, table_disagreement, frames_in, frames};
-ghost use Rattle.frame_read.specs.Reads.{fault_of};
+ghost use Rattle.table_refusals.specs.Seen.{fault_of};
 ghost use Rattle.frame_read.specs.Listed.{fde_listed};
 ghost use Rattle.frame_read.specs.Order.{PlacesRise};
 ghost use Rattle.frame_read.specs.SeenHeader.{summary, header_seen};
@@ -21,9 +21,9 @@ use crate::header::header_of;
 use crate::header_read::HeaderRead;
 use crate::listed::Fde;
 use crate::order;
-use crate::refusal::{Refusal, joined, refused};
 use eh_bytes::{HdrRow, Segment, Segments};
 use std::alloc::{AllocError, Global};
+use table_refusals::{Refusal, joined, refused};
 
 // What the parts say to which the pointer at a place leads.
 #[tactic(auto, unfolding(table_forms::specs::Fault::least))]

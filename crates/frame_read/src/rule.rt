@@ -9,9 +9,9 @@ ghost use Rattle.frame_read.specs.Fits.{Fits};
 
 use crate::instruction::Instruction;
 use crate::offset::{register_of, signed_of, unsigned_of};
-use crate::refusal::Refusal;
 use eh_bytes::Segment;
 use table_forms::Rule;
+use table_refusals::Refusal;
 
 /// A register gets this rule.
 pub fn sets(

@@ -5,10 +5,10 @@ ghost use Rattle.table_forms.specs.Spans.{spans_within};
 ghost use Rattle.frame_read.specs.SeenSpan.{spans_seen, cut_of, IsInside};
 
 use crate::field::u32_at;
-use crate::refusal::{Refusal, refused};
 use crate::span::Span;
 use eh_bytes::Segment;
 use std::alloc::{AllocError, Global};
+use table_refusals::{Refusal, refused};
 
 /// Where the parts stand from a place on, up to the end or to the first that leaves its segment,
 /// and the refusal of that one.

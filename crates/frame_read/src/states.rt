@@ -7,9 +7,9 @@ ghost use Rattle.frame_read.specs.Seen.{coding_seen, instruction_seen};
 ghost use Rattle.frame_read.specs.States.{states_of, with_list};
 
 use crate::instruction::{Coding, Instruction};
-use crate::refusal::{Refusal, refused};
 use crate::step::instruction_of;
 use eh_bytes::Segment;
+use table_refusals::{Refusal, refused};
 
 // How many states are remembered after an instruction, if it may stand there.
 fn states_after(instruction: Instruction, states: u8) -> Option<u8>

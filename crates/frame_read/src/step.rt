@@ -12,12 +12,12 @@ use crate::cfa::{
 use crate::field::{byte_at, uleb_at};
 use crate::instruction::{Coding, Instruction};
 use crate::location::{advances_by_u8, advances_by_u16, advances_by_u32, goes_to};
-use crate::refusal::{Refusal, refused};
 use crate::rule::{
     computes, computes_signed, moves, restores, saves, saves_far, saves_signed, sets,
 };
 use eh_bytes::Segment;
 use table_forms::Rule;
+use table_refusals::{Refusal, refused};
 
 // The size of the arguments, which changes no row.
 fn passes_over_size(

@@ -1,10 +1,11 @@
-// A worked list of frames with its rows, each refusal by a change of it, and instructions with
-// their rows, by hand from DWARF 5, 6.4 and the LSB Core's "Exception Frames".
-use crate::{Fde, FrameError, Frames, read_frames, row_in};
+// A worked list of frames with its rows, and each refusal by a change of it, by hand from DWARF 5,
+// 6.4 and the LSB Core's "Exception Frames".
+use crate::row_tests::{row_there, wanted};
+use crate::{Fde, FrameError, Frames, read_frames};
 use eh_bytes::{Region64, Segment, Segments};
 use std::alloc::Global;
 use std::test::Fail;
-use table_forms::{Row, Rule};
+use table_forms::Rule;
 
 // From byte 0xb0 of a file, at 0x100b0: a header, a CIE, an FDE, and the end of the list.
 static WORKED: &[u8] = b"\x01\x1b\x03\x3b\x10\0\0\0\x01\0\0\0\x5c\0\0\0\x2c\0\0\0\
@@ -12,8 +13,8 @@ static WORKED: &[u8] = b"\x01\x1b\x03\x3b\x10\0\0\0\x01\0\0\0\x5c\0\0\0\x2c\0\0\
 \x18\0\0\0\x1c\0\0\0\x28\0\0\0\x24\0\0\0\x04\x0f\0\0\0\x41\x0e\x10\x81\x01\0\0\
 \0\0\0\0";
 
-// A segment from byte `file_at` of its file on. Bytes of it, by their places there, are changed.
-fn memory(
+/// A segment from byte `file_at` of its file on. Bytes of it, by their places there, are changed.
+pub fn memory(
     alloc: Global,
     address: u64,
     bytes: &[u8],
@@ -67,12 +68,12 @@ fn a_worked_list_with_its_rows(rt: HostRuntime) -> Result<(), Fail> {
     assert_eq!(rt; frames.fde_for(0x1_012f), Some(fde));
     assert_eq!(rt; frames.fde_for(0x1_0130), None);
 
-    let first = row_in(&memory, fde.address, 0x1_010c).expect(&rt, "a row");
-    assert_eq!(rt; first, wanted(2, 0, &[]));
-    let second = row_in(&memory, fde.address, 0x1_0110).expect(&rt, "a row");
-    assert_eq!(rt; second, wanted(2, 16, &[(1, Rule::Offset(-8))]));
-    assert!(rt; row_in(&memory, fde.address, 0x1_010b).is_none());
-    assert!(rt; row_in(&memory, 0x1_00c4, 0x1_010c).is_none());
+    let saved = wanted(2, 16, &[(1, Rule::Offset(-8))]);
+    assert_eq!(rt;
+        row_there(&frames, &memory, 0x1_010c),
+        Some((wanted(2, 0, &[]), Some(0x1_0110)))
+    );
+    assert_eq!(rt; row_there(&frames, &memory, 0x1_0110), Some((saved, None)));
     Ok(())
 }
 
@@ -165,203 +166,6 @@ fn the_table_beside_the_frames(rt: HostRuntime) -> Result<(), Fail> {
         let memory = memory(alloc, 0x1_00b0, WORKED, 0xb0, changes)?;
         let frames = read_frames(alloc, &memory, 0x1_00b0);
         assert_eq!(rt; refusal(&frames), *want, "with {changes:?}");
-    }
-    Ok(())
-}
-
-// A row, by its rules.
-fn wanted(cfa_register: u8, cfa_offset: i64, rules: &[(usize, Rule)]) -> Row {
-    let mut row = Row {
-        cfa_register,
-        cfa_offset,
-        rules: [Rule::Unspecified; 64],
-    };
-    for &(register, rule) in rules {
-        if let Some(old) = row.rules.get_mut(register) {
-            *old = rule;
-        }
-    }
-    row
-}
-
-// A CIE with a code factor of 4 and a data factor of -8, and an FDE of 0x100 places from 0x1000
-// on, with these instructions; and the address of the FDE.
-fn frame(alloc: Global, common: &[u8], own: &[u8]) -> Result<(Segments, u64), Fail> {
-    let mut bytes = Vec::new(alloc);
-    let length = (common.len() as u64).wrapping_add(9);
-    bytes.extend_from_slice(&length.to_le_bytes()[..4])?;
-    bytes.extend_from_slice(b"\0\0\0\0\x01\0\x04\x78\x01")?;
-    bytes.extend_from_slice(common)?;
-    let at = bytes.len() as u64;
-    let length = (own.len() as u64).wrapping_add(20);
-    bytes.extend_from_slice(&length.to_le_bytes()[..4])?;
-    bytes.extend_from_slice(&at.wrapping_add(4).to_le_bytes()[..4])?;
-    bytes.extend_from_slice(b"\0\x10\0\0\0\0\0\0\0\x01\0\0\0\0\0\0")?;
-    bytes.extend_from_slice(own)?;
-    let memory = memory(alloc, 0x2000, &bytes, 0, &[])?;
-    Ok((memory, at.wrapping_add(0x2000)))
-}
-
-// The instructions of the CIE and of the FDE, a place, and its row.
-static ROWS: &[(&[u8], &[u8], u64, (u8, i64, &[(usize, Rule)]))] = &[
-    (b"", b"", 0x1000, (2, 0, &[])),
-    (b"\x0c\x02\x10", b"", 0x1000, (2, 16, &[])),
-    (b"\x0c\x02\x10\x0d\x08", b"", 0x1000, (8, 16, &[])),
-    (b"\x0c\x08\x10\x0e\x20", b"\x0e\x30", 0x10ff, (8, 48, &[])),
-    (b"\x12\x08\x7f", b"", 0x1000, (8, 8, &[])),
-    (b"\x13\x7e", b"", 0x1000, (2, 16, &[])),
-    (b"\x81\x01", b"", 0x1000, (2, 0, &[(1, Rule::Offset(-8))])),
-    (
-        b"\x05\x3f\x02",
-        b"",
-        0x1000,
-        (2, 0, &[(63, Rule::Offset(-16))]),
-    ),
-    (
-        b"\x11\x01\x7f",
-        b"",
-        0x1000,
-        (2, 0, &[(1, Rule::Offset(8))]),
-    ),
-    (
-        b"\x14\x01\x03",
-        b"",
-        0x1000,
-        (2, 0, &[(1, Rule::ValOffset(-24))]),
-    ),
-    (
-        b"\x15\x01\x7d",
-        b"",
-        0x1000,
-        (2, 0, &[(1, Rule::ValOffset(24))]),
-    ),
-    (b"\x07\x01", b"", 0x1000, (2, 0, &[(1, Rule::Undefined)])),
-    (b"\x08\x09", b"", 0x1000, (2, 0, &[(9, Rule::Same)])),
-    (
-        b"\x09\x01\x05",
-        b"",
-        0x1000,
-        (2, 0, &[(1, Rule::Register(5))]),
-    ),
-    (
-        b"\x81\x01\x07\x01",
-        b"",
-        0x1000,
-        (2, 0, &[(1, Rule::Undefined)]),
-    ),
-    // A location of its own instruction belongs to the row behind it.
-    (b"", b"\x41\x0e\x10", 0x1003, (2, 0, &[])),
-    (b"", b"\x41\x0e\x10", 0x1004, (2, 16, &[])),
-    (b"", b"\x41\x0e\x10\x42\x0e\x20", 0x100b, (2, 16, &[])),
-    (b"", b"\x41\x0e\x10\x42\x0e\x20", 0x100c, (2, 32, &[])),
-    (b"", b"\x02\x05\x0e\x10", 0x1013, (2, 0, &[])),
-    (b"", b"\x02\x05\x0e\x10", 0x1014, (2, 16, &[])),
-    (b"", b"\x03\x10\0\x0e\x10", 0x103f, (2, 0, &[])),
-    (b"", b"\x03\x10\0\x0e\x10", 0x1040, (2, 16, &[])),
-    (b"", b"\x04\x10\0\0\0\x0e\x10", 0x103f, (2, 0, &[])),
-    (b"", b"\x04\x10\0\0\0\x0e\x10", 0x1040, (2, 16, &[])),
-    (b"", b"\x04\xff\xff\xff\xff\x0e\x10", 0x10ff, (2, 0, &[])),
-    (
-        b"",
-        b"\x01\x80\x10\0\0\0\0\0\0\x0e\x10",
-        0x107f,
-        (2, 0, &[]),
-    ),
-    (
-        b"",
-        b"\x01\x80\x10\0\0\0\0\0\0\x0e\x10",
-        0x1080,
-        (2, 16, &[]),
-    ),
-    // What comes behind a move above the place does not count, also where it comes back.
-    (
-        b"",
-        b"\x48\x01\0\x10\0\0\0\0\0\0\x0e\x10",
-        0x1000,
-        (2, 0, &[]),
-    ),
-    (
-        b"",
-        b"\x48\x01\0\x10\0\0\0\0\0\0\x0e\x10",
-        0x1020,
-        (2, 16, &[]),
-    ),
-    // Moves of the CIE move the location too.
-    (b"\x41\x0e\x10", b"", 0x1000, (2, 0, &[])),
-    (b"\x41\x0e\x10", b"\x0e\x20", 0x1000, (2, 0, &[])),
-    (b"\x41\x0e\x10", b"\x0e\x20", 0x1004, (2, 32, &[])),
-    (b"\x41\x0e\x10", b"\x41\x0e\x20", 0x1004, (2, 16, &[])),
-    // restore gives back what the CIE left.
-    (
-        b"\x81\x01",
-        b"\x81\x02\xc1",
-        0x1000,
-        (2, 0, &[(1, Rule::Offset(-8))]),
-    ),
-    (
-        b"\x81\x01",
-        b"\x07\x01\x06\x01",
-        0x1000,
-        (2, 0, &[(1, Rule::Offset(-8))]),
-    ),
-    (b"", b"\x81\x02\xc1", 0x1000, (2, 0, &[])),
-    (b"\x81\x01\xc1", b"", 0x1000, (2, 0, &[])),
-    (
-        b"\x81\x01\xc1\x82\x01",
-        b"\xc2",
-        0x1000,
-        (2, 0, &[(2, Rule::Offset(-8))]),
-    ),
-    // restore_state restores the canonical frame address too.
-    (
-        b"\x0c\x02\x10",
-        b"\x0a\x0c\x08\x20\x0b",
-        0x1000,
-        (2, 16, &[]),
-    ),
-    (
-        b"",
-        b"\x81\x01\x0a\x07\x01\x0b",
-        0x1000,
-        (2, 0, &[(1, Rule::Offset(-8))]),
-    ),
-    (b"", b"\x0a\x0e\x08\x0a\x0e\x10\x0b", 0x1000, (2, 8, &[])),
-    (
-        b"",
-        b"\x0a\x0e\x08\x0a\x0e\x10\x0b\x0b",
-        0x1000,
-        (2, 0, &[]),
-    ),
-    // The location is not restored.
-    (
-        b"",
-        b"\x0a\x41\x0e\x10\x0b\x41\x0e\x20",
-        0x1004,
-        (2, 0, &[]),
-    ),
-    (
-        b"",
-        b"\x0a\x41\x0e\x10\x0b\x41\x0e\x20",
-        0x1008,
-        (2, 32, &[]),
-    ),
-    // A state of the CIE is restored in the FDE.
-    (b"\x0e\x10\x0a\x0e\x20", b"\x0b", 0x1000, (2, 16, &[])),
-    // nop, and the size of arguments.
-    (b"\0\0\x0e\x08\0", b"\0\x2e\x80\x01\0", 0x1000, (2, 8, &[])),
-];
-
-#[test]
-fn instructions_with_their_rows(rt: HostRuntime) -> Result<(), Fail> {
-    let alloc = rt.alloc();
-    for (common, own, pc, (register, offset, rules)) in ROWS {
-        let (memory, fde) = frame(alloc, common, own)?;
-        let row = row_in(&memory, fde, *pc).expect(&rt, "a row");
-        assert_eq!(rt;
-            row,
-            wanted(*register, *offset, rules),
-            "of {common:?} {own:?} at {pc}"
-        );
     }
     Ok(())
 }

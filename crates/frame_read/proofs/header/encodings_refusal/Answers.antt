@@ -1,7 +1,7 @@
 use Rattle.std.proofs.Common.{◌+◌, ◌++◌, ◌==◌, ◌||◌, option_map, ap, sym, ◌∙◌}
 use Rattle.table_forms.specs.Fault.{least, joined, unless}
 use Rattle.table_forms.specs.Header.{is_bare}
-use Rattle.frame_read.specs.Reads.{fault_of}
+use Rattle.table_refusals.specs.Seen.{fault_of}
 use Rattle.frame_read.specs.SeenHeader.{encodings_seen}
 use Rattle.frame_read.proofs.Joined.{three}
 use Rattle.frame_read.proofs.header.encodings_refusal.Goals as goal

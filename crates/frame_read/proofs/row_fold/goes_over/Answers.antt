@@ -3,7 +3,7 @@ use Rattle.std.proofs.lemmas.Bool.Decides.{nat_tests}
 use Rattle.eh_bytes.specs.Memory.{part_of}
 use Rattle.table_forms.specs.Instructions.{instructions_at}
 use Rattle.arrayvec.specs.ArrayVec.{array_vec_len}
-use Rattle.frame_read.specs.Reads.{fault_of}
+use Rattle.table_refusals.specs.Seen.{fault_of}
 use Rattle.frame_read.specs.Seen.{coding_seen, instruction_seen}
 use Rattle.frame_read.proofs.Folds.{whole_counts, goes_some, goes_whole, goes_on, goes_off, goes_out}
 use Rattle.frame_read.proofs.row_fold.goes_over.Goals as goal
@@ -28,7 +28,7 @@ returns-then-not-steps-clause-seen c =
     let inside : nat_lt c.instructions.place c.args.stop ≡ true = grind (arith, nat_tests, c.instructions-test.true) in
     let stopped = ap (λ s. s.stopped) (sym c.steps.ensures.seen) ∙ c.steps.ensures.stopped ∙ ap not c.if-not-steps.true in
     c.steps.ensures.seen ∙
-    sym (goes_off (instruction_seen c.in-Ok.instruction) c.in-Ok.next c.instructions-test.true inside c.in-Ok.ensures.on c.in-Ok.ensures.reads stopped c.instructions.invariant.3)
+    sym (goes_off c.args.pc (instruction_seen c.in-Ok.instruction) c.in-Ok.next c.instructions-test.true inside c.in-Ok.ensures.on c.in-Ok.ensures.reads stopped c.instructions.invariant.3)
 
 pub instructions-preserved : goal.instructions-preserved
 instructions-preserved c =

@@ -13,7 +13,7 @@ abbrev pub invariant-instructions : goal.invariant-instructions
 invariant-instructions l =
     let read = instructions_at (coding_seen l.coding) (part_of l.segment) l.stop l.first (array_vec_len l.initial.folding.states) in
     (l.place ≤ l.stop) × (l.folding.stopped ≡ false) × (l.folding.location ≤ l.pc) ×
-    Folds l.pc (fold (stepped l.pc) (folding_seen l.initial.folding) (list_of read)) (count_of read) (coding_seen l.coding) (part_of l.segment) l.stop
+    Folds (stepped l.pc) (fold (stepped l.pc) (folding_seen l.initial.folding) (list_of read)) (count_of read) (coding_seen l.coding) (part_of l.segment) l.stop
     (folding_seen l.folding) (array_vec_len l.folding.states) l.place
 
 abbrev pub decreases-instructions : goal.decreases-instructions

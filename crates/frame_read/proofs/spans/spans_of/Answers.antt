@@ -8,7 +8,7 @@ use Rattle.table_forms.specs.Instruction.{in_frames}
 use Rattle.eh_bytes.specs.Memory.{part_of}
 use Rattle.table_forms.specs.Fault.{fault}
 use Rattle.frame_read.specs.declared.span.Span.{Span}
-use Rattle.frame_read.specs.Reads.{fault_of}
+use Rattle.table_refusals.specs.Seen.{fault_of}
 use Rattle.frame_read.specs.SeenSpan.{span_seen, spans_seen, IsInside}
 use Rattle.frame_read.specs.SpanRest.{span_rest}
 use Rattle.frame_read.proofs.OnWay.{goes_on, ends, is_done}

@@ -2,7 +2,7 @@ use Rattle.std.proofs.Common.{rules, ◌≡◌, ◌+◌, nat_lt, true, false, No
 use Rattle.std.proofs.lemmas.Bool.Decides.{nat_tests}
 use Rattle.eh_bytes.specs.Memory.{part_of}
 use Rattle.table_forms.specs.Fault.{fault}
-use Rattle.frame_read.specs.Reads.{fault_of}
+use Rattle.table_refusals.specs.Seen.{fault_of}
 use Rattle.frame_read.specs.Seen.{coding_seen, instruction_seen}
 use Rattle.frame_read.specs.States.{states_rest}
 use Rattle.frame_read.proofs.OnWay.{goes_on, ends, is_done}
