@@ -2,18 +2,14 @@
 use Rattle.std.proofs.Common.{◌≡◌, ◌≤◌, ◌^◌, ℕ, Bool, true, List, [], ◌∷◌, ◌++◌, length, map, Ok, Result, refl, subst, arith}
 use Rattle.std.specs.Prelude.{Option, Some, None}
 use Rattle.std.specs.List.{AllByRecursion}
-use Rattle.eh_bytes.specs.Memory.{Part}
 use Rattle.table_forms.specs.Fault.{Fault, ◌>>=◌, least, answer}
 use Rattle.elf_image.specs.declared.program.ProgramHeader.{ProgramHeader}
 use Rattle.elf_image.specs.Header.{header_faults}
 use Rattle.elf_image.specs.Programs.{headers_of, loaded}
-use Rattle.elf_image.specs.Loads.{part_of, Placed}
+use Rattle.elf_image.specs.Loads.{part_of, Placed, IsSmall}
 use Rattle.elf_image.specs.Elf.{Image, image_of, segment_faults, faults_to_run, elf}
 use Rattle.elf_image.proofs.Sound.{all_placed, size_seen}
 use Rattle.elf_image.proofs.Whole.{image_sound}
-
-abbrev pub IsSmall : Part → Type 0
-IsSmall part = length part.bytes ≤ 2 ^ 30
 
 small_all : (file : List ℕ) (hs : List ProgramHeader) → AllByRecursion (Placed (length file)) hs → AllByRecursion IsSmall (map (part_of file) hs)
 small_all file [] all = tt

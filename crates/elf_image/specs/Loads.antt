@@ -1,5 +1,5 @@
 -- The segments that are loaded, and the memory that they make.
-use Rattle.std.specs.Prelude.{◌≡◌, ◌≤◌, ℕ, ⊤, true, ◌+◌, ◌-◌, ◌^◌, ◌&&◌, not, nat_lt, nat_le, Bool, false, List, [], ◌∷◌, ◌++◌, take, drop, map, replicate, Option, Some, None}
+use Rattle.std.specs.Prelude.{◌≡◌, ◌≤◌, ℕ, ⊤, true, ◌+◌, ◌-◌, ◌^◌, ◌&&◌, not, nat_lt, nat_le, Bool, false, List, [], ◌∷◌, ◌++◌, length, take, drop, map, replicate, Option, Some, None}
 use Rattle.std.specs.List.{list_any}
 use Rattle.eh_bytes.specs.Memory.{Part, Memory}
 use Rattle.table_forms.specs.Fault.{Fault, unless}
@@ -43,6 +43,10 @@ pub record Placed (len : ℕ) (h : ProgramHeader) : Type 0 where
   pub ends : h.address + h.memory_size ≤ 2 ^ 64
   pub room : h.file_size ≤ h.memory_size
   pub small : h.memory_size ≤ 2 ^ 30
+
+-- at most 1 GiB (profile)
+abbrev pub IsSmall : Part → Type 0
+IsSmall part = length part.bytes ≤ 2 ^ 30
 
 -- nothing is refused of them
 abbrev pub AreSound : ℕ → ℕ → List ProgramHeader → List ProgramHeader → Type 0

@@ -1,0 +1,6 @@
+mod Read
+mod Bounds
+mod Few
+mod Ordered
+mod Judged
+mod Whole

@@ -1,0 +1,4 @@
+pub mod Refusals
+pub mod Tally
+pub mod Counts
+pub mod Checks
