@@ -1,5 +1,5 @@
 -- The places of FDEs rise.
-use Rattle.std.proofs.Common.{◌≡◌, ◌+◌, ◌-◌, ◌≤◌, ℕ, zero, suc, List, [], ◌∷◌, map, filter_map, length, Option, Some, None, Result, Ok, Err, refl, arith}
+use Rattle.std.proofs.Common.{◌≡◌, ◌+◌, ◌-◌, ℕ, zero, suc, List, [], ◌∷◌, map, filter_map, length, Option, Some, None, Result, Ok, Err, refl, arith}
 use Rattle.std.specs.List.{cons_option}
 use Rattle.eh_bytes.specs.declared.frames.Region64.{Region64}
 use Rattle.eh_bytes.specs.Memory.{Part, Memory, part_with}
@@ -12,6 +12,8 @@ use Rattle.table_forms.specs.Parts.{Said, refused, said_cie, said_fde, unread, c
 use Rattle.table_forms.specs.Frames.{parts_in, parts_behind}
 use Rattle.frame_read.specs.Listed.{fde_listed}
 use Rattle.frame_read.specs.Order.{PlacesRise}
+use Rattle.frame_read.specs.declared.listed.Fde as shown
+use Rattle.frame_read.proofs.Halves.{lower}
 use Rattle.frame_read.proofs.Rises.{Rise, spans_rise}
 
 -- an FDE stands at its place
@@ -77,24 +79,23 @@ says_at part entries s = by (distance_at part s)
     by (Ok (zero, next)) = cie (cie_at part s.at s.stop next)
     by (Ok (suc d, next)) = behind next (cie_behind entries s.at (suc d))
 
-lower : (n m : ℕ) (fs : List Fde) → n ≤ m → PlacesRise m (map fde_listed fs) → PlacesRise n (map fde_listed fs)
-lower n m [] less rise = refl
-lower n m (f ∷ fs) less rise = (omega (arith, less, rise.0), rise.1)
-
 fdes_rise : (part : Part) (entries : List (ℕ × Result Cie Fault)) (n : ℕ) (spans : List Span) → Rise n spans →
     PlacesRise (part.file_at + n) (map fde_listed (filter_map fde_in (map (says part entries) spans)))
 fdes_rise part entries n [] rise = refl
 fdes_rise part entries n (s ∷ spans) rise =
     by (fdes_rise part entries (s.at + 1) spans rise.1) (says part entries s) (says_at part entries s)
   where
+    place : shown.Fde → ℕ
+    place f = f.place
+
     rest : List Fde
     rest = filter_map fde_in (map (says part entries) spans)
 
     by : PlacesRise (part.file_at + (s.at + 1)) (map fde_listed rest) → (x : Said) → SaysAt (part.file_at + s.at) x → PlacesRise (part.file_at + n) (map fde_listed (cons_option (fde_in x) rest))
-    by later (said_fde f) stands = (let a = rise.0 in omega (arith, stands, a), lower (f.place + 1) (part.file_at + (s.at + 1)) rest (omega (arith, stands)) later)
-    by later (said_cie c) stands = lower (part.file_at + n) (part.file_at + (s.at + 1)) rest (let a = rise.0 in omega (arith, a)) later
-    by later (refused e) stands = lower (part.file_at + n) (part.file_at + (s.at + 1)) rest (let a = rise.0 in omega (arith, a)) later
-    by later unread stands = lower (part.file_at + n) (part.file_at + (s.at + 1)) rest (let a = rise.0 in omega (arith, a)) later
+    by later (said_fde f) stands = (let a = rise.0 in omega (arith, stands, a), lower place (f.place + 1) (part.file_at + (s.at + 1)) (map fde_listed rest) (omega (arith, stands)) later)
+    by later (said_cie c) stands = lower place (part.file_at + n) (part.file_at + (s.at + 1)) (map fde_listed rest) (let a = rise.0 in omega (arith, a)) later
+    by later (refused e) stands = lower place (part.file_at + n) (part.file_at + (s.at + 1)) (map fde_listed rest) (let a = rise.0 in omega (arith, a)) later
+    by later unread stands = lower place (part.file_at + n) (part.file_at + (s.at + 1)) (map fde_listed rest) (let a = rise.0 in omega (arith, a)) later
 
 parts_rise : (part : Part) (p : ℕ) → PlacesRise (part.file_at + p) (map fde_listed (parts_at part p).fdes)
 unfolding parts_at

@@ -5,6 +5,7 @@ mod Unmoved
 mod Room
 mod Folds
 mod Spanned
+mod Halves
 mod Found
 mod Cies
 mod Joined

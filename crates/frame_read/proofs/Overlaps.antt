@@ -9,6 +9,7 @@ use Rattle.eh_bytes.specs.Memory.{Part}
 use Rattle.table_forms.specs.Fault.{Fault, is_before, lesser, least}
 use Rattle.table_forms.specs.Fde.{overlap}
 use Rattle.table_forms.specs.Parts.{overlaps}
+use Rattle.frame_read.specs.Rises.{RisesBy}
 use Rattle.frame_read.specs.Sweep.{first_overlap, meets_at}
 use Rattle.frame_read.specs.SeenParts.{placed_seen}
 use Rattle.frame_read.specs.declared.gather.Placed as found
@@ -18,8 +19,7 @@ use Rattle.frame_read.proofs.Sweeps.{Placed, AtMost, From, Apart, at_place, Meet
 
 -- places rise, and the first is above n or at it
 abbrev pub Rising : ℕ → List Placed → Type 0
-Rising n [] = n ≡ n
-Rising n (x ∷ xs) = (n ≤ x.0) × Rising (x.0 + 1) xs
+Rising n xs = RisesBy (λ (x : Placed). x.0) n xs
 
 rises : (n : ℕ) (xs : List Placed) (x : Placed) → Rising n xs → In x xs → n ≤ x.0
 rises n [] x rising here = absurd here

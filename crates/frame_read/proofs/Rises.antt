@@ -1,6 +1,5 @@
 -- The places of parts rise.
-use Rattle.std.proofs.Common.{◌≡◌, ◌+◌, ◌≤◌, ℕ, zero, suc, Bool, true, false, nat_lt, nat_le, List, [], ◌∷◌, length, drop, take, Option, Some, None, option_map, Result, Ok, Err, refl, ap, sym, arith, if◌then◌else◌, filter_map}
-use Rattle.std.specs.List.{cons_option}
+use Rattle.std.proofs.Common.{◌≡◌, ◌+◌, ℕ, zero, suc, Bool, true, false, nat_lt, nat_le, List, length, drop, take, Option, Some, None, option_map, Result, Ok, Err, refl, ap, sym, subst, arith, if◌then◌else◌}
 use Rattle.std.specs.Int.{w32, from_le_bytes}
 use Rattle.eh_bytes.specs.declared.frames.Region64.{Region64}
 use Rattle.eh_bytes.specs.declared.error.ByteError.TheVariants.{Truncated}
@@ -8,19 +7,18 @@ use Rattle.eh_bytes.specs.Memory.{Part}
 use Rattle.eh_bytes.specs.Field.{fixed, behind}
 use Rattle.table_forms.specs.Fault.{Fault, numbered, frame_number}
 use Rattle.table_forms.specs.Instruction.{in_frames}
-use Rattle.table_forms.specs.Cie.{Cie}
+use Rattle.table_forms.specs.Cie.{Cie, cie_at}
 use Rattle.table_forms.specs.Spans.{Span, spans_from, spans_after, spans_within, distance_at}
-use Rattle.table_forms.specs.Parts.{region_behind, region_of, regions_of, cie_behind}
+use Rattle.table_forms.specs.Parts.{cie_of, cies_of, region_behind, region_of, regions_of, cie_behind}
+use Rattle.frame_read.specs.Rises.{RisesBy}
+use Rattle.frame_read.specs.SeenPart.{entry_seen, entries_seen}
+use Rattle.frame_read.specs.declared.entry.CieEntry.{CieEntry}
+use Rattle.frame_read.proofs.Halves.{lower, rises_filtered, rises_mapped}
 use Rattle.frame_read.proofs.Overlaps.{Rising}
 
 -- the places of lengths rise, and the first is at n or above
 abbrev pub Rise : ℕ → List Span → Type 0
-Rise n [] = n ≡ n
-Rise n (s ∷ spans) = (n ≤ s.at) × Rise (s.at + 1) spans
-
-lower : (n m : ℕ) (spans : List Span) → n ≤ m → Rise m spans → Rise n spans
-lower n m [] less rise = refl
-lower n m (s ∷ spans) less rise = (omega (arith, less, rise.0), rise.1)
+Rise n spans = RisesBy (λ (s : Span). s.at) n spans
 
 abbrev next_read : Result (ℕ × ℕ) Fault → ℕ
 next_read (Ok x) = x.1
@@ -51,33 +49,46 @@ spans_rise (suc n) part p =
         fits false = refl
         fits true =
             let q = next_place part (length part.bytes) p (suc k) next e in
-            (omega arith, lower (p + 1) (next + suc k) (spans_within n part (next + suc k)).list (omega (arith, q)) (later (next + suc k)))
+            (omega arith, lower (λ (s : Span). s.at) (p + 1) (next + suc k) (spans_within n part (next + suc k)).list (omega (arith, q)) (later (next + suc k)))
 
-region_place : (part : Part) (s : Span) (next : ℕ) (o : Option Region64) (r : ℕ × Region64) → option_map (λ (x : Region64). (s.at, x)) o ≡ Some r → r.0 ≡ s.at
-region_place part s next None r e = absurd cc
-region_place part s next (Some x) r e = same (s.at, x) r e
+-- the place of a region is that of its part
+placed : (part : Part) (entries : List (ℕ × Result Cie Fault)) (s : Span) (x : ℕ × Region64) → region_of part entries s (distance_at part s) ≡ Some x → x.0 ≡ s.at
+placed part entries s x e = by (distance_at part s) e
   where
-    same : (a b : ℕ × Region64) → (λ (w : Option (ℕ × Region64)). w) (Some a) ≡ Some b → b.0 ≡ a.0
-    same a b e = cc
+    from : (o : Option Region64) → option_map (λ (r : Region64). (s.at, r)) o ≡ Some x → x.0 ≡ s.at
+    from None e = absurd cc
+    from (Some r) e = same (s.at, r) x e
+      where
+        same : (a b : ℕ × Region64) → (λ (w : Option (ℕ × Region64)). w) (Some a) ≡ Some b → b.0 ≡ a.0
+        same a b e = cc
+
+    by : (d : Result (ℕ × ℕ) Fault) → region_of part entries s d ≡ Some x → x.0 ≡ s.at
+    by (Err f) e = absurd cc
+    by (Ok (zero, next)) e = absurd cc
+    by (Ok (suc k, next)) e = from (region_behind part s next (cie_behind entries s.at (suc k))) e
 
 pub regions_rise : (part : Part) (entries : List (ℕ × Result Cie Fault)) (n : ℕ) (spans : List Span) → Rise n spans → Rising n (regions_of part entries spans)
 unfolding regions_of
-regions_rise part entries n [] rise = refl
-regions_rise part entries n (s ∷ spans) rise =
-    by (regions_rise part entries (s.at + 1) spans rise.1) (distance_at part s)
+regions_rise part entries n spans rise =
+    rises_filtered (λ (s : Span). s.at) (λ (x : ℕ × Region64). x.0) (λ s. region_of part entries s (distance_at part s)) (placed part entries) n spans rise
+
+-- the place of a CIE is that of its part
+cie_placed : (part : Part) (s : Span) (x : ℕ × Result Cie Fault) → cie_of part s (distance_at part s) ≡ Some x → x.0 ≡ s.at
+cie_placed part s x e = by (distance_at part s) e
   where
-    rest : List (ℕ × Region64)
-    rest = filter_map (λ t. region_of part entries t (distance_at part t)) spans
+    same : (a b : ℕ × Result Cie Fault) → (λ (w : Option (ℕ × Result Cie Fault)). w) (Some a) ≡ Some b → b.0 ≡ a.0
+    same a b e = cc
 
-    from : (m k : ℕ) (xs : List (ℕ × Region64)) → m ≤ k → Rising k xs → Rising m xs
-    from m k [] less rising = refl
-    from m k (x ∷ xs) less rising = (omega (arith, less, rising.0), rising.1)
+    by : (d : Result (ℕ × ℕ) Fault) → cie_of part s d ≡ Some x → x.0 ≡ s.at
+    by (Err f) e = absurd cc
+    by (Ok (zero, next)) e = same (s.at, cie_at part s.at s.stop next) x e
+    by (Ok (suc k, next)) e = absurd cc
 
-    placed : (o : Option Region64) → Rising (s.at + 1) rest → Rising n (cons_option (option_map (λ (x : Region64). (s.at, x)) o) rest)
-    placed None later = from n (s.at + 1) rest (let a = rise.0 in omega (arith, a)) later
-    placed (Some x) later = (rise.0, later)
-
-    by : Rising (s.at + 1) rest → (d : Result (ℕ × ℕ) Fault) → Rising n (cons_option (region_of part entries s d) rest)
-    by later (Err f) = placed None later
-    by later (Ok (zero, next)) = placed None later
-    by later (Ok (suc k, next)) = placed (region_behind part s next (cie_behind entries s.at (suc k))) later
+-- the CIEs that were read of some parts stand in the order of their places
+pub entries_rise : (part : Part) (n : ℕ) (spans : List Span) (entries : List CieEntry) → Rise n spans → entries_seen part entries ≡ cies_of part spans → RisesBy (λ (e : CieEntry). e.at) n entries
+unfolding cies_of
+entries_rise part n spans entries rise read =
+    rises_mapped (λ (c : ℕ × Result Cie Fault). c.0) (entry_seen part) n entries (
+    subst (λ (cs : List (ℕ × Result Cie Fault)). RisesBy (λ (c : ℕ × Result Cie Fault). c.0) n cs) (sym read)
+    (rises_filtered (λ (s : Span). s.at) (λ (c : ℕ × Result Cie Fault). c.0) (λ s. cie_of part s (distance_at part s)) (cie_placed part) n spans rise)
+    )

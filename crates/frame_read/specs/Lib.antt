@@ -18,6 +18,7 @@ pub mod Ready
 pub mod Sweep
 pub mod SeenSweep
 pub mod Whole
+pub mod Rises
 pub mod Order
 pub mod ReadsFrames
 pub mod Given

@@ -1,8 +1,9 @@
 -- The FDEs as they are listed, in the order of their locations, against the header's table.
-use Rattle.std.specs.Prelude.{◌≡◌, ◌≤◌, ℕ, ◌+◌, ◌==◌, ◌&&◌, List, [], ◌∷◌, Option, Some, None, if◌then◌else◌}
+use Rattle.std.specs.Prelude.{ℕ, ◌+◌, ◌==◌, ◌&&◌, List, [], ◌∷◌, Option, Some, None, if◌then◌else◌}
 use Rattle.eh_bytes.specs.declared.frames.HdrRow.{HdrRow}
 use Rattle.table_forms.specs.Fault.{Fault}
 use Rattle.table_forms.specs.Frames.{differs}
+use Rattle.frame_read.specs.Rises.{RisesBy}
 use Rattle.frame_read.specs.declared.listed.Fde.{Fde}
 
 -- where the table begins here, the first row that is not that of the FDE
@@ -16,5 +17,4 @@ disagrees place (r ∷ rs) (f ∷ fs) =
 
 -- places rise, and the first is at n or above
 abbrev pub PlacesRise : ℕ → List Fde → Type 0
-PlacesRise n [] = n ≡ n
-PlacesRise n (f ∷ fs) = (n ≤ f.place) × PlacesRise (f.place + 1) fs
+PlacesRise n fs = RisesBy (λ (f : Fde). f.place) n fs

@@ -6,6 +6,7 @@ mod augmentation;
 mod cfa;
 mod cie;
 mod cie_part;
+mod cie_search;
 mod entry;
 mod error;
 mod fde;
@@ -49,6 +50,8 @@ pub use read::read_frames;
 
 #[cfg(test)]
 mod list_tests;
+#[cfg(test)]
+mod made_tests;
 #[cfg(test)]
 mod row_tests;
 #[cfg(test)]

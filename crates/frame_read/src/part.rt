@@ -1,5 +1,5 @@
 // One part of .eh_frame (LSB Core, "The .eh_frame section").
-ghost use Rattle.std.specs.Prelude.{◌≡◌, ◌+◌, ◌==◌, ◌<◌, ◌≤◌, ◌^◌, IfSome, length, find, map, option_map};
+ghost use Rattle.std.specs.Prelude.{ℕ, ◌≡◌, ◌+◌, ◌==◌, ◌<◌, ◌≤◌, ◌^◌, IfSome, length, find, map, option_map};
 ghost use Rattle.std.specs.Option.{option_copied};
 ghost use Rattle.eh_bytes.specs.Memory.{Part, part_of};
 ghost use Rattle.table_forms.specs.Spans.{distance_at};
@@ -9,10 +9,12 @@ ghost use Rattle.frame_read.specs.Reads.{result_seen};
 ghost use Rattle.frame_read.specs.SeenCie.{cie_seen};
 ghost use Rattle.frame_read.specs.SeenSpan.{span_seen, IsInside};
 ghost use Rattle.frame_read.specs.SeenParts.{IsAt};
+ghost use Rattle.frame_read.specs.Rises.{RisesBy};
 ghost use Rattle.frame_read.specs.SeenPart.{entry_seen, entries_seen, said_seen};
 
 use crate::cie;
 use crate::cie_part::CiePart;
+use crate::cie_search::first_behind;
 use crate::entry::{CieEntry, Said};
 use crate::fde::{fde_of, region_of};
 use crate::field::u32_at;
@@ -39,24 +41,14 @@ pub fn cie_entry(segment: &Segment, span: Span) -> Option<CieEntry<'_>>
     }
 }
 
-// The CIE from which a distance leads to the field behind the length at `at`.
-fn first_behind<'a, 'b>(
-    entries: &'b [CieEntry<'a>],
-    at: usize,
-    distance: u32,
-) -> Option<&'b CieEntry<'a>>
-    ensures { option_copied result ≡ find (λ e. e.at + distance == at + 4) entries.now }
-{
-    entries.iter().find(|entry| entry.at as u128 + distance as u128 == at as u128 + 4)
-}
-
-// The same, as it was read.
+// What was read of the CIE from which a distance leads to the field behind the length at `at`.
 #[tactic(auto, using(crate::proofs::Found::find_behind))]
 fn cie_behind<'a>(
     entries: &[CieEntry<'a>],
     at: usize,
     distance: u32,
 ) -> Option<Result<CiePart<'a>, Refusal>>
+    requires { (n : ℕ) × RisesBy (λ e. e.at) n entries.now }
     ensures { (part : Part) → option_map (result_seen (cie_seen part)) result ≡ cie_behind (entries_seen part entries.now) at distance }
 {
     let entry = first_behind(entries, at, distance)?;
@@ -86,6 +78,7 @@ fn fde_said<'a>(
 ) -> Said<'a>
     requires stop { span.stop ≤ length segment.now.bytes.items }
     requires next { next ≤ span.stop }
+    requires rises { (n : ℕ) × RisesBy (λ e. e.at) n entries.now }
     ensures at { IsAt span.at result }
     ensures said { said_seen (part_of segment.now) result ≡ said_behind (part_of segment.now) (span_seen span) next (cie_behind (entries_seen (part_of segment.now) entries.now) span.at distance) }
 {
@@ -102,7 +95,8 @@ fn fde_said<'a>(
 /// What a part says, where these are all CIEs.
 #[tactic(auto, unfolding(table_forms::specs::Parts::says))]
 pub fn said_by<'a>(segment: &'a Segment, entries: &[CieEntry<'a>], span: Span) -> Said<'a>
-    requires { IsInside (length segment.now.bytes.items) span }
+    requires inside { IsInside (length segment.now.bytes.items) span }
+    requires rises { (n : ℕ) × RisesBy (λ e. e.at) n entries.now }
     ensures at { IsAt span.at result }
     ensures said { said_seen (part_of segment.now) result ≡ says (part_of segment.now) (entries_seen (part_of segment.now) entries.now) (span_seen span) }
 {
@@ -128,6 +122,7 @@ fn region_behind(
 ) -> Option<Region64>
     requires stop { span.stop ≤ length segment.now.bytes.items }
     requires next { next ≤ span.stop }
+    requires rises { (n : ℕ) × RisesBy (λ e. e.at) n entries.now }
     ensures region { result ≡ region_behind (part_of segment.now) (span_seen span) next (cie_behind (entries_seen (part_of segment.now) entries.now) span.at distance) }
     ensures fits { IfSome result (λ r. r.start + r.length < 2 ^ 64) }
 {
@@ -143,7 +138,8 @@ fn region_behind(
 
 /// The region of a part, as soon as it can be read.
 pub fn region_in(segment: &Segment, entries: &[CieEntry<'_>], span: Span) -> Option<Region64>
-    requires { IsInside (length segment.now.bytes.items) span }
+    requires inside { IsInside (length segment.now.bytes.items) span }
+    requires rises { (n : ℕ) × RisesBy (λ e. e.at) n entries.now }
     ensures region { option_map (λ r. (span.at, r)) result ≡ region_of (part_of segment.now) (entries_seen (part_of segment.now) entries.now) (span_seen span) (distance_at (part_of segment.now) (span_seen span)) }
     ensures fits { IfSome result (λ r. r.start + r.length < 2 ^ 64) }
 {

@@ -1,5 +1,5 @@
 // The parts of .eh_frame, one after the other.
-ghost use Rattle.std.specs.Prelude.{◌≡◌, ◌+◌, ◌<◌, ◌≤◌, ◌^◌, [], ◌∷◌, All, IfOk, OnOk, length, option_map};
+ghost use Rattle.std.specs.Prelude.{ℕ, ◌≡◌, ◌+◌, ◌<◌, ◌≤◌, ◌^◌, [], ◌∷◌, All, IfOk, OnOk, length, option_map};
 ghost use Rattle.eh_bytes.specs.Memory.{Part, part_of};
 ghost use Rattle.table_forms.specs.Parts.{cies_of, parts_at};
 ghost use Rattle.table_refusals.specs.Seen.{fault_of};
@@ -10,6 +10,7 @@ ghost use Rattle.frame_read.specs.SeenFde.{fde_seen};
 ghost use Rattle.frame_read.specs.SeenSpan.{spans_seen, IsInside};
 ghost use Rattle.frame_read.specs.SeenPart.{entries_seen, said_seen};
 ghost use Rattle.frame_read.specs.SeenParts.{parts_seen, placed_seen, IsAt};
+ghost use Rattle.frame_read.specs.Rises.{RisesBy};
 ghost use Rattle.frame_read.specs.Listed.{cie_listed, fde_listed};
 ghost use Rattle.frame_read.specs.Gathered.{nothing, and_said, and_region, gathered};
 
@@ -155,6 +156,7 @@ pub fn parts_of<'a>(
     requires range { segment.now.file_at + length segment.now.bytes.items < 2 ^ 64 }
     requires extent { segment.now.address + length segment.now.bytes.items ≤ 2 ^ 64 }
     requires inside { All (IsInside (length segment.now.bytes.items)) spans.now }
+    requires rises { (n : ℕ) × RisesBy (λ e. e.at) n entries.now }
     ensures { IfOk result (λ parts. parts_seen parts ≡ gathered (part_of segment.now) (entries_seen (part_of segment.now) entries.now) nothing (spans_seen spans.now)) }
 {
     let mut parts = PartsRead::nothing(alloc);

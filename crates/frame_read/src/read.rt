@@ -95,7 +95,7 @@ fn read_in(
 
 /// The frames whose header stands at an address, or the first of all their refusals: 2, 3 and 50 to
 /// 59 of docs/TABLES.md (LSB Core, "Exception Frames"), or memory ran out. Reading grows as
-/// n log n in the number of FDEs.
+/// n log n in the number of CIEs and FDEs.
 #[tactic(auto, unfolding(table_forms::specs::Frames::frames))]
 pub fn read_frames(alloc: Global, memory: &Segments, header: u64) -> Result<Frames, FrameError>
     ensures { ReadsFrames result (frames (memory_of memory.now) header) }

@@ -28,7 +28,7 @@ pub fn memory(
         }
     }
     let mut parts = Vec::new(alloc);
-    if bytes.len() < 0x1000 && address < 0x10_0000 {
+    if bytes.len() < 0x1000 && address < 0x100_0000 {
         parts.push(Segment {
             address,
             bytes,

@@ -1,7 +1,8 @@
-use Rattle.std.proofs.Common.{map, option_map, refl, ap, sym, ◌∙◌, arith}
+use Rattle.std.proofs.Common.{map, option_map, length, refl, ap, sym, subst, ◌∙◌, arith}
 use Rattle.std.proofs.lemmas.List.Sorted.{IsPermutation-map}
 use Rattle.eh_bytes.specs.Memory.{part_of}
 use Rattle.table_forms.specs.Fault.{least, joined}
+use Rattle.table_forms.specs.Spans.{Spans}
 use Rattle.table_forms.specs.Parts.{cies_of}
 use Rattle.table_refusals.specs.Seen.{fault_of}
 use Rattle.frame_read.specs.SeenSpan.{spans_seen, cut_of}
@@ -11,6 +12,7 @@ use Rattle.frame_read.specs.Sweep.{meets_at}
 use Rattle.frame_read.specs.Gathered.{nothing, gathered}
 use Rattle.frame_read.proofs.Joined.{least_cut}
 use Rattle.frame_read.proofs.Overlaps.{sorted_from}
+use Rattle.frame_read.proofs.Rises.{Rise, spans_rise, entries_rise}
 use Rattle.frame_read.proofs.Wholes.{read_whole}
 use Rattle.frame_read.proofs.parts.parts_from.Goals as goal
 
@@ -30,3 +32,12 @@ returns c =
     ap (λ x. gathered s (entries_seen s entries) nothing (spans_seen x)) c.deref-3.ensures.value)
     (IsPermutation-map placed_seen c.in_ok-parts.parts.regions.items sorted c.in_ok-overlap.ensures.permutation)
     (sorted_from sorted c.in_ok-overlap.ensures.order 0 (λ d some. omega arith))
+
+-- the CIEs stand in the order of their places
+pub parts_of-requires-clause-rises : goal.parts_of-requires-clause-rises
+parts_of-requires-clause-rises c =
+    let s = part_of c.args.segment.now in let spans = spans_seen c.in_ok-spans.spans.items in
+    let entries = c.in_ok-entries.entries.items in
+    let rise : Rise c.args.place spans = subst (λ (x : Spans). Rise c.args.place x.list) c.in_ok-spans.ensures.spans (spans_rise (length c.args.segment.now.bytes.items) s c.args.place) in
+    let read = c.in_ok-entries.ensures ∙ ap (λ x. cies_of s (spans_seen x)) c.deref.ensures.value in
+    (c.args.place, rw c.deref-2.ensures.value (entries_rise s c.args.place spans entries rise read))
