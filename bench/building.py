@@ -1,7 +1,28 @@
 """What the measuring scripts share: programs that are built and run, and how many rounds they do in a second."""
+import pathlib
+import resource
+import shutil
 import subprocess
 import sys
 import time
+
+TOP = pathlib.Path(__file__).resolve().parent.parent
+
+# A program begins with this that reads each file that is named, of 1 MiB at most.
+EACH_SOURCE = """#![tactic(auto)]
+
+use std::env;
+use std::fs;
+use std::io;
+use std::time::Instant;
+
+fn main(rt: HostRuntime) -> io::Result<()> {
+    for path in env::args(&rt)?.skip(1) {
+        let source = fs::read(&rt, path.as_str())?;
+        if source.len() > 1_048_576 {
+            continue;
+        }
+"""
 
 
 def run(command, **how):
@@ -11,11 +32,49 @@ def run(command, **how):
     return done.stdout
 
 
+def crates_below(names):
+    """The lines of crates.txt of these crates and of all that they stand on."""
+    lines = [line for line in (TOP / "crates.txt").read_text().splitlines() if ":" in line and not line.startswith("#")]
+    needs = {name.split()[0]: words.split() for name, words in (line.split(":") for line in lines)}
+    kept, left = set(), list(names)
+    while left:
+        name = left.pop()
+        if name in needs and name not in kept:
+            kept.add(name)
+            left += needs[name]
+    return {name: words for name, words in needs.items() if name in kept}
+
+
+def rattle_program(work, name, text, needs):
+    """The folder of a program, beside copies of the crates that it needs."""
+    below = crates_below(needs)
+    for crate in below:
+        shutil.copytree(TOP / "crates" / crate, work / "crates" / crate, ignore=shutil.ignore_patterns("out", "must-fail"))
+    program = work / "crates" / name
+    (program / "src").mkdir(parents=True)
+    (program / "src/main.rt").write_text(text)
+    lines = [f"{crate}: {' '.join(words)}\n" for crate, words in [*below.items(), (name, needs)]]
+    (work / "crates.txt").write_text("".join(lines))
+    shutil.copy(TOP / "HANDLES", work)
+    return program
+
+
 def built_c(work, name, text):
     source = work / f"{name}.c"
     source.write_text(text)
     run(["gcc", "-O2", "-o", work / name, source])
     return work / name
+
+
+def processor_seconds(command, runs):
+    """The least processor time of some runs, which other work on the machine hardly changes."""
+    times = []
+    for _ in range(runs):
+        before = resource.getrusage(resource.RUSAGE_CHILDREN)
+        subprocess.run(command, stdout=subprocess.DEVNULL, check=True)
+        after = resource.getrusage(resource.RUSAGE_CHILDREN)
+        times.append(after.ru_utime + after.ru_stime - before.ru_utime - before.ru_stime)
+    return min(times)
 
 
 def rounds_per_second(program, words, many, runs):

@@ -8,24 +8,12 @@ import shutil
 import subprocess
 import tempfile
 
-TOP = pathlib.Path(__file__).resolve().parent.parent
+from building import EACH_SOURCE, TOP, rattle_program, run
+
 MIB = 1 << 20
 ROUNDS = 100
 
-MAIN = """#![tactic(auto)]
-
-use std::env;
-use std::fs;
-use std::io;
-use std::time::Instant;
-
-fn main(rt: HostRuntime) -> io::Result<()> {
-    for path in env::args(&rt)?.skip(1) {
-        let source = fs::read(&rt, path.as_str())?;
-        if source.len() > 1_048_576 {
-            continue;
-        }
-        let start = Instant::now(&rt)?;
+MAIN = EACH_SOURCE + """        let start = Instant::now(&rt)?;
         let mut read = 0usize;
         for _ in 0..ROUNDS {
             read = cxx_lexer::lex(rt.alloc(), source.as_slice()).map_or(0, |tokens| tokens.len());
@@ -143,16 +131,10 @@ def main():
         quoted = lambda texts: ", ".join(f'"{text}"' for text in texts)
         (work / "peer.c").write_text(PEER % {"words": quoted(words), "marks": quoted(marks), "rounds": ROUNDS})
         subprocess.run(["cc", "-O2", "-o", work / "peer", work / "peer.c"], check=True)
-        for crate in ("cxx_ast", "cxx_lexer"):
-            shutil.copytree(TOP / "crates" / crate, work / "crates" / crate, ignore=shutil.ignore_patterns("out", "must-fail"))
-        program = work / "crates" / "lex_speed"
-        (program / "src").mkdir(parents=True)
-        (program / "src" / "main.rt").write_text(MAIN)
-        (work / "crates.txt").write_text("cxx_ast:\ncxx_lexer: cxx_ast thiserror\nlex_speed: cxx_ast cxx_lexer\n")
-        shutil.copy(TOP / "HANDLES", work / "HANDLES")
+        program = rattle_program(work, "lex_speed", MAIN, ["cxx_ast", "cxx_lexer"])
         paths = [str(path) for _, path in files]
-        ours = subprocess.run(["rt", "run", "--", *paths], cwd=program, check=True, capture_output=True, text=True).stdout
-        peers = subprocess.run([work / "peer", *paths], check=True, capture_output=True, text=True).stdout
+        ours = run(["rt", "run", "--", *paths], cwd=program)
+        peers = run([work / "peer", *paths])
         print(f"{'source':24}{'bytes':>9}{'tokens':>8}{'lex MB/s':>10}{'C MB/s':>10}")
         for (name, path), our, peer in zip(files, ours.splitlines()[-len(files):], peers.splitlines()):
             size = path.stat().st_size

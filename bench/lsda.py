@@ -6,13 +6,11 @@ sites. What they do besides is measured by a run with few look-ups, and taken of
 What is built lies in a folder of its own.
 """
 import pathlib
-import shutil
 import sys
 import tempfile
 
-from building import built_c, rounds_per_second, run
+from building import built_c, rattle_program, rounds_per_second, run
 
-TOP = pathlib.Path(__file__).resolve().parent.parent
 SITES, READ, RUNS = [10, 100, 1000], 50_000_000, 5
 
 PROGRAM = """//! Looks sites up in an exception table again and again.
@@ -122,15 +120,7 @@ int main(int argc, char **argv) {
 
 
 def build_rattle(work, peer):
-    crate = work / "crates/site_lookup"
-    (crate / "src").mkdir(parents=True)
-    (crate / "src/main.rt").write_text(PROGRAM)
-    for name in ["eh_bytes", "table_forms", "lsda_read"]:
-        shutil.copytree(TOP / "crates" / name, work / "crates" / name)
-    shutil.copy(TOP / "HANDLES", work)
-    (work / "crates.txt").write_text(
-        "eh_bytes: thiserror\ntable_forms: eh_bytes\nlsda_read: eh_bytes table_forms thiserror\n"
-        "site_lookup: anyhow eh_bytes lsda_read\n")
+    crate = rattle_program(work, "site_lookup", PROGRAM, ["anyhow", "eh_bytes", "lsda_read"])
     (crate / "stdout").write_text(run([peer, "1", "1"]))
     run(["rt", "run"], cwd=crate)
     return crate / "out/site_lookup"

@@ -10,24 +10,12 @@ import subprocess
 import tempfile
 import time
 
-TOP = pathlib.Path(__file__).resolve().parent.parent
+from building import EACH_SOURCE, rattle_program, run
+
 ROUNDS = 100
 LIMIT = 65_536
 
-MAIN = """#![tactic(auto)]
-
-use std::env;
-use std::fs;
-use std::io;
-use std::time::Instant;
-
-fn main(rt: HostRuntime) -> io::Result<()> {
-    for path in env::args(&rt)?.skip(1) {
-        let source = fs::read(&rt, path.as_str())?;
-        if source.len() > 1_048_576 {
-            continue;
-        }
-        let Ok(tokens) = cxx_lexer::lex(rt.alloc(), source.as_slice()) else {
+MAIN = EACH_SOURCE + """        let Ok(tokens) = cxx_lexer::lex(rt.alloc(), source.as_slice()) else {
             continue;
         };
         if tokens.len() > 65_536 {
@@ -75,16 +63,9 @@ def main():
             path.write_text(text)
             files.append((name, path))
         (work / "empty.cc").write_text("")
-        for crate in ("cxx_ast", "cxx_lexer", "cxx_parser"):
-            shutil.copytree(TOP / "crates" / crate, work / "crates" / crate, ignore=shutil.ignore_patterns("out", "must-fail"))
-        program = work / "crates" / "parse_speed"
-        (program / "src").mkdir(parents=True)
-        (program / "src" / "main.rt").write_text(MAIN)
-        (work / "crates.txt").write_text(
-            "cxx_ast:\ncxx_lexer: cxx_ast thiserror\ncxx_parser: cxx_ast thiserror\nparse_speed: cxx_ast cxx_lexer cxx_parser\n")
-        shutil.copy(TOP / "HANDLES", work / "HANDLES")
+        program = rattle_program(work, "parse_speed", MAIN, ["cxx_ast", "cxx_lexer", "cxx_parser"])
         paths = [str(path) for _, path in files]
-        ours = subprocess.run(["rt", "run", "--", *paths], cwd=program, check=True, capture_output=True, text=True).stdout
+        ours = run(["rt", "run", "--", *paths], cwd=program)
         syntax = ["g++", "-std=c++98", "-fsyntax-only", "-w"]
         start = least([*syntax, work / "empty.cc"])
         print(f"{'source':24}{'tokens':>8}{'parse M/s':>11}{'g++ M/s':>9}")
