@@ -27,7 +27,7 @@ use Rattle.cxx_parser.specs.States.{want_operand, have_operand, have_expression,
 use Rattle.cxx_parser.specs.Stored.{expressions_from}
 use Rattle.cxx_parser.proofs.Before.{separator, spell_given, spell_signature, spell_heading, pending, before_expression, before_call, site_of, call_heading}
 use Rattle.cxx_parser.proofs.Held.{Fits, after, Within, Holds, IsReady}
-use Rattle.cxx_parser.proofs.Steps.{Where, step, restate, on_mark_holds, if_mark, if_word, within_holds, placed_is, on_name, on_literal}
+use Rattle.cxx_parser.proofs.Steps.{Where, step, restate, on_mark_holds, if_mark, if_word, placed_is, on_name, on_literal}
 
 -- the last of some expressions, and of some initialisers
 more_last : (es : List Expression) (e : Expression) (x : List Piece) → spell_more (expressions_from (es ++ (e ∷ []))) x ≡ mark sign.Comma ∷ spell_given es (spell_expression e x)
@@ -180,7 +180,6 @@ feed_operator-holds n F t None depth e ps E i w =
     feed_expression-holds n F t (gathered 0 depth e ps).value E (restate (λ x. before_expression E (spell_expression (gathered 0 depth e ps).value x)) _ (λ x. ap (before_expression E) (whole_said depth e ps x)) tt w)
 feed_operator-holds n F t (Some op) depth e ps E i w =
     let o = gathered (binary_level op) depth e ps in
-    within_holds (Holds (n + 1) (after t F)) _ _
     (step t (mark (binary_mark op)) _ (operator_is t.kind op i) tt (restate (λ x. before_expression E (pending o.pending (spell_expression o.value x))) (Unit {0}) (λ x. ap (before_expression E) (gathered_said (binary_level op) depth e ps x)) tt w))
 
 pub feed_operand-holds : (n : ℕ) (F : Fits) (t : Token) (depth : ℕ) (e : Expression) (ps : List Pending) (E : InExpression) → Holds n F (have_operand depth e ps E) → Where (Holds (n + 1) (after t F)) (feed_operand t depth e ps E)
@@ -201,22 +200,22 @@ feed_names-holds n F t names P w = if_mark (Holds (n + 1) (after t F)) sign.Dot 
 -- the first token of an operand
 begin_bracket-holds : (n : ℕ) (F : Fits) (t : Token) (depth : ℕ) (ps : List Pending) (E : InExpression) → Holds n F (want_operand depth ps E) → Where (Holds (n + 1) (after t F)) (begin_bracket t depth ps E)
 begin_bracket-holds n F t depth ps E w =
-    if_mark (Holds (n + 1) (after t F)) sign.OpenParen t _ _ (λ is. within_holds (Holds (n + 1) (after t F)) _ _ (step t (mark_at sign.OpenParen t.place) _ (placed_is t (kind.Mark sign.OpenParen) is) tt w))
-    (if_word (Holds (n + 1) (after t F)) keyword.Std t _ _ (λ is. within_holds (Holds (n + 1) (after t F)) _ _ (λ u i. step u (mark sign.ColonColon) _ i tt (step t (word_at keyword.Std t.place) (Unit {0}) (placed_is t (kind.Word keyword.Std) is) tt w))) tt)
+    if_mark (Holds (n + 1) (after t F)) sign.OpenParen t _ _ (λ is. (step t (mark_at sign.OpenParen t.place) _ (placed_is t (kind.Mark sign.OpenParen) is) tt w))
+    (if_word (Holds (n + 1) (after t F)) keyword.Std t _ _ (λ is. (λ u i. step u (mark sign.ColonColon) _ i tt (step t (word_at keyword.Std t.place) (Unit {0}) (placed_is t (kind.Word keyword.Std) is) tt w))) tt)
 
 begin_rest-holds : (n : ℕ) (F : Fits) (t : Token) (depth : ℕ) (ps : List Pending) (E : InExpression) → Holds n F (want_operand depth ps E) → Where (Holds (n + 1) (after t F)) (begin_rest t depth ps E)
 begin_rest-holds n F t depth ps E w =
     on_literal (Holds (n + 1) (after t F)) t (λ v. within depth (have_operand depth (number v t.place) ps E)) _
-    (λ v is u. within_holds (Holds (n + 1) (after t F)) depth _ (step t (placed (kind.Number v) t.place) _ (placed_is t (kind.Number v) is) tt w))
+    (λ v is u. (step t (placed (kind.Number v) t.place) _ (placed_is t (kind.Number v) is) tt w))
     (on_name (Holds (n + 1) (after t F)) t (λ m. within depth (after_path (m ∷ []) (of_operand depth ps E))) _
-    (λ m is. within_holds (Holds (n + 1) (after t F)) depth _ (step t (named m) _ is tt w))
+    (λ m is. (step t (named m) _ is tt w))
     (begin_bracket-holds n F t depth ps E w))
 
 pub begin_operand-holds : (n : ℕ) (F : Fits) (t : Token) (depth : ℕ) (ps : List Pending) (E : InExpression) → Holds n F (want_operand depth ps E) → Where (Holds (n + 1) (after t F)) (begin_operand t depth ps E)
 begin_operand-holds n F t depth ps E w = go (prefix_of t.kind) refl (begin_rest-holds n F t depth ps E w)
   where
     go : (o : Option UnaryOp) → prefix_of t.kind ≡ o → Where (Holds (n + 1) (after t F)) (begin_rest t depth ps E) → Where (Holds (n + 1) (after t F)) (elim o [ Some op ↦ within (depth + 1) (want_operand (depth + 1) (before_operand depth op t.place ∷ ps) E) | None ↦ begin_rest t depth ps E ])
-    go (Some op) i r = within_holds (Holds (n + 1) (after t F)) (depth + 1) _ (step t (mark_at (unary_mark op) t.place) _ (placed_is t (kind.Mark (unary_mark op)) (prefix_is t.kind op i)) tt w)
+    go (Some op) i r = (step t (mark_at (unary_mark op) t.place) _ (placed_is t (kind.Mark (unary_mark op)) (prefix_is t.kind op i)) tt w)
     go None i r = r
 
 -- a token behind the `(` of arguments

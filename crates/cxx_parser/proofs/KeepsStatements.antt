@@ -13,14 +13,14 @@ use Rattle.cxx_ast.specs.Spelling.{is_bad_exception, spell_type, spell_statement
 use Rattle.cxx_parser.specs.Contexts.{InStatement, in_then, in_else, in_while, in_block, InBlock, of_block, of_try, of_handler, of_function, InTry, in_try, InJump, of_return, of_throw, Caught, Signature, in_jump, of_statement, of_local}
 use Rattle.cxx_parser.specs.Expressions.{feed_names}
 use Rattle.cxx_parser.specs.Functions.{have_body}
-use Rattle.cxx_parser.specs.States.{State, after_jump, after_first_name, after_only_name, after_int, after_int_name, after_object_name, after_handler, have_statement, have_type, in_statements, want_statement, want_simple, want_plain, want_named, Step, stops, deepens, leads, unless, within, within_step}
+use Rattle.cxx_parser.specs.States.{State, after_jump, after_first_name, after_only_name, after_int, after_int_name, after_object_name, after_handler, have_statement, have_type, in_statements, want_statement, want_simple, want_plain, want_named, Step, stops, leads, unless, within, within_step}
 use Rattle.cxx_parser.specs.Statements.{have_block, takes_locals, begin_local, named_depth, begin_named, begin_plain, begin_simple, begin_statement, feed_block, feed_statement, feed_handler, feed_jump, feed_only_name, feed_class, feed_first_name, feed_int, feed_int_name, feed_object_name}
 use Rattle.cxx_parser.specs.Stored.{statements_from, handlers_from}
 use Rattle.cxx_parser.proofs.Before.{before_statement, before_block, before_try, site_of, block_heading, spell_signature}
 use Rattle.cxx_parser.proofs.Held.{Fits, after, Within, Holds}
 use Rattle.cxx_parser.proofs.KeepsExpressions.{begin_operand-holds, feed_names-holds}
 use Rattle.cxx_parser.proofs.KeepsTypes.{plain_class}
-use Rattle.cxx_parser.proofs.Steps.{Where, step, restate, on_mark_holds, if_mark, if_word, within_holds, placed_is, on_name}
+use Rattle.cxx_parser.proofs.Steps.{Where, step, restate, on_mark_holds, if_mark, if_word, placed_is, on_name}
 
 -- the last of some statements, and of some handlers
 pub statements_last : (ss : List Statement) (s : Statement) (x : List Piece) → spell_statements (statements_from ss) (spell_statement s x) ≡ spell_statements (statements_from (ss ++ (s ∷ []))) x
@@ -50,8 +50,8 @@ module _ (bodies : BodyHolds) where
   -- the first token of a statement
   begin_local-holds : (n : ℕ) (F : Fits) (t : Token) (depth : ℕ) (C : InStatement) → Holds n F (want_named depth C) → Where (Holds (n + 1) (after t F)) (begin_local t depth C)
   begin_local-holds n F t depth C w =
-      if_word (Holds (n + 1) (after t F)) keyword.Int t _ _ (λ is. within_holds (Holds (n + 1) (after t F)) depth _ (step t (word keyword.Int) _ is tt w))
-      (if_word (Holds (n + 1) (after t F)) keyword.Const t _ _ (λ is. within_holds (Holds (n + 1) (after t F)) depth _ (step t (word keyword.Const) _ is tt w)) tt)
+      if_word (Holds (n + 1) (after t F)) keyword.Int t _ _ (λ is. (step t (word keyword.Int) _ is tt w))
+      (if_word (Holds (n + 1) (after t F)) keyword.Const t _ _ (λ is. (step t (word keyword.Const) _ is tt w)) tt)
 
   either : (Q : State → Type 1) (b : Bool) (x y : Step) → Where Q x → Where Q y → Where Q (if b then x else y)
   either Q true x y f g = f
@@ -60,35 +60,35 @@ module _ (bodies : BodyHolds) where
   pub begin_named-holds : (n : ℕ) (F : Fits) (t : Token) (depth : ℕ) (C : InStatement) → Holds n F (want_named depth C) → Where (Holds (n + 1) (after t F)) (begin_named t depth C)
   begin_named-holds n F t depth C w =
       on_name (Holds (n + 1) (after t F)) t (λ m. within (named_depth depth (takes_locals C)) (after_first_name m depth C)) _
-      (λ m is. within_holds (Holds (n + 1) (after t F)) _ _ (step t (named m) _ is tt w))
+      (λ m is. (step t (named m) _ is tt w))
       (either (Holds (n + 1) (after t F)) (takes_locals C) _ _ (begin_local-holds n F t depth C w) tt)
 
   pub begin_plain-holds : (n : ℕ) (F : Fits) (t : Token) (depth : ℕ) (C : InStatement) → Holds n F (want_plain depth C) → Where (Holds (n + 1) (after t F)) (begin_plain t depth C)
   begin_plain-holds n F t depth C w =
       if_word (Holds (n + 1) (after t F)) keyword.Break t _ _
-      (λ is. within_holds (Holds (n + 1) (after t F)) _ _ (λ u i. step u (mark sign.Semicolon) _ i tt (step t (word_at keyword.Break t.place) (Unit {0}) (placed_is t (kind.Word keyword.Break) is) tt w)))
+      (λ is. (λ u i. step u (mark sign.Semicolon) _ i tt (step t (word_at keyword.Break t.place) (Unit {0}) (placed_is t (kind.Word keyword.Break) is) tt w)))
       (if_word (Holds (n + 1) (after t F)) keyword.Continue t _ _
-      (λ is. within_holds (Holds (n + 1) (after t F)) _ _ (λ u i. step u (mark sign.Semicolon) _ i tt (step t (word_at keyword.Continue t.place) (Unit {0}) (placed_is t (kind.Word keyword.Continue) is) tt w)))
+      (λ is. (λ u i. step u (mark sign.Semicolon) _ i tt (step t (word_at keyword.Continue t.place) (Unit {0}) (placed_is t (kind.Word keyword.Continue) is) tt w)))
       (if_word (Holds (n + 1) (after t F)) keyword.Std t _ _
-      (λ is. within_holds (Holds (n + 1) (after t F)) _ _ (λ u i. step u (mark sign.ColonColon) _ i tt (step t (word_at keyword.Std t.place) (Unit {0}) (placed_is t (kind.Word keyword.Std) is) tt w)))
+      (λ is. (λ u i. step u (mark sign.ColonColon) _ i tt (step t (word_at keyword.Std t.place) (Unit {0}) (placed_is t (kind.Word keyword.Std) is) tt w)))
       (begin_named-holds n F t depth C w)))
 
   pub begin_simple-holds : (n : ℕ) (F : Fits) (t : Token) (depth : ℕ) (C : InStatement) → Holds n F (want_simple depth C) → Where (Holds (n + 1) (after t F)) (begin_simple t depth C)
   begin_simple-holds n F t depth C w =
-      if_mark (Holds (n + 1) (after t F)) sign.Semicolon t _ _ (λ is. within_holds (Holds (n + 1) (after t F)) _ _ (step t (mark sign.Semicolon) _ is tt w))
-      (if_word (Holds (n + 1) (after t F)) keyword.Return t _ _ (λ is. within_holds (Holds (n + 1) (after t F)) _ _ (step t (word_at keyword.Return t.place) _ (placed_is t (kind.Word keyword.Return) is) tt w))
-      (if_word (Holds (n + 1) (after t F)) keyword.Throw t _ _ (λ is. within_holds (Holds (n + 1) (after t F)) _ _ (step t (word_at keyword.Throw t.place) _ (placed_is t (kind.Word keyword.Throw) is) tt w))
+      if_mark (Holds (n + 1) (after t F)) sign.Semicolon t _ _ (λ is. (step t (mark sign.Semicolon) _ is tt w))
+      (if_word (Holds (n + 1) (after t F)) keyword.Return t _ _ (λ is. (step t (word_at keyword.Return t.place) _ (placed_is t (kind.Word keyword.Return) is) tt w))
+      (if_word (Holds (n + 1) (after t F)) keyword.Throw t _ _ (λ is. (step t (word_at keyword.Throw t.place) _ (placed_is t (kind.Word keyword.Throw) is) tt w))
       (begin_plain-holds n F t depth C w)))
 
   pub begin_statement-holds : (n : ℕ) (F : Fits) (t : Token) (depth : ℕ) (C : InStatement) → Holds n F (want_statement depth C) → Where (Holds (n + 1) (after t F)) (begin_statement t depth C)
   begin_statement-holds n F t depth C w =
-      if_mark (Holds (n + 1) (after t F)) sign.OpenBrace t _ _ (λ is. within_holds (Holds (n + 1) (after t F)) _ _ (step t (mark sign.OpenBrace) _ is tt w))
+      if_mark (Holds (n + 1) (after t F)) sign.OpenBrace t _ _ (λ is. (step t (mark sign.OpenBrace) _ is tt w))
       (if_word (Holds (n + 1) (after t F)) keyword.If t _ _
-      (λ is. within_holds (Holds (n + 1) (after t F)) _ _ (λ u i. step u (mark sign.OpenParen) _ i tt (step t (word keyword.If) (Unit {0}) is tt w)))
+      (λ is. (λ u i. step u (mark sign.OpenParen) _ i tt (step t (word keyword.If) (Unit {0}) is tt w)))
       (if_word (Holds (n + 1) (after t F)) keyword.While t _ _
-      (λ is. within_holds (Holds (n + 1) (after t F)) _ _ (λ u i. step u (mark sign.OpenParen) _ i tt (step t (word keyword.While) (Unit {0}) is tt w)))
+      (λ is. (λ u i. step u (mark sign.OpenParen) _ i tt (step t (word keyword.While) (Unit {0}) is tt w)))
       (if_word (Holds (n + 1) (after t F)) keyword.Try t _ _
-      (λ is. within_holds (Holds (n + 1) (after t F)) _ _ (λ u i. step u (mark sign.OpenBrace) _ i tt (step t (word keyword.Try) (Unit {0}) is tt w)))
+      (λ is. (λ u i. step u (mark sign.OpenBrace) _ i tt (step t (word keyword.Try) (Unit {0}) is tt w)))
       (begin_simple-holds n F t depth C w))))
 
   -- a token behind statements of a block
@@ -121,8 +121,8 @@ feed_jump-holds n F t depth (of_throw place C) w =
 -- a token behind a first name
 within_step_holds : (Q : State → Type 1) (d : ℕ) (x : Step) → Where Q x → Where Q (within_step d x)
 within_step_holds Q d stops h = tt
-within_step_holds Q d deepens h = tt
-within_step_holds Q d (leads s) h = within_holds Q d s h
+within_step_holds Q d (leads s) h = h
+within_step_holds Q d (within other s) h = h
 
 pub feed_only_name-holds : (n : ℕ) (F : Fits) (t : Token) (m : Name) (depth : ℕ) (C : InStatement) → Holds n F (after_only_name m depth C) → Where (Holds (n + 1) (after t F)) (feed_only_name t m depth C)
 feed_only_name-holds n F t m depth C w =
@@ -152,10 +152,10 @@ feed_int-holds n F t depth C w =
 
 pub feed_int_name-holds : (n : ℕ) (F : Fits) (t : Token) (m : Name) (depth : ℕ) (C : InStatement) → Holds n F (after_int_name m depth C) → Where (Holds (n + 1) (after t F)) (feed_int_name t m depth C)
 feed_int_name-holds n F t m depth C w =
-    if_mark (Holds (n + 1) (after t F)) sign.Assign t _ _ (λ is. within_holds (Holds (n + 1) (after t F)) _ _ (step t (mark sign.Assign) _ is tt w))
+    if_mark (Holds (n + 1) (after t F)) sign.Assign t _ _ (λ is. (step t (mark sign.Assign) _ is tt w))
     (on_mark_holds (Holds (n + 1) (after t F)) sign.Semicolon t _ (λ is. step t (mark sign.Semicolon) _ is tt w))
 
 pub feed_object_name-holds : (n : ℕ) (F : Fits) (t : Token) (c m : Name) (depth : ℕ) (C : InStatement) → Holds n F (after_object_name c m depth C) → Where (Holds (n + 1) (after t F)) (feed_object_name t c m depth C)
 feed_object_name-holds n F t c m depth C w =
-    if_mark (Holds (n + 1) (after t F)) sign.OpenParen t _ _ (λ is. within_holds (Holds (n + 1) (after t F)) _ _ (step t (mark sign.OpenParen) _ is tt w))
+    if_mark (Holds (n + 1) (after t F)) sign.OpenParen t _ _ (λ is. (step t (mark sign.OpenParen) _ is tt w))
     (on_mark_holds (Holds (n + 1) (after t F)) sign.Semicolon t _ (λ is. step t (mark sign.Semicolon) _ is tt w))

@@ -19,14 +19,14 @@ use Rattle.cxx_parser.specs.Gives.{begins, place_at}
 use Rattle.cxx_parser.specs.Operators.{Operand, gathered, with_operator, bind_below}
 use Rattle.cxx_parser.specs.Reading.{Answer, unexpected, too_deep, feed, read}
 use Rattle.cxx_parser.specs.Signs.{is_mark, operator_of, level_of, first_level}
-use Rattle.cxx_parser.specs.States.{want_operand, have_operand, have_expression, after_path, have_path, after_open, have_argument, within, Step, stops, deepens, leads}
+use Rattle.cxx_parser.specs.States.{want_operand, have_operand, have_expression, after_path, have_path, after_open, have_argument, Step, stops, leads, within}
 
 -- what a step leads to
 abbrev pub stepped : ℕ → ℕ → Token → List Token → Step → Answer
 stepped total end t ts step = elim step [
   | stops ↦ Err (unexpected t.place)
-  | deepens ↦ Err (too_deep t.place)
   | leads next ↦ read total end ts next
+  | within depth next ↦ if nat_lt most_depth depth then Err (too_deep t.place) else read total end ts next
 ]
 
 -- an argument was read
@@ -120,11 +120,11 @@ operator_read total end tokens after t op level depth e ps E i j b h =
 
 pub operator_taken : (total end : ℕ) (tokens after : List Token) (t : Token) (op : BinaryOp) (level depth : ℕ) (e : Expression) (ps : List Pending) (E : InExpression) → tokens ≡ t ∷ after → operator_of t.kind ≡ Some op → bind_below level ps ≡ true → nat_lt (binary_level op) level ≡ false → nat_lt most_depth (depth + 1 + below_expression e) ≡ false → read total end tokens (have_operand depth e ps E) ≡ read total end after (want_operand (depth + 1) (behind_operand depth op e ∷ ps) E)
 operator_taken total end tokens after t op level depth e ps E i j b h w =
-    operator_read total end tokens after t op level depth e ps E i j b h ∙ ap (λ x. stepped total end t after (if x then deepens else leads (want_operand (depth + 1) (behind_operand depth op e ∷ ps) E))) w
+    operator_read total end tokens after t op level depth e ps E i j b h ∙ ap (λ x. if x then Err (too_deep t.place) else read total end after (want_operand (depth + 1) (behind_operand depth op e ∷ ps) E)) w
 
 pub operator_deepens : (total end : ℕ) (tokens after : List Token) (t : Token) (op : BinaryOp) (level depth : ℕ) (e : Expression) (ps : List Pending) (E : InExpression) → tokens ≡ t ∷ after → operator_of t.kind ≡ Some op → bind_below level ps ≡ true → nat_lt (binary_level op) level ≡ false → nat_lt most_depth (depth + 1 + below_expression e) ≡ true → read total end tokens (have_operand depth e ps E) ≡ Err (too_deep (place_at tokens end))
 operator_deepens total end tokens after t op level depth e ps E i j b h w =
-    operator_read total end tokens after t op level depth e ps E i j b h ∙ ap (λ x. stepped total end t after (if x then deepens else leads (want_operand (depth + 1) (behind_operand depth op e ∷ ps) E))) w
+    operator_read total end tokens after t op level depth e ps E i j b h ∙ ap (λ x. if x then Err (too_deep t.place) else read total end after (want_operand (depth + 1) (behind_operand depth op e ∷ ps) E)) w
     ∙ ap (λ x. deep_at (place_at x end)) (sym i)
   where
     deep_at : ℕ → Answer

@@ -1,9 +1,9 @@
--- A tree that was read.
-use Rattle.std.specs.Prelude.{ℕ, ◌≡◌, List, [], map, length}
+-- Declarations that were read.
+use Rattle.std.specs.Prelude.{◌≡◌, List, [], map, length}
 use Rattle.cxx_ast.specs.declared.token.Token.{Token}
 use Rattle.cxx_ast.specs.Grammatical.{Each, IsStart}
 use Rattle.cxx_ast.specs.Piece.{Fit}
-use Rattle.cxx_ast.specs.Plain.{Function, Program}
+use Rattle.cxx_ast.specs.Plain.{Function, Declaration}
 use Rattle.cxx_ast.specs.Written.{Written, written_class, written_global, written_function, functions, declared, spell_function, spell_declarations}
 
 -- a function has the number of its tokens
@@ -16,11 +16,9 @@ AreCounted (written_class n is_public base ms) = Each IsCounted (functions ms)
 AreCounted (written_global n s) = IsStart s
 AreCounted (written_function f) = IsCounted f
 
--- some declarations are those of the tree and are spelled by the tokens; functions and tree have their numbers of tokens, and the tree the source's length
-pub record IsSpelled (tokens : List Token) (end : ℕ) (p : Program) : Type 0 where
+-- declarations as they were written are spelled by the tokens, and functions have their numbers of tokens
+pub record IsSpelled (tokens : List Token) (ds : List Declaration) : Type 0 where
   pub written : List Written
-  pub declarations : map declared written ≡ p.declarations
+  pub declarations : map declared written ≡ ds
   pub spelled : Fit tokens (spell_declarations written [])
   pub counted : Each AreCounted written
-  pub tokens_counted : p.tokens ≡ length tokens
-  pub length_kept : p.length ≡ end

@@ -1,6 +1,7 @@
 -- States of statements that the tokens to come tell apart no more.
-use Rattle.std.specs.Prelude.{ℕ, ◌+◌, ◌-◌, ◌≡◌, true, false, List, [], ◌∷◌, ◌++◌, None, length, nat_lt, refl}
-use Rattle.std.proofs.Common.{ap}
+use Rattle.std.specs.Prelude.{ℕ, ◌+◌, ◌-◌, ◌≡◌, Bool, true, false, max, List, [], ◌∷◌, ◌++◌, None, length, nat_lt, refl}
+use Rattle.std.proofs.Common.{ap, arith}
+use Rattle.std.proofs.lemmas.Bool.Decides.{nat_tests}
 use Rattle.cxx_ast.specs.Limits.{most_depth}
 use Rattle.cxx_ast.specs.declared.mark.Mark.TheVariants as sign
 use Rattle.cxx_ast.specs.declared.keyword.Keyword.TheVariants as keyword
@@ -13,7 +14,7 @@ use Rattle.cxx_parser.specs.Expressions.{feed_names, begin_operand}
 use Rattle.cxx_parser.specs.Gives.{begins, first_name}
 use Rattle.cxx_parser.specs.Reading.{feed, read}
 use Rattle.cxx_parser.specs.Signs.{is_mark, is_word, name_of}
-use Rattle.cxx_parser.specs.States.{want_operand, want_statement, want_simple, want_plain, want_named, in_statements, have_statement, after_jump, after_handler, after_path, after_first_name, after_only_name, Step, stops, deepens, leads, within_step}
+use Rattle.cxx_parser.specs.States.{want_operand, want_statement, want_simple, want_plain, want_named, in_statements, have_statement, after_jump, after_handler, after_path, after_first_name, after_only_name, Step, stops, leads, within, within_step}
 use Rattle.cxx_parser.specs.Statements.{begin_statement, begin_simple, begin_plain, begin_named, feed_block, feed_statement, feed_handler, feed_jump, takes_locals, feed_first_name, feed_class, feed_only_name}
 use Rattle.cxx_parser.specs.Stored.{handlers_from}
 use Rattle.cxx_parser.proofs.Settled.{stepped}
@@ -36,15 +37,22 @@ no_class total end (t ∷ ts) n depth C h i j = ap (stepped total end t ts) (goe
     goes h i j = rw (h, i, j, feed_first_name, feed_class) refl
 
 -- a path at a depth that is not too great
-pub within_same : (depth : ℕ) (s : Step) → nat_lt most_depth depth ≡ false → within_step depth s ≡ s
-within_same depth stops h = refl
-within_same depth deepens h = refl
-within_same depth (leads s) h = rw h refl
+within_least : (depth other : ℕ) → nat_lt most_depth depth ≡ false → nat_lt most_depth (max depth other) ≡ nat_lt most_depth other
+within_least depth other h = go (nat_lt most_depth other) refl
+  where
+    go : (b : Bool) → nat_lt most_depth other ≡ b → nat_lt most_depth (max depth other) ≡ b
+    go true e = grind (arith, nat_tests)
+    go false e = grind (arith, nat_tests)
+
+pub within_same : (total end : ℕ) (t : Token) (ts : List Token) (depth : ℕ) (s : Step) → nat_lt most_depth depth ≡ false → stepped total end t ts (within_step depth s) ≡ stepped total end t ts s
+within_same total end t ts depth stops h = refl
+within_same total end t ts depth (leads s) h = rw h refl
+within_same total end t ts depth (within other s) h = rw (within_least depth other h) refl
 
 pub only_name : (total end : ℕ) (tokens : List Token) (n : Name) (depth : ℕ) (C : InStatement) → nat_lt most_depth (depth + 1) ≡ false → read total end tokens (after_only_name n depth C) ≡ read total end tokens (after_path (n ∷ []) (of_statement depth C))
 unfolding read feed
 only_name total end [] n depth C h = refl
-only_name total end (t ∷ ts) n depth C h = ap (stepped total end t ts) (within_same (depth + 1) (feed_names t (n ∷ []) (of_statement depth C)) h)
+only_name total end (t ∷ ts) n depth C h = within_same total end t ts (depth + 1) (feed_names t (n ∷ []) (of_statement depth C)) h
 
 -- another statement of a block
 pub block_goes_on : (total end : ℕ) (tokens : List Token) (depth : ℕ) (ss : List Statement) (B : InBlock) → begins tokens (kind.Mark sign.CloseBrace) ≡ false → read total end tokens (in_statements depth ss B) ≡ read total end tokens (want_statement depth (in_block depth ss B))

@@ -1,5 +1,5 @@
 -- A token more: what it must be for a step, and what is kept.
-use Rattle.std.specs.Prelude.{ℕ, ◌+◌, ◌≡◌, Bool, true, false, List, ◌∷◌, Option, Some, None, ℤ, pos, nat_lt, refl, if◌then◌else◌}
+use Rattle.std.specs.Prelude.{ℕ, ◌+◌, ◌≡◌, Bool, true, false, List, ◌∷◌, Option, Some, None, ℤ, pos, refl, if◌then◌else◌}
 use Rattle.std.proofs.Common.{ap, subst, arith}
 use Rattle.cxx_ast.specs.declared.keyword.Keyword.{Keyword}
 use Rattle.cxx_ast.specs.declared.mark.Mark.{Mark}
@@ -13,8 +13,7 @@ use Rattle.cxx_ast.specs.Piece.{Piece, Is, named}
 use Rattle.cxx_ast.specs.Spelling.{Spelling}
 use Rattle.cxx_parser.specs.Expressions.{on_mark}
 use Rattle.cxx_parser.specs.Signs.{is_mark, is_word, is_name, is_kind, name_at, name_of, literal_of}
-use Rattle.cxx_parser.specs.States.{State, Step, stops, deepens, leads, within}
-use Rattle.cxx_ast.specs.Limits.{most_depth}
+use Rattle.cxx_parser.specs.States.{State, Step, stops, leads, within}
 use Rattle.cxx_parser.proofs.Before.{Site}
 use Rattle.cxx_parser.proofs.Held.{Fits, after, Outer, Within}
 use Rattle.cxx_parser.proofs.SoundSteps.{literal_unsigned}
@@ -23,8 +22,8 @@ use Rattle.cxx_parser.proofs.TokenTests.{mark_is, word_is, name_is}
 -- a step leads only to what holds
 abbrev pub Where : (State → Type 1) → Step → Type 1
 Where Q stops = Unit {1}
-Where Q deepens = Unit {1}
 Where Q (leads s) = Q s
+Where Q (within d s) = Q s
 
 pub outer_more : {n : ℕ} {F G : Fits} {site : Site} (t : Token) → Outer n F G site → Outer (n + 1) (after t F) (after t G) site
 outer_more t o = record { front = o.front; matches = o.matches; may_tilde = o.may_tilde; carried = λ ts x g. o.carried (t ∷ ts) x g; counted = λ ts x g. let k = o.counted (t ∷ ts) x g in omega (arith, k) }
@@ -58,13 +57,6 @@ if_word Q w t x y f g = go (is_word w t.kind) refl
     go : (b : Bool) → is_word w t.kind ≡ b → Where Q (if b then x else y)
     go true e = f (word_is w t.kind e)
     go false e = g
-
-pub within_holds : (Q : State → Type 1) (d : ℕ) (s : State) → Q s → Where Q (within d s)
-within_holds Q d s q = go (nat_lt most_depth d)
-  where
-    go : (b : Bool) → Where Q (if b then deepens else leads s)
-    go true = tt
-    go false = q
 
 -- a token of a kind stands at its place
 pub placed_is : (t : Token) (k : TokenKind) → t.kind ≡ k → t ≡ record { kind = k; place = t.place }

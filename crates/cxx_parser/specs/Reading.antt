@@ -1,9 +1,10 @@
 -- Reading, a token at a time.
-use Rattle.std.specs.Prelude.{ℕ, ◌-◌, List, [], ◌∷◌, length, Result, Ok, Err}
+use Rattle.std.specs.Prelude.{ℕ, ◌-◌, List, [], ◌∷◌, length, Result, Ok, Err, nat_lt, if◌then◌else◌}
 use Rattle.cxx_ast.specs.declared.token.Token.{Token}
+use Rattle.cxx_ast.specs.Limits.{most_depth}
 use Rattle.cxx_ast.specs.Plain.{Program}
 use Rattle.cxx_parser.specs.Signs.{is_kind}
-use Rattle.cxx_parser.specs.States.{State, expect, want_name, want_operand, have_operand, have_expression, after_path, have_path, after_open, have_argument, after_const, after_value_type, have_type, want_listed, have_listed, have_types, want_caught, have_caught, want_statement, want_simple, want_plain, want_named, in_statements, have_statement, after_jump, after_first_name, after_only_name, after_int, after_int_name, after_object_name, after_handler, after_params_open, want_param, have_param, after_params, after_throw_open, have_signature, have_initialiser, after_declared, after_class_name, after_class_colon, in_class, want_member, after_member_name, after_assign, after_minus, want_declaration, Step, stops, deepens, leads}
+use Rattle.cxx_parser.specs.States.{State, expect, want_name, want_operand, have_operand, have_expression, after_path, have_path, after_open, have_argument, after_const, after_value_type, have_type, want_listed, have_listed, have_types, want_caught, have_caught, want_statement, want_simple, want_plain, want_named, in_statements, have_statement, after_jump, after_first_name, after_only_name, after_int, after_int_name, after_object_name, after_handler, after_params_open, want_param, have_param, after_params, after_throw_open, have_signature, have_initialiser, after_declared, after_class_name, after_class_colon, in_class, want_member, after_member_name, after_assign, after_minus, want_declaration, Step, stops, leads, within}
 use Rattle.cxx_parser.specs.Expressions.{on_mark, feed_expression, feed_operand, feed_path, feed_names, begin_operand, feed_open, feed_argument}
 use Rattle.cxx_parser.specs.Types.{feed_param, feed_type, feed_value_type, feed_const, begin_param, begin_listed, feed_caught, feed_listed, feed_types, begin_caught}
 use Rattle.cxx_parser.specs.Statements.{begin_statement, begin_simple, begin_plain, begin_named, feed_block, feed_statement, feed_handler, feed_jump, feed_only_name, feed_first_name, feed_int, feed_int_name, feed_object_name}
@@ -78,8 +79,8 @@ unfoldable pub read : ℕ → ℕ → List Token → State → Answer
 read total end [] s = finished total end s
 read total end (t ∷ ts) s = elim (feed (total - length (t ∷ ts)) t s) [
   | stops ↦ Err (unexpected t.place)
-  | deepens ↦ Err (too_deep t.place)
   | leads next ↦ read total end ts next
+  | within depth next ↦ if nat_lt most_depth depth then Err (too_deep t.place) else read total end ts next
 ]
 
 -- the program that tokens are, in a source of a length, or their first fault

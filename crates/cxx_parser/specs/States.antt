@@ -1,11 +1,10 @@
 -- The states of reading: what was read, and what may come.
-use Rattle.std.specs.Prelude.{ℕ, Bool, List, nat_lt, if◌then◌else◌}
+use Rattle.std.specs.Prelude.{ℕ, Bool, List, max, if◌then◌else◌}
 use Rattle.cxx_ast.specs.declared.name.Name.{Name}
 use Rattle.cxx_ast.specs.declared.types.Ty.{Ty}
 use Rattle.cxx_ast.specs.declared.types.Param.{Param}
 use Rattle.cxx_ast.specs.declared.token.TokenKind.{TokenKind}
 use Rattle.cxx_ast.specs.Plain.{Expression, Statement, Declaration}
-use Rattle.cxx_ast.specs.Limits.{most_depth}
 use Rattle.cxx_parser.specs.Contexts.{OpenClass, Holder, Heading, Signature, InStatement, InBlock, InTry, InJump, Pending, InExpression, InCall, InPath, InType, InListed, InName}
 
 pub data State : Type 0 where
@@ -84,22 +83,18 @@ pub data State : Type 0 where
   -- declarations were read
   want_declaration : List Declaration → State
 
--- a token does not fit; each program that goes on so is too deep; or a state is reached
+-- a token does not fit; a state is reached; or one is reached in which a node stands at a depth
 pub data Step : Type 0 where
   stops : Step
-  deepens : Step
   leads : State → Step
+  within : ℕ → State → Step
 
 -- a step that is none where something holds
 abbrev pub unless : Bool → Step → Step
 unless b step = if b then stops else step
 
--- a state is reached in which a node stands at a depth
-abbrev pub within : ℕ → State → Step
-within depth s = if nat_lt most_depth depth then deepens else leads s
-
 -- a step to a state in which a node stands at a depth
 abbrev pub within_step : ℕ → Step → Step
 within_step depth stops = stops
-within_step depth deepens = deepens
 within_step depth (leads s) = within depth s
+within_step depth (within other s) = within (max depth other) s

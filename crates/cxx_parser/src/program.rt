@@ -1,5 +1,5 @@
 // Reading programs.
-ghost use Rattle.std.specs.Prelude.{ℕ, ◌≡◌, ◌≤◌, ◌<◌, ◌-◌, ◌++◌, ◌∷◌, [], List, Ok, false, IfOk, length};
+ghost use Rattle.std.specs.Prelude.{ℕ, ◌≡◌, ◌≤◌, ◌<◌, ◌-◌, ◌++◌, ◌∷◌, [], List, Ok, false, IfOk, IfErr, length};
 ghost use Rattle.cxx_ast.specs.declared.mark.Mark.TheVariants as sign;
 ghost use Rattle.cxx_ast.specs.declared.name.Name.{Name};
 ghost use Rattle.cxx_ast.specs.declared.token.TokenKind.TheVariants as kind;
@@ -7,10 +7,11 @@ ghost use Rattle.cxx_ast.specs.Limits.{most_tokens};
 ghost use Rattle.cxx_ast.specs.Plain.{Declaration, global_declaration};
 ghost use Rattle.cxx_ast.specs.Tree.{Tree};
 ghost use Rattle.cxx_ast.specs.View.{declaration_of, program_of};
+ghost use Rattle.cxx_parser.specs.Answers.{IsAnswer, IsRefusal};
 ghost use Rattle.cxx_parser.specs.Classes.{have_value};
 ghost use Rattle.cxx_parser.specs.Contexts.{of_program, of_int};
 ghost use Rattle.cxx_parser.specs.Gives.{Gives, ExpectsLiteral, begins};
-ghost use Rattle.cxx_parser.specs.Reading.{read, reading};
+ghost use Rattle.cxx_parser.specs.Reading.{Answer, read, reading};
 ghost use Rattle.cxx_parser.specs.States.{want_name, after_declared, after_assign, want_declaration};
 
 use crate::class::{class, void_function};
@@ -26,15 +27,18 @@ use cxx_ast::types::Ty;
 use std::alloc::Global;
 
 /// Reads the tree of at most 65,536 tokens of a source in one descent, as Annex A of ISO/IEC 14882:2003 has it for the language that the
-/// compiler takes, or answers the first fault.
+/// compiler takes, or answers the first fault: each list has one answer.
 ///
 /// `end` is the source's length in bytes, which the tree keeps and which is the place of what is missing at the end. No token is copied
 /// but for the bytes of names, and no token is gone back to.
-#[tactic(auto, using(crate::proofs::ReadTree::reading_tree))]
+#[tactic(auto, using(crate::proofs::Whole::reading_tree, crate::proofs::OneAnswer::answer_given, crate::proofs::OneAnswer::refusal_given, crate::proofs::OneAnswer::same_answer))]
 pub fn parse(alloc: Global, tokens: &[Token], end: u32) -> Result<Program, ParseError>
     requires { length tokens.now ≤ most_tokens }
     ensures gives { Gives (λ p. Ok (program_of p)) result (reading tokens.now end) }
     ensures tree { IfOk result (λ p. Tree tokens.now end (program_of p)) }
+    ensures refusal { IfErr result (λ e. IsRefusal tokens.now end e) }
+    ensures exact { (a : Answer) → IsAnswer tokens.now end a → Gives (λ p. Ok (program_of p)) result a }
+    ensures one { (a b : Answer) → IsAnswer tokens.now end a → IsAnswer tokens.now end b → a ≡ b }
 {
     declarations(alloc, tokens, end)
 }
