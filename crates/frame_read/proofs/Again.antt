@@ -16,7 +16,7 @@ use Rattle.frame_read.proofs.FdesRise.{read_fde}
 use Rattle.table_forms.specs.Spans.{Span, spans_from, spans_after, spans_within, distance_at}
 use Rattle.table_forms.specs.Parts.{Said, refused, said_cie, said_fde, unread, cie_of, cies_of, cie_said, fde_said, said_behind, said_of, says, fde_in, parts_at}
 use Rattle.frame_read.specs.Entry.{ok_of, span_from, span_at, cie_from, cie_here, fde_behind, fde_from, fde_here}
-use Rattle.frame_read.proofs.Members.{In}
+use Rattle.frame_read.proofs.Members.{In, find_in}
 
 span_found : (part : Part) (p k next : ℕ) → in_frames (fixed w32) part (length part.bytes) p ≡ Ok (suc k, next) → nat_le (next + suc k) (length part.bytes) ≡ true →
     span_at part p ≡ Some (record { at = p; stop = next + suc k })
@@ -58,17 +58,6 @@ in_filter {A = A} {B = B} f (x ∷ xs) b here = by (in_filter f xs b) (f x) refl
     by later None e there = let r = later there in (r.0, inr r.1, r.2)
     by later (Some c) e (inr there) = let r = later there in (r.0, inr r.1, r.2)
     by later (Some c) e (inl same) = (x, inl refl, e ∙ ap (λ (y : B). Some y) (sym same))
-
-find_in : {A : Type 0} (p : A → Bool) (xs : List A) (x : A) → find p xs ≡ Some x → In x xs × (p x ≡ true)
-find_in p [] x e = absurd cc
-find_in {A = A} p (y ∷ ys) x e = by (find_in p ys x) (p y) refl e
-  where
-    some_same : (u v : A) → (λ (w : Option A). w) (Some u) ≡ Some v → u ≡ v
-    some_same u v e = cc
-
-    by : (find p ys ≡ Some x → In x ys × (p x ≡ true)) → (b : Bool) → p y ≡ b → (if b then Some y else find p ys) ≡ Some x → In x (y ∷ ys) × (p x ≡ true)
-    by later true t f = let same = some_same y x f in (inl (sym same), ap p (sym same) ∙ t)
-    by later false t f = let r = later f in (inr r.0, r.1)
 
 -- a CIE of the list, by where it stands
 cie_again : (part : Part) (spans : List Span) (at : ℕ) (cie : Cie) → ((s : Span) → In s spans → span_at part s.at ≡ Some s) →

@@ -1,5 +1,5 @@
 -- The row of an FDE of the list is read again at its address.
-use Rattle.std.proofs.Common.{◌≡◌, inl, inr, ◌+◌, ◌-◌, ℕ, zero, suc, Bool, true, false, nat_le, List, [], ◌∷◌, map, length, option_and_then, Option, Some, None, Result, Ok, Err, refl, ap, sym, subst, ◌∙◌, arith, if◌then◌else◌, Contains, slice_get, IsOkAnd}
+use Rattle.std.proofs.Common.{◌≡◌, ◌+◌, ◌-◌, ℕ, suc, Bool, true, false, nat_le, List, [], ◌∷◌, map, length, option_and_then, Option, Some, None, Result, Ok, Err, refl, ap, sym, subst, ◌∙◌, arith, if◌then◌else◌, Contains, slice_get, IsOkAnd}
 use Rattle.std.proofs.lemmas.Bool.Decides.{nat_tests}
 use Rattle.eh_bytes.specs.declared.segment.Segment.{Segment}
 use Rattle.eh_bytes.specs.declared.segment.Segments.{Segments}
@@ -10,7 +10,7 @@ use Rattle.table_forms.specs.Fde.{Fde, is_in, row_at}
 use Rattle.table_forms.specs.Header.{header_at}
 use Rattle.table_forms.specs.Frames.{Frames, parts_in, parts_behind, frames_from, frames}
 use Rattle.frame_read.specs.Entry.{fde_here, fde_in, row_from}
-use Rattle.frame_read.proofs.Members.{In}
+use Rattle.frame_read.proofs.Members.{In, contains_in, in_contains}
 use Rattle.frame_read.specs.Listed.{fde_listed}
 use Rattle.frame_read.specs.ReadsFrames.{Listing, listing}
 use Rattle.frame_read.specs.Given.{IsFrameOf}
@@ -89,11 +89,6 @@ frames_again memory header d f reads here = from (part_with memory header) reads
     from None e = absurd cc
     from (Some part) e = both (header - part.address) part (first_of memory (header - part.address) part) (table_of memory (header - part.address) part) (sym (by_both memory (header - part.address) part) ∙ e)
 
-contains_in : {A : Type 0} (xs : List A) (x : A) → Contains xs x → In x xs
-contains_in [] x (k, below, e) = absurd (omega (arith, below))
-contains_in (y ∷ ys) x (zero, below, e) = inl (sym e)
-contains_in (y ∷ ys) x (suc k, below, e) = inr (contains_in ys x (k, omega (arith, below), e))
-
 -- an FDE of the list is read at its address
 found_again : (parts : List Segment) (header : ℕ) (d : Frames) (f : Fde) → AreApart (extents_of parts) → frames (map part_of parts) header ≡ Ok d → Contains d.fdes f →
     fde_in (map part_of parts) f.address ≡ Some f
@@ -117,11 +112,6 @@ pub row_again : (m : Segments) (list : Listing) (fde : shown.Fde) (pc : ℕ) (f 
 row_again m list fde pc f g =
     let starts : nat_le f.region.start pc ≡ true = let inside = g.inside in grind (arith, nat_tests, inside) in
     ap (λ o. row_from o pc) (frame_again m list fde pc f g) ∙ ap (λ b. if b then Some (row_at f pc) else None) starts
-
-in_contains : (fs : List Fde) (f : Fde) → In f fs → Contains fs f
-in_contains [] f here = absurd here
-in_contains (g ∷ fs) f (inl e) = (0, omega arith, sym e)
-in_contains (g ∷ fs) f (inr there) = let r = in_contains fs f there in (suc r.0, let a = r.1 in omega (arith, a), r.2)
 
 -- what a successful reading lists is listed for one of its FDEs
 pub is_frame : (memory : Memory) (list : Listing) (fde : shown.Fde) (pc header : ℕ) → IsOkAnd (frames memory header) (λ d. list ≡ listing d) → Contains list.fdes fde →

@@ -1,9 +1,21 @@
 // Frames that were read.
-ghost use Rattle.std.specs.Prelude.{◌≡◌, ◌↔◌, true, false, All, Contains, IfSome, IsNone};
-ghost use Rattle.table_forms.specs.Fde.{is_in};
+ghost use Rattle.std.specs.Prelude.{◌≡◌, ◌↔◌, ℕ, true, false, All, Contains, Ok, IfSome, IsNone, option_map, find};
+ghost use Rattle.std.specs.Option.{option_copied};
+ghost use Rattle.eh_bytes.specs.Memory.{Memory};
+ghost use Rattle.table_forms.specs.Fde.{is_in, fde_for};
+ghost use Rattle.table_forms.specs.Frames as forms;
+ghost use Rattle.frame_read.specs.Listed.{fde_listed};
+ghost use Rattle.frame_read.specs.ReadsFrames.{listing};
 
 use crate::listed::{Cie, Fde};
 use std::marker::Model;
+
+// The first whose region holds a place.
+fn first_with(fdes: &[Fde], pc: u64) -> Option<&Fde>
+    ensures { option_copied result ≡ find (λ f. is_in f.region pc) fdes.now }
+{
+    fdes.iter().find(|fde| fde.holds(pc))
+}
 
 /// The frames of a memory, of which nothing is refused. Contracts see the list of CIEs and that of
 /// FDEs, in the order of their places.
@@ -46,7 +58,8 @@ impl Frames {
     pub fn fde_for(&self, pc: u64) -> Option<Fde>
         ensures found { IfSome result (λ f. Contains self.now.fdes f × (is_in f.region pc ≡ true)) }
         ensures none { IsNone result ↔ All (λ f. is_in f.region pc ≡ false) self.now.fdes }
+        ensures frame { (memory : Memory) (header : ℕ) (read : forms.Frames) → forms.frames memory header ≡ Ok read → self.now ≡ listing read → result ≡ option_map fde_listed (fde_for read.fdes pc) }
     {
-        self.fdes.iter().find(|fde| fde.holds(pc)).copied()
+        first_with(self.fdes.as_slice(), pc).copied()
     }
 }
