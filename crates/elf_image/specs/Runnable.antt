@@ -18,12 +18,12 @@ frames_written memory None = []
 frames_written memory (Some a) = written_at memory a
 
 -- where a header leads
+abbrev pub start_in : ℕ → Option Part → Option ℕ
+start_in header None = None
+start_in header (Some part) = (header_at part (header - part.address)).frames_at
+
 abbrev pub frames_start : Memory → ℕ → Option ℕ
-frames_start memory header = start_in (part_with memory header)
-  where
-    start_in : Option Part → Option ℕ
-    start_in None = None
-    start_in (Some part) = (header_at part (header - part.address)).frames_at
+frames_start memory header = start_in header (part_with memory header)
 
 abbrev pub table_written : Memory → Function → List Fault
 table_written memory f = if f.fde.lsda == 0 then [] else written_at memory f.fde.lsda

@@ -1,6 +1,6 @@
-mod Read
-mod Bounds
-mod Few
+pub mod Read
+pub mod Bounds
+pub mod Few
 mod Ordered
 mod Judged
 mod Whole

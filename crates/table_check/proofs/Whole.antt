@@ -124,6 +124,7 @@ reads_clean file e l order n k tables sites is read ordered counted cies fdes =
           behind_frames file (image_seen e) d (Ok fs) is r t,
           record {
             image = refl;
+            frames_read = read;
             cies = ap (λ (y : Listing). y.cies) seen;
             fdes = those;
             summary = rw (a, b, first, second) refl;
