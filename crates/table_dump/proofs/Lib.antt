@@ -1,0 +1,9 @@
+mod Ends
+mod Locations
+mod Sets
+mod Whole
+mod Pointers
+mod Places
+mod Functions
+mod Cies
+mod Dumped

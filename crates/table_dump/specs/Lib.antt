@@ -1,0 +1,10 @@
+pub mod Texts
+pub mod Heads
+pub mod Listed
+pub mod Pointed
+pub mod Rows
+pub mod Entry
+pub mod Seen
+pub mod Tables
+pub mod Named
+pub mod Dump

@@ -1,0 +1,19 @@
+//! Prints a clean image: its segments, its frames with their rows, and its exception tables.
+#![tactic(auto)]
+
+mod dump;
+mod frame;
+mod function;
+mod head;
+mod keys;
+mod line;
+mod named;
+mod row;
+mod table;
+mod text;
+
+pub use dump::dump_image;
+pub use elf_image::ImageError;
+
+#[cfg(test)]
+mod tests;

@@ -1,0 +1,129 @@
+// A worked image by hand from the ELF-64 Object File Format, DWARF 5 and the LSB Core's "Exception
+// Frames", and what is printed of it and of changes of it.
+use crate::{ImageError, dump_image};
+use std::alloc::Global;
+use std::test::Fail;
+
+// Headers up to 0xb0, the frames' header, at 0xc4 the frames, at 0xfc a table, and at 0x10c code. It
+// is loaded at 0x10000.
+static WORKED: &[u8] = b"\x7fELF\x02\x01\x01\0\0\0\0\0\0\0\0\0\
+\x02\0\xf3\0\x01\0\0\0\x0c\x01\x01\0\0\0\0\0\
+@\0\0\0\0\0\0\0\0\0\0\0\0\0\0\0\
+\0\0\0\0@\08\0\x02\0\0\0\0\0\0\0\
+\x01\0\0\0\x05\0\0\0\0\0\0\0\0\0\0\0\
+\0\0\x01\0\0\0\0\0\0\0\x01\0\0\0\0\0\
+0\x01\0\0\0\0\0\00\x01\0\0\0\0\0\0\
+\0\x10\0\0\0\0\0\0P\xe5td\x04\0\0\0\
+\xb0\0\0\0\0\0\0\0\xb0\0\x01\0\0\0\0\0\
+\xb0\0\x01\0\0\0\0\0\x14\0\0\0\0\0\0\0\
+\x14\0\0\0\0\0\0\0\x04\0\0\0\0\0\0\0\
+\x01\x1b\x03;\x10\0\0\0\x01\0\0\0\\\0\0\0\
+,\0\0\0\x14\0\0\0\0\0\0\0\x01zLR\
+\0\x04x\x01\x02\x1b\x1b\x0c\x02\0\0\0\x18\0\0\0\
+\x1c\0\0\0(\0\0\0$\0\0\0\x04\x0f\0\0\
+\0A\x0e\x10\x81\x01\0\0\0\0\0\0\xff\x1b\x0d\x01\
+\x04\x10\x08 \x01\x01\0\0\0\0\0\0\x13\0\0\0\
+\x13\0\0\0\x13\0\0\0\x13\0\0\0\x13\0\0\0\
+\x13\0\0\0\x13\0\0\0\x13\0\0\0\x13\0\0\0";
+
+static TEXT: &str = "image entry 0x1010c
+segment 0x10000 0x10130 r-x
+cie 0x100c4 version 1 aug zLR code 4 data -8 ra x1
+frame 0x1010c 0x10130
+  row 0x1010c cfa x2+0
+  row 0x10110 cfa x2+16 x1=c-8
+  lsda 0x100fc
+  site 0x1011c 0x10124 pad 0x1012c action 1
+  action 1: 1
+  type 1: 0x0
+";
+
+// The bytes put at a place, a line that then stands in place of another one.
+static CHANGES: &[(usize, &[u8], &str, &str)] = &[
+    (0, b"", "", ""),
+    (
+        0xfd,
+        b"\x9b\x0d\x01\x04\x10\x08\x20\x01\x01\0\0\x04\0\0\0",
+        "  type 1: 0x0\n",
+        "  type 1: 0x1300000013\n",
+    ),
+    (0x44, b"\x07", " r-x\n", " rwx\n"),
+    (0xd3, b"\x3f", " ra x1\n", " ra f31\n"),
+    (
+        0xf2,
+        b"\x08\x21\0\0",
+        "cfa x2+16 x1=c-8\n",
+        "cfa x2+0 f1=s\n",
+    ),
+    (
+        0xf2,
+        b"\x09\x08\x20\x07\x03",
+        "cfa x2+16 x1=c-8\n",
+        "cfa x2+0 x3=u x8=f0\n",
+    ),
+    (
+        0xf2,
+        b"\x14\x05\x02\0",
+        "cfa x2+16 x1=c-8\n",
+        "cfa x2+0 x5=v-16\n",
+    ),
+    (0xf2, b"\x12\x08\x01\0", "cfa x2+16 x1=c-8\n", "cfa x8-8\n"),
+    (
+        0x105,
+        b"\x7f\0\0\0\0\0\0\x01\0",
+        "action 1: 1\n  type 1: 0x0\n",
+        "action 1: -1\n  type 1: 0x0\n  list -1: 1\n",
+    ),
+    (
+        0x105,
+        b"\x7f\0\0\0\0\0\0\0",
+        "action 1: 1\n  type 1: 0x0\n",
+        "action 1: -1\n  list -1: \n",
+    ),
+    (
+        0x104,
+        b"\0",
+        "action 1\n  action 1: 1\n  type 1: 0x0\n",
+        "action 0\n",
+    ),
+];
+
+// The worked image with some bytes changed.
+fn image(alloc: Global, at: usize, bytes: &[u8]) -> Result<Vec<u8>, Fail> {
+    let mut image = WORKED.to_vec(alloc)?;
+    for (i, byte) in bytes.iter().enumerate() {
+        if let Some(place) = image.get_mut(at.wrapping_add(i)) {
+            *place = *byte;
+        }
+    }
+    Ok(image)
+}
+
+#[test]
+fn a_worked_image_and_changes(rt: HostRuntime) -> Result<(), Fail> {
+    let alloc = rt.alloc();
+    for &(at, bytes, old, new) in CHANGES {
+        let wanted = if old.is_empty() {
+            String::from_str(alloc, TEXT)?
+        } else {
+            TEXT.replace(alloc, old, new)?
+        };
+        let text = dump_image(alloc, &image(alloc, at, bytes)?);
+        assert_eq!(rt; text.as_deref(), Ok(wanted.as_bytes()), "{bytes:?} at {at}");
+    }
+    Ok(())
+}
+
+#[test]
+fn a_refused_image(rt: HostRuntime) -> Result<(), Fail> {
+    let alloc = rt.alloc();
+    let text = dump_image(alloc, &image(alloc, 0x106, b"\x7f".as_slice())?);
+    let refused = ImageError::Refused {
+        number: 8,
+        place: 261,
+        location: 0,
+        other: 0,
+    };
+    assert_eq!(rt; text.err(), Some(refused));
+    Ok(())
+}
