@@ -1,5 +1,5 @@
-// A worked image by hand from the ELF-64 Object File Format, DWARF 5 and the LSB Core's "Exception
-// Frames", and each refusal by a change of it.
+// Worked images by hand from the ELF-64 Object File Format, DWARF 5 and the LSB Core's "Exception
+// Frames", and each refusal by a change of one.
 use crate::{ImageError, Summary, check_image};
 use std::alloc::Global;
 use std::test::Fail;
@@ -25,6 +25,43 @@ static WORKED: &[u8] = b"\x7fELF\x02\x01\x01\0\0\0\0\0\0\0\0\0\
 \x04\x10\x08 \x01\x01\0\0\0\0\0\0\x13\0\0\0\
 \x13\0\0\0\x13\0\0\0\x13\0\0\0\x13\0\0\0\
 \x13\0\0\0\x13\0\0\0\x13\0\0\0\x13\0\0\0";
+
+// For any place in memory: frames at 0xf0 of three CIEs and three FDEs, of which one names a table.
+static ANYWHERE: &[u8] = b"\x7fELF\x02\x01\x01\0\0\0\0\0\0\0\0\0\
+\x03\0\xf3\0\x01\0\0\0\xe0\x01\0\0\0\0\0\0\
+@\0\0\0\0\0\0\0\0\0\0\0\0\0\0\0\
+\0\0\0\0@\08\0\x03\0\0\0\0\0\0\0\
+\x01\0\0\0\x05\0\0\0\0\0\0\0\0\0\0\0\
+\0\0\0\0\0\0\0\0\0\0\0\0\0\0\0\0\
+\x20\x02\0\0\0\0\0\0\x20\x02\0\0\0\0\0\0\
+\0\0\0\0\0\0\0\0\x01\0\0\0\x06\0\0\0\
+\x20\x02\0\0\0\0\0\0\x20\x12\0\0\0\0\0\0\
+\x20\x12\0\0\0\0\0\0\x08\0\0\0\0\0\0\0\
+\x10\0\0\0\0\0\0\0\0\0\0\0\0\0\0\0\
+P\xe5td\x04\0\0\0\xe8\0\0\0\0\0\0\0\
+\xe8\0\0\0\0\0\0\0\xe8\0\0\0\0\0\0\0\
+\x08\0\0\0\0\0\0\0\x08\0\0\0\0\0\0\0\
+\0\0\0\0\0\0\0\0\x01\x1b\xff\xff\x04\0\0\0\
+\x10\0\0\0\0\0\0\0\x01zR\0\x01|\x01\x01\
+\x1b\x0c\x02\0\x1c\0\0\0\x18\0\0\0\xd4\0\0\0\
+\x10\0\0\0\0D\x0e\x10\x81\x04\x0aD\x0e\0\xc1D\
+\x0b\0\0\0\x18\0\0\0\0\0\0\0\x03zPL\
+R\0\x02x\x01\x07\x1b\0\0\0\0\x1b\x1b\x0c\x02\0\
+\x18\0\0\0\x20\0\0\0\xa8\0\0\00\0\0\0\
+\x04G\0\0\0B\x0e\x20\x88\x02\0\0\x20\0\0\0\
+\0\0\0\0\x01zRS\0\x01|\x01\x01\x1b\x0c\x08\
+\x10\x07\x01\x08\x02\x09\x09\x05\x14\x12\x01\x05(\x02\0\0\
+\x10\0\0\0(\0\0\0P\0\0\0\x08\0\0\0\
+\0\0\0\0\0\0\0\0\xff\x9b9\x03'\0\0\0\
+\0\x08\0\0\0\0\0\0\0\0\x08\0\0\0\x08\0\
+\0\0\x20\0\0\0\x03\x10\0\0\0\x10\0\0\0$\
+\0\0\0\x01\x01\0\x7f\x01\0{\0\0\0\0\0\0\
+P\x10\0\0\x02\0\0\0\x13\0\0\0\x13\0\0\0\
+\x13\0\0\0\x13\0\0\0\x13\0\0\0\x13\0\0\0\
+\x13\0\0\0\x13\0\0\0\x13\0\0\0\x13\0\0\0\
+\x13\0\0\0\x13\0\0\0\x13\0\0\0\x13\0\0\0\
+\x13\0\0\0\x13\0\0\0\x13\0\0\0\x13\0\0\0\
+4\x12\0\0\0\0\0\0";
 
 // A place, the bytes that are put there, and the refusal. The first bytes of the table are those of
 // 0xfc, those of its call-site table from 0x101 on.
@@ -119,6 +156,25 @@ fn a_worked_image(rt: HostRuntime) -> Result<(), Fail> {
         sites: 1,
     };
     assert_eq!(rt; check_image(rt.alloc(), WORKED), Ok(summary));
+    Ok(())
+}
+
+#[test]
+fn an_image_for_any_place(rt: HostRuntime) -> Result<(), Fail> {
+    let alloc = rt.alloc();
+    let summary = Summary {
+        cies: 3,
+        frames: 3,
+        tables: 1,
+        sites: 3,
+    };
+    assert_eq!(rt; check_image(alloc, ANYWHERE), Ok(summary));
+    // the second function then reaches into the third, whose FDE stands at 0x140
+    let mut longer = ANYWHERE.to_vec(alloc)?;
+    if let Some(length) = longer.get_mut(0x110) {
+        *length = 0x14;
+    }
+    assert_eq!(rt; refusal(alloc, &longer), (57, 0x140, 0, 0));
     Ok(())
 }
 

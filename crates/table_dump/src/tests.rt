@@ -1,5 +1,5 @@
-// A worked image by hand from the ELF-64 Object File Format, DWARF 5 and the LSB Core's "Exception
-// Frames", and what is printed of it and of changes of it.
+// Worked images by hand from the ELF-64 Object File Format, DWARF 5 and the LSB Core's "Exception
+// Frames", and what is printed of them and of changes.
 use crate::{ImageError, dump_image};
 use std::alloc::Global;
 use std::test::Fail;
@@ -36,6 +36,72 @@ frame 0x1010c 0x10130
   site 0x1011c 0x10124 pad 0x1012c action 1
   action 1: 1
   type 1: 0x0
+";
+
+// For any place in memory: frames at 0xf0 of three CIEs, of which the last is a signal frame's, and a
+// table at 0x198 with call sites in four bytes, an indirect type, and a list. The second segment
+// holds the word to which the indirect type leads.
+static ANYWHERE: &[u8] = b"\x7fELF\x02\x01\x01\0\0\0\0\0\0\0\0\0\
+\x03\0\xf3\0\x01\0\0\0\xe0\x01\0\0\0\0\0\0\
+@\0\0\0\0\0\0\0\0\0\0\0\0\0\0\0\
+\0\0\0\0@\08\0\x03\0\0\0\0\0\0\0\
+\x01\0\0\0\x05\0\0\0\0\0\0\0\0\0\0\0\
+\0\0\0\0\0\0\0\0\0\0\0\0\0\0\0\0\
+\x20\x02\0\0\0\0\0\0\x20\x02\0\0\0\0\0\0\
+\0\0\0\0\0\0\0\0\x01\0\0\0\x06\0\0\0\
+\x20\x02\0\0\0\0\0\0\x20\x12\0\0\0\0\0\0\
+\x20\x12\0\0\0\0\0\0\x08\0\0\0\0\0\0\0\
+\x10\0\0\0\0\0\0\0\0\0\0\0\0\0\0\0\
+P\xe5td\x04\0\0\0\xe8\0\0\0\0\0\0\0\
+\xe8\0\0\0\0\0\0\0\xe8\0\0\0\0\0\0\0\
+\x08\0\0\0\0\0\0\0\x08\0\0\0\0\0\0\0\
+\0\0\0\0\0\0\0\0\x01\x1b\xff\xff\x04\0\0\0\
+\x10\0\0\0\0\0\0\0\x01zR\0\x01|\x01\x01\
+\x1b\x0c\x02\0\x1c\0\0\0\x18\0\0\0\xd4\0\0\0\
+\x10\0\0\0\0D\x0e\x10\x81\x04\x0aD\x0e\0\xc1D\
+\x0b\0\0\0\x18\0\0\0\0\0\0\0\x03zPL\
+R\0\x02x\x01\x07\x1b\0\0\0\0\x1b\x1b\x0c\x02\0\
+\x18\0\0\0\x20\0\0\0\xa8\0\0\00\0\0\0\
+\x04G\0\0\0B\x0e\x20\x88\x02\0\0\x20\0\0\0\
+\0\0\0\0\x01zRS\0\x01|\x01\x01\x1b\x0c\x08\
+\x10\x07\x01\x08\x02\x09\x09\x05\x14\x12\x01\x05(\x02\0\0\
+\x10\0\0\0(\0\0\0P\0\0\0\x08\0\0\0\
+\0\0\0\0\0\0\0\0\xff\x9b9\x03'\0\0\0\
+\0\x08\0\0\0\0\0\0\0\0\x08\0\0\0\x08\0\
+\0\0\x20\0\0\0\x03\x10\0\0\0\x10\0\0\0$\
+\0\0\0\x01\x01\0\x7f\x01\0{\0\0\0\0\0\0\
+P\x10\0\0\x02\0\0\0\x13\0\0\0\x13\0\0\0\
+\x13\0\0\0\x13\0\0\0\x13\0\0\0\x13\0\0\0\
+\x13\0\0\0\x13\0\0\0\x13\0\0\0\x13\0\0\0\
+\x13\0\0\0\x13\0\0\0\x13\0\0\0\x13\0\0\0\
+\x13\0\0\0\x13\0\0\0\x13\0\0\0\x13\0\0\0\
+4\x12\0\0\0\0\0\0";
+
+static ANYWHERE_TEXT: &str = "image entry 0x1e0
+segment 0x0 0x220 r-x
+segment 0x1220 0x1230 rw-
+cie 0xf0 version 1 aug zR code 1 data -4 ra x1
+cie 0x124 version 3 aug zPLR code 2 data -8 ra x1
+cie 0x15c version 1 aug zRS code 1 data -4 ra x1
+frame 0x1d8 0x1e0
+  row 0x1d8 cfa x8+16 x1=u x2=s x9=x5 x18=v-4 f8=c-8
+frame 0x1e0 0x1f0
+  row 0x1e0 cfa x2+0
+  row 0x1e4 cfa x2+16 x1=c-16
+  row 0x1e8 cfa x2+0
+  row 0x1ec cfa x2+16 x1=c-16
+frame 0x1f0 0x220
+  row 0x1f0 cfa x2+0
+  row 0x1f4 cfa x2+32 x8=c-16
+  lsda 0x198
+  site 0x1f0 0x1f8 pad 0x0 action 0
+  site 0x1f8 0x200 pad 0x210 action 3
+  site 0x200 0x210 pad 0x214 action 1
+  action 1: 1
+  action 3: -1 0 1
+  type 1: 0x1234
+  type 2: 0x0
+  list -1: 2
 ";
 
 // The bytes put at a place, a line that then stands in place of another one.
@@ -111,6 +177,14 @@ fn a_worked_image_and_changes(rt: HostRuntime) -> Result<(), Fail> {
         let text = dump_image(alloc, &image(alloc, at, bytes)?);
         assert_eq!(rt; text.as_deref(), Ok(wanted.as_bytes()), "{bytes:?} at {at}");
     }
+    Ok(())
+}
+
+#[test]
+fn an_image_for_any_place(rt: HostRuntime) -> Result<(), Fail> {
+    let alloc = rt.alloc();
+    let text = dump_image(alloc, ANYWHERE);
+    assert_eq!(rt; text.as_deref(), Ok(ANYWHERE_TEXT.as_bytes()));
     Ok(())
 }
 
