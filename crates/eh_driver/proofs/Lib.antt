@@ -2,11 +2,14 @@ pub mod Numbers
 pub mod Reading
 pub mod Loop
 pub mod Puts
+pub mod FirstLine
+pub mod Hexadecimal
 pub mod Coding
 pub mod Fetching
 pub mod Blocks
 pub mod Turns
 pub mod Main
 pub mod Causes
+pub mod ImageCauses
 pub mod Reports
 pub mod Promised

@@ -1,21 +1,20 @@
 -- When each status comes, and what it leaves.
-use Rattle.std.specs.Prelude.{◌≡◌, ◌<◌, ◌≤◌, ◌⊎◌, ℕ, ◌^◌, List, [], length, Option, Some, None, IfSome, IsSomeAnd}
-use Rattle.std.specs.FinMap.{get}
-use Rattle.eh_outer.specs.Store.{StoreView, Refuses, Rose}
+use Rattle.std.specs.Prelude.{◌≡◌, ◌⊎◌, ℕ, ◌^◌, List, [], Option, Some, None}
+use Rattle.eh_outer.specs.Store.{StoreView, Rose}
 use Rattle.eh_outer.specs.Sink.{SinkView, Gains}
-use Rattle.eh_outer.specs.declared.store.RefusalKind.TheVariants.{FailedRead, LongRead}
 use Rattle.eh_driver.specs.declared.status.Status.{Status}
 use Rattle.eh_driver.specs.declared.status.Status.TheVariants.{Done, Usage, SourceRefused, ReadFault, TooLong, WriteFault, NoMemory}
+use Rattle.eh_driver.specs.declared.words.Verb.{Verb}
+use Rattle.eh_driver.specs.declared.words.Verb.TheVariants.{Run, Check, Dump}
+use Rattle.eh_driver.specs.Words.{Command}
 use Rattle.eh_driver.specs.Source.{IsSource}
+use Rattle.eh_driver.specs.File.{Told, Unread}
+use Rattle.eh_driver.specs.Image.{ImageCause, check_lines, dump_lines}
 use Rattle.eh_driver.specs.Output.{exit_pieces, TakesAll, FailsAmong}
 
 -- the longest source: 1 MiB
-abbrev pub limit : ℕ
-limit = 2 ^ 20
-
--- where the store tells its files, it has one of that name within the limit, of which this holds
-abbrev pub Told : StoreView → List ℕ → (List ℕ → Type 0) → Type 0
-Told store name P = IfSome store.files (λ files. (source : List ℕ) × (get files name ≡ Some source) × (length source ≤ limit) × P source)
+abbrev pub source_limit : ℕ
+source_limit = 2 ^ 20
 
 -- the source writes these lines and returns this answer, and can be read in no other way
 pub record IsOnly (source lines : List ℕ) (answer : ℕ) : Type 0 where
@@ -44,26 +43,30 @@ SourceEnds source old new status = ⊥
 -- when `run FILE` gives each status, what it leaves of the store's refusals, and of `out`
 abbrev pub RunCause : List ℕ → StoreView → StoreView → SinkView → SinkView → Status → Type 0
 RunCause name old new out out' Done =
-    (lines : List ℕ) × (answer : ℕ) × Told old name (λ source. IsOnly source lines answer) × TakesAll (exit_pieces lines answer) out out'
+    (lines : List ℕ) × (answer : ℕ) × Told source_limit old name (λ source. IsOnly source lines answer) × TakesAll (exit_pieces lines answer) out out'
 RunCause name old new out out' (SourceRefused number place) =
-    (number ≡ 29) × (place ≡ 0) × Told old name IsNotBuilt × (out' ≡ out)
-RunCause name old new out out' ReadFault = Refuses old new FailedRead name × (out' ≡ out)
-RunCause name old new out out' TooLong =
-    (n : ℕ) × (limit < n) × Refuses old new (LongRead n) name
-    × IfSome old.files (λ files. IsSomeAnd (get files name) (λ file. limit < length file)) × (out' ≡ out)
+    (number ≡ 29) × (place ≡ 0) × Told source_limit old name IsNotBuilt × (out' ≡ out)
+RunCause name old new out out' ReadFault = Unread source_limit name old new ReadFault × (out' ≡ out)
+RunCause name old new out out' TooLong = Unread source_limit name old new TooLong × (out' ≡ out)
 RunCause name old new out out' WriteFault =
-    (lines : List ℕ) × (answer : ℕ) × Told old name (λ source. IsOnly source lines answer) × FailsAmong (exit_pieces lines answer) out out'
+    (lines : List ℕ) × (answer : ℕ) × Told source_limit old name (λ source. IsOnly source lines answer) × FailsAmong (exit_pieces lines answer) out out'
 RunCause name old new out out' NoMemory = out' ≡ out
 RunCause name old new out out' status = ⊥
 
+-- when each command gives each status
+abbrev pub CommandCause : Verb → List ℕ → StoreView → StoreView → SinkView → SinkView → Status → Type 0
+CommandCause Run name = RunCause name
+CommandCause Check name = ImageCause check_lines name
+CommandCause Dump name = ImageCause dump_lines name
+
 -- when any words give each status: Usage exactly where they are no command
-abbrev pub Cause : Option (List ℕ) → StoreView → StoreView → SinkView → SinkView → Status → Type 0
+abbrev pub Cause : Option Command → StoreView → StoreView → SinkView → SinkView → Status → Type 0
 Cause None old new out out' status = (status ≡ Usage) × (new ≡ old) × (out' ≡ out)
-Cause (Some name) old new out out' status = RunCause name old new out out' status
+Cause (Some command) old new out out' status = CommandCause command.verb command.name old new out out' status
 
 -- the file that the words name, if they name one
-abbrev pub name_in : Option (List ℕ) → List ℕ
-name_in (Some name) = name
+abbrev pub name_in : Option Command → List ℕ
+name_in (Some command) = command.name
 name_in None = []
 
 -- a told sink gained exactly the text, or the sink's count of faults rose

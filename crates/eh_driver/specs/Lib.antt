@@ -1,10 +1,14 @@
 pub mod Words
+pub mod Seen
 pub mod Source
 pub mod Reading
 pub mod Code
 pub mod Output
 pub mod Run
 pub mod Status
+pub mod Lines
+pub mod File
+pub mod Image
 pub mod Answer
 pub mod Report
 pub mod Promise

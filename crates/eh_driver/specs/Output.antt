@@ -1,9 +1,11 @@
 -- What is written on a sink, put by put: each line is one piece.
-use Rattle.std.specs.Prelude.{◌≡◌, ◌≤◌, length, take, Some, IfSome, ℕ, ℤ, pos, List, [], ◌∷◌, ◌++◌, map, codes}
+use Rattle.std.specs.Prelude.{◌≡◌, ◌≤◌, length, take, Some, IfSome, Result, Ok, Err, ℕ, ℤ, pos, List, [], ◌∷◌, ◌++◌, map, codes}
 use Rattle.std.specs.List.{flat_map}
 use Rattle.std.specs.Fmt.{signed_decimal}
 use Rattle.eh_outer.specs.Store.{Rose}
 use Rattle.eh_outer.specs.Sink.{SinkView, Gains}
+use Rattle.eh_outer.specs.declared.sink.SinkError.{SinkError}
+use Rattle.eh_outer.specs.declared.sink.SinkError.TheVariants.{Failed}
 
 -- the line of an int: in decimal, `-` before a negative one, and a line feed
 abbrev pub line_of : ℤ → List ℕ
@@ -36,3 +38,8 @@ pub record FailsAmong (pieces : List (List ℕ)) (old new : SinkView) : Type 0 w
   pub rose : Rose old.faults new.faults
   pub wanted : new.wanted ≡ length piece
   pub front : IfSome old.taken (λ taken. (k : ℕ) × (new.taken ≡ Some (taken ++ (text_of gone ++ take k piece))))
+
+-- the sink took all the pieces, or failed at one
+abbrev pub PutsAll : List (List ℕ) → SinkView → SinkView → Result Unit SinkError → Type 0
+PutsAll pieces old new (Ok done) = TakesAll pieces old new
+PutsAll pieces old new (Err Failed) = FailsAmong pieces old new

@@ -1,9 +1,13 @@
 //! The commands of `ehc`: `run FILE` makes RV64 code for a source, runs it on the simulated machine, and prints what it
-//! writes and how it ended. `ehc` is the call that the program makes; its contract says what each command promises.
+//! writes and how it ended; `check FILE` and `dump FILE` judge an image and print its tables. `ehc` is the call that the
+//! program makes; its contract says what each command promises.
 #![tactic(auto)]
 
 mod code;
+mod file;
+mod image;
 mod line;
+mod lines;
 mod report;
 mod run;
 mod source;
@@ -15,5 +19,7 @@ pub use run::End;
 pub use status::Status;
 pub use top::ehc;
 
+#[cfg(test)]
+mod image_tests;
 #[cfg(test)]
 mod tests;

@@ -8,8 +8,8 @@ use eh_outer::{Sink, SinkError};
 use itoa::Buffer;
 
 // Adds a text for which there is room.
-fn push(line: &mut ArrayString<64>, text: &str)
-    requires { length line.old.bytes + length text.now ≤ 64 }
+pub fn push<const N: usize>(line: &mut ArrayString<N>, text: &str)
+    requires { length line.old.bytes + length text.now ≤ N }
     ensures { line.new.bytes ≡ line.old.bytes ++ text.now }
 {
     match line.try_push_str(text) {

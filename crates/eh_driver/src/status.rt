@@ -12,8 +12,14 @@ pub enum Status {
     Usage,
     /// The number of the rule that the source breaks, and the byte at which it does.
     SourceRefused(u8, u32),
-    /// The number of what is wrong with the image, its byte, and a second value that differs.
-    ImageRefused(u8, u64, u64),
+    /// The number of what is wrong with the image, the byte at which it is, and, where the header's table is not the list
+    /// of the frames, the table's location and the frame's.
+    ImageRefused {
+        number: u8,
+        place: u64,
+        location: u64,
+        other: u64,
+    },
     ReadFault,
     TooLong,
     WriteFault,
@@ -36,7 +42,7 @@ impl Status {
             Status::Done => 0,
             Status::Usage => 1,
             Status::SourceRefused(_, _) => 2,
-            Status::ImageRefused(_, _, _) => 3,
+            Status::ImageRefused { .. } => 3,
             Status::ReadFault => 4,
             Status::WriteFault => 5,
             Status::NoMemory => 6,

@@ -6,22 +6,22 @@ use std::test::Fail;
 
 /// What a command answered, and what it left.
 #[derive(Drop)]
-struct Seen {
-    status: Status,
-    out: MemSink,
-    err: MemSink,
+pub struct Seen {
+    pub status: Status,
+    pub out: MemSink,
+    pub err: MemSink,
 }
 
 /// What lies outside: the file SRC, which numbers of calls of the store and of puts fail, and how much `out` can take.
 #[derive(Drop)]
-struct Outside<'a> {
-    source: &'a [u8],
-    store_fails: &'a [u64],
-    out_fails: &'a [u64],
-    room: usize,
+pub struct Outside<'a> {
+    pub source: &'a [u8],
+    pub store_fails: &'a [u64],
+    pub out_fails: &'a [u64],
+    pub room: usize,
 }
 
-fn holding(source: &[u8]) -> Outside<'_> {
+pub fn holding(source: &[u8]) -> Outside<'_> {
     Outside {
         source,
         store_fails: &[],
@@ -30,7 +30,7 @@ fn holding(source: &[u8]) -> Outside<'_> {
     }
 }
 
-fn answer(alloc: Global, words: &[&str], outside: &Outside<'_>) -> Result<Seen, Fail> {
+pub fn answer(alloc: Global, words: &[&str], outside: &Outside<'_>) -> Result<Seen, Fail> {
     let mut files = Vec::new(alloc);
     files.push((
         String::from_str(alloc, "SRC")?,
@@ -103,9 +103,29 @@ fn words(rt: HostRuntime) -> Result<(), Fail> {
         ([].as_slice(), usage),
         (["run"].as_slice(), usage),
         (["run", ""].as_slice(), usage),
-        (["run", "-"].as_slice(), usage),
+        (["--", "run", "SRC"].as_slice(), usage),
+        (["run", "-x"].as_slice(), usage),
+        (["run", "--"].as_slice(), usage),
+        (["run", "--", ""].as_slice(), usage),
         (["run", "SRC", "SRC"].as_slice(), usage),
+        (["run", "SRC", "--", "SRC"].as_slice(), usage),
         (["mean", "SRC"].as_slice(), usage),
+        (
+            ["run", "-"].as_slice(),
+            (Status::ReadFault, "ehc: read fault: -\n"),
+        ),
+        (
+            ["check", "--", "-x"].as_slice(),
+            (Status::ReadFault, "ehc: read fault: -x\n"),
+        ),
+        (
+            ["dump", "--", "--"].as_slice(),
+            (Status::ReadFault, "ehc: read fault: --\n"),
+        ),
+        (
+            ["run", "SRC", "--"].as_slice(),
+            (Status::TooLong, "ehc: too long: SRC\n"),
+        ),
         (
             ["run", "NONE"].as_slice(),
             (Status::ReadFault, "ehc: read fault: NONE\n"),
@@ -194,7 +214,15 @@ fn numbers(rt: HostRuntime) {
         (Status::Done, 0),
         (Status::Usage, 1),
         (Status::SourceRefused(29, 0), 2),
-        (Status::ImageRefused(60, 0, 0), 3),
+        (
+            Status::ImageRefused {
+                number: 60,
+                place: 0,
+                location: 0,
+                other: 0,
+            },
+            3,
+        ),
         (Status::ReadFault, 4),
         (Status::WriteFault, 5),
         (Status::NoMemory, 6),

@@ -2,19 +2,21 @@
 ghost use Rattle.std.specs.Prelude.{◌≡◌, ◌≤◌, ◌^◌, length};
 ghost use Rattle.std.specs.List.{AllByRecursion};
 ghost use Rattle.eh_driver.specs.Source.{IsInt};
-ghost use Rattle.eh_driver.specs.Words.{file_to_run};
-ghost use Rattle.eh_driver.specs.Answer.{Cause, MainEnds, Reports, RunCause, SourceEnds, limit, name_in};
+ghost use Rattle.eh_driver.specs.Words.{command_of, texts};
+ghost use Rattle.eh_driver.specs.Answer.{Cause, CommandCause, MainEnds, Reports, RunCause, SourceEnds, name_in, source_limit};
 ghost use Rattle.eh_driver.specs.Status.{text_of_status};
 ghost use Rattle.eh_driver.specs.Promise.{Promise};
 
 use crate::code::machine_of;
+use crate::file::read;
+use crate::image::{check_file, dump_file};
 use crate::line::put_int;
 use crate::report::report;
 use crate::run::{End, run};
 use crate::source::{SmallMain, main_of};
 use crate::status::Status;
-use crate::words::file_to_run;
-use eh_outer::{Module, Sink, SinkError, Store, StoreError};
+use crate::words::{Command, Verb, command_of};
+use eh_outer::{Module, Sink, SinkError, Store};
 use std::alloc::Global;
 
 /// How many instructions a run executes at most.
@@ -46,7 +48,7 @@ fn run_main<Out: Sink>(alloc: Global, main: &SmallMain, out: &mut Out) -> Status
 
 // Compiles and runs a source.
 fn run_source<Out: Sink>(alloc: Global, source: &[u8], out: &mut Out) -> Status
-    requires { length source.now ≤ limit }
+    requires { length source.now ≤ source_limit }
     ensures { SourceEnds source.now (Out.view out.old) (Out.view out.new) result }
 {
     match main_of(alloc, source) {
@@ -66,11 +68,26 @@ fn run_file<St: Store, Out: Sink>(
     ensures cause { RunCause name.now (St.view store.old) (St.view store.new) (Out.view out.old) (Out.view out.new) result }
     ensures files { (St.view store.new).files ≡ (St.view store.old).files }
 {
-    match store.read_all(alloc, name, SOURCE_LIMIT) {
+    match read(alloc, name, SOURCE_LIMIT, store) {
         Ok(source) => run_source(alloc, source.as_slice(), out),
-        Err(StoreError::Failed) => Status::ReadFault,
-        Err(StoreError::TooLong(_)) => Status::TooLong,
-        Err(StoreError::NoMemory) => Status::NoMemory,
+        Err(status) => status,
+    }
+}
+
+// Does what a command says.
+fn execute<St: Store, Out: Sink>(
+    alloc: Global,
+    command: Command<'_>,
+    store: &mut St,
+    out: &mut Out,
+) -> Status
+    ensures cause { CommandCause command.entry.verb command.entry.name.now (St.view store.old) (St.view store.new) (Out.view out.old) (Out.view out.new) result }
+    ensures files { (St.view store.new).files ≡ (St.view store.old).files }
+{
+    match command.verb {
+        Verb::Run => run_file(alloc, command.name, store, out),
+        Verb::Check => check_file(alloc, command.name, store, out),
+        Verb::Dump => dump_file(alloc, command.name, store, out),
     }
 }
 
@@ -82,22 +99,28 @@ fn answer<St: Store, Out: Sink, Er: Sink>(
     out: &mut Out,
     err: &mut Er,
 ) -> Status
-    ensures cause { Cause (file_to_run words.now.items) (St.view store.old) (St.view store.new) (Out.view out.old) (Out.view out.new) result }
+    ensures cause { Cause (command_of (texts words.now.items)) (St.view store.old) (St.view store.new) (Out.view out.old) (Out.view out.new) result }
     ensures files { (St.view store.new).files ≡ (St.view store.old).files }
-    ensures report { Reports (text_of_status (name_in (file_to_run words.now.items)) result) (Er.view err.old) (Er.view err.new) }
+    ensures report { Reports (text_of_status (name_in (command_of (texts words.now.items))) result) (Er.view err.old) (Er.view err.new) }
 {
-    let (name, status) = match file_to_run(words) {
-        None => ("", Status::Usage),
-        Some(name) => (name, run_file(alloc, name, store, out)),
-    };
-    report(err, name, status);
-    status
+    match command_of(words) {
+        None => {
+            report(err, "", Status::Usage);
+            Status::Usage
+        }
+        Some(command) => {
+            let status = execute(alloc, command, store, out);
+            report(err, command.name, status);
+            status
+        }
+    }
 }
 
 /// Does all that the program does with its words, and answers its status.
 ///
 /// `run FILE` reads a source of at most 1 MiB, compiles it, runs the code on the machine, and puts each line that it
-/// writes and `= exit N` on `out`. Whatever else comes is one line on `err`. The modules are dropped.
+/// writes and `= exit N` on `out`. `check FILE` and `dump FILE` read an image of at most 64 MiB, and put how much it has,
+/// or its tables, on `out` where it is clean. Whatever else comes is one line on `err`. The modules are dropped.
 pub fn ehc<St: Store, Out: Sink, Er: Sink>(
     alloc: Global,
     words: &Vec<String>,
@@ -106,13 +129,13 @@ pub fn ehc<St: Store, Out: Sink, Er: Sink>(
     err: &mut Er,
     modules: Vec<Box<dyn Module>>,
 ) -> Status
-    // What a source that is built comes to where nothing fails.
-    ensures promise { Promise (file_to_run words.now.items) (St.view store.old) (St.view store.new) (Out.view out.old) (Out.view out.new) result }
+    // What a source that is built, and an image, come to where nothing fails.
+    ensures promise { Promise (command_of (texts words.now.items)) (St.view store.old) (St.view store.new) (Out.view out.old) (Out.view out.new) result }
 
     // When each status comes, and what it leaves of the store's refusals and of `out`.
-    ensures cause { Cause (file_to_run words.now.items) (St.view store.old) (St.view store.new) (Out.view out.old) (Out.view out.new) result }
+    ensures cause { Cause (command_of (texts words.now.items)) (St.view store.old) (St.view store.new) (Out.view out.old) (Out.view out.new) result }
     ensures files { (St.view store.new).files ≡ (St.view store.old).files }
-    ensures report { Reports (text_of_status (name_in (file_to_run words.now.items)) result) (Er.view err.old) (Er.view err.new) }
+    ensures report { Reports (text_of_status (name_in (command_of (texts words.now.items))) result) (Er.view err.old) (Er.view err.new) }
 {
     let status = answer(alloc, words, store, out, err);
     drop(modules);

@@ -1,7 +1,7 @@
-use Rattle.eh_driver.specs.Words.{file_to_run}
+use Rattle.eh_driver.specs.Words.{command_of, texts}
 use Rattle.eh_driver.proofs.Promised.{promised}
 use Rattle.eh_driver.proofs.top.ehc.Goals as goal
 
 pub returns-clause-promise : goal.returns-clause-promise
 returns-clause-promise g c =
-    promised (file_to_run c.args.words.now.items) (g.St.Store.view c.args.store.now) (g.St.Store.view c.answer-status.new.store) (g.Out.Sink.view c.args.out.now) (g.Out.Sink.view c.answer-status.new.out) c.answer-status.result c.answer-status.ensures.cause
+    promised (command_of (texts c.args.words.now.items)) (g.St.Store.view c.args.store.now) (g.St.Store.view c.answer-status.new.store) (g.Out.Sink.view c.args.out.now) (g.Out.Sink.view c.answer-status.new.out) c.answer-status.result c.answer-status.ensures.cause
