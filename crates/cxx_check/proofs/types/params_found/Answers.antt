@@ -1,9 +1,0 @@
-use Rattle.std.proofs.Common.{◌≤◌, length, arith}
-use Rattle.cxx_ast.specs.TypeNames.{type_found}
-use Rattle.cxx_check.proofs.ListLaws.{each_ended}
-use Rattle.cxx_check.proofs.types.params_found.Goals as goal
-
-pub returns : goal.returns
-returns c =
-    let over : length c.args.params.now ≤ c.loop-param.param-index = omega arith in
-    each_ended c.args.env.now (λ p. type_found c.args.env.now c.args.scope.now p.ty) _ _ _ _ over c.nothing-found.ensures c.loop-param.invariant

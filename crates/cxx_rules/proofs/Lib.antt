@@ -1,0 +1,15 @@
+pub mod PartLaws
+pub mod ListLaws
+pub mod ThrownLaws
+pub mod WalkLaws
+pub mod LocalLaws
+pub mod ScopeLaws
+pub mod Rows
+pub mod PathLaws
+pub mod ConstructLaws
+pub mod GivenLaws
+pub mod FoundLaws
+pub mod MemberLaws
+pub mod NameLaws
+pub mod SizeLaws
+pub mod TextLaws

@@ -1,0 +1,131 @@
+-- Positions in lists of texts.
+use Rattle.std.proofs.Common.{◌≡◌, ℕ, suc, ◌+◌, Bool, true, false, ◌||◌, List, [], ◌∷◌, ◌++◌, Option, Some, None, Vec, refl, ap, ◌∙◌, sym, cond, bytes_eq, find, map, nat_lt, length, position, option_map, is_some, Bor, arith, subst}
+use Rattle.std.proofs.lemmas.Bool.Decides.{nat_tests}
+use Rattle.std.proofs.lemmas.Slice.Eq.{bytes_eq-Decides}
+use Rattle.std.specs.List.{position_or_len}
+use Rattle.std.specs.Option.{option_copied}
+use Rattle.std.specs.Map.{lookup}
+use Rattle.std.specs.declared.alloc.Global.{Global}
+use Rattle.cxx_ast.specs.Environment.{Signature}
+use Rattle.cxx_ast.specs.FunctionRules.{has_text}
+use Rattle.cxx_rules.specs.Positions.{ArePositions, at_position}
+use Rattle.cxx_rules.proofs.NameLaws.{bytes_same}
+
+one_more : (n : ℕ) → 1 + n ≡ suc n
+one_more n = omega arith
+
+lt_one_more : (n m : ℕ) → nat_lt (suc n) (suc m) ≡ nat_lt n m
+lt_one_more n m = grind (arith, nat_tests)
+
+behind_first : (n m : ℕ) (b : Bool) → nat_lt n m ≡ b → cond (nat_lt (1 + n) (suc m)) (Some (1 + n)) None ≡ option_map suc (cond (nat_lt n m) (Some n) None)
+behind_first n m true e = rw (one_more n) (rw (lt_one_more n m) (rw e refl))
+behind_first n m false e = rw (one_more n) (rw (lt_one_more n m) (rw e refl))
+
+first_within : (m : ℕ) → nat_lt 0 (suc m) ≡ true
+first_within m = grind (arith, nat_tests)
+
+pub position-cons : {X : Type 0} (p : X → Bool) (x : X) (xs : List X) → position p (x ∷ xs) ≡ cond (p x) (Some 0) (option_map suc (position p xs))
+position-cons p x xs = by (p x) refl
+  where
+    by : (b : Bool) → p x ≡ b → position p (x ∷ xs) ≡ cond b (Some 0) (option_map suc (position p xs))
+    by true e = rw e (rw (first_within (length xs)) refl)
+    by false e = rw e (behind_first (position_or_len p xs) (length xs) (nat_lt (position_or_len p xs) (length xs)) refl)
+
+-- the position behind others, where they have none
+abbrev pub behind : Option ℕ → Bool → ℕ → Option ℕ
+behind (Some i) b n = Some i
+behind None b n = cond b (Some n) None
+
+behind_suc : (o : Option ℕ) (b : Bool) (n : ℕ) → option_map suc (behind o b n) ≡ behind (option_map suc o) b (suc n)
+behind_suc (Some i) b n = refl
+behind_suc None true n = refl
+behind_suc None false n = refl
+
+pub position-push : {X : Type 0} (p : X → Bool) (xs : List X) (y : X) → position p (xs ++ y ∷ []) ≡ behind (position p xs) (p y) (length xs)
+position-push p [] y = position-cons p y []
+position-push p (x ∷ xs) y =
+    position-cons p x (xs ++ y ∷ []) ∙ ap (λ o. cond (p x) (Some 0) (option_map suc o)) (position-push p xs y)
+    ∙ by (p x) ∙ ap (λ o. behind o (p y) (suc (length xs))) (sym (position-cons p x xs))
+  where
+    by : (b : Bool) → cond b (Some 0) (option_map suc (behind (position p xs) (p y) (length xs))) ≡ behind (cond b (Some 0) (option_map suc (position p xs))) (p y) (suc (length xs))
+    by true = refl
+    by false = behind_suc (position p xs) (p y) (length xs)
+
+at_suc : {X : Type 0} (x : X) (xs : List X) (o : Option ℕ) → at_position (x ∷ xs) (option_map suc o) ≡ at_position xs o
+at_suc x xs None = refl
+at_suc x xs (Some i) = refl
+
+named_by : (q : List ℕ) (s : Signature) (ss : List Signature) (b : Bool) →
+    at_position ss (position (λ d. bytes_eq d q) (map (λ s. s.name.text) ss)) ≡ find (λ s. bytes_eq s.name.text q) ss →
+    at_position (s ∷ ss) (cond b (Some 0) (option_map suc (position (λ d. bytes_eq d q) (map (λ s. s.name.text) ss))))
+    ≡ cond b (Some s) (find (λ s. bytes_eq s.name.text q) ss)
+named_by q s ss true h = refl
+named_by q s ss false h = at_suc s ss (position (λ d. bytes_eq d q) (map (λ s. s.name.text) ss)) ∙ h
+
+pub named_at : (q : List ℕ) (ss : List Signature) →
+    at_position ss (position (λ d. bytes_eq d q) (map (λ s. s.name.text) ss)) ≡ find (λ s. bytes_eq s.name.text q) ss
+named_at q [] = refl
+named_at q (s ∷ ss) =
+    ap (at_position (s ∷ ss)) (position-cons (λ d. bytes_eq d q) s.name.text (map (λ s. s.name.text) ss))
+    ∙ named_by q s ss (bytes_eq s.name.text q) (named_at q ss)
+
+some_suc : (o : Option ℕ) → is_some (option_map suc o) ≡ is_some o
+some_suc None = refl
+some_suc (Some i) = refl
+
+has_by : (q : List ℕ) (ts : List (List ℕ)) (b : Bool) → is_some (position (λ d. bytes_eq d q) ts) ≡ has_text q ts →
+    is_some (cond b (Some 0) (option_map suc (position (λ d. bytes_eq d q) ts))) ≡ (b || has_text q ts)
+has_by q ts true h = refl
+has_by q ts false h = some_suc (position (λ d. bytes_eq d q) ts) ∙ h
+
+pub has_position : (q : List ℕ) (ts : List (List ℕ)) → is_some (position (λ d. bytes_eq d q) ts) ≡ has_text q ts
+has_position q [] = refl
+has_position q (t ∷ ts) = ap is_some (position-cons (λ d. bytes_eq d q) t ts) ∙ has_by q ts (bytes_eq t q) (has_position q ts)
+
+-- what the functions of an index's position are: those of the name
+pub function_at : (q : List ℕ) (ss : List Signature) (ts : List (List ℕ)) (o : Option ℕ) →
+    o ≡ position (λ d. bytes_eq d q) ts → ts ≡ map (λ s. s.name.text) ss → at_position ss o ≡ find (λ s. bytes_eq s.name.text q) ss
+function_at q ss ts o e t = ap (at_position ss) (e ∙ ap (λ x. position (λ d. bytes_eq d q) x) t) ∙ named_at q ss
+
+-- the entries of a map behind a new one
+lookup_push : (q : List ℕ) (k : Vec ℕ Global) (n : ℕ) (es : List (Vec ℕ Global × ℕ)) →
+    lookup (λ k. bytes_eq q k.items) (es ++ (k, n) ∷ []) ≡ behind (lookup (λ k. bytes_eq q k.items) es) (bytes_eq q k.items) n
+lookup_push q k n [] = refl
+lookup_push q k n ((j, m) ∷ es) = lookup_by (bytes_eq q j.items) (lookup_push q k n es)
+  where
+    lookup_by : (b : Bool) → lookup (λ k. bytes_eq q k.items) (es ++ (k, n) ∷ []) ≡ behind (lookup (λ k. bytes_eq q k.items) es) (bytes_eq q k.items) n →
+        cond b (Some m) (lookup (λ k. bytes_eq q k.items) (es ++ (k, n) ∷ [])) ≡ behind (cond b (Some m) (lookup (λ k. bytes_eq q k.items) es)) (bytes_eq q k.items) n
+    lookup_by true h = refl
+    lookup_by false h = h
+
+-- a new text at the end, where the map has its number
+pub positions_new : (text : List ℕ) (k : Vec ℕ Global) (es new : List (Vec ℕ Global × ℕ)) (ts : List (List ℕ)) →
+    ArePositions es ts → k.items ≡ text → new ≡ es ++ (k, length ts) ∷ [] → ArePositions new (ts ++ text ∷ [])
+positions_new text k es new ts h i e q =
+    ap (lookup (λ k. bytes_eq q k.items)) e ∙ lookup_push q k (length ts) es
+    ∙ ap (λ o. behind o (bytes_eq q k.items) (length ts)) (h q)
+    ∙ ap (λ b. behind (position (λ d. bytes_eq d q) ts) b (length ts)) (ap (bytes_eq q) i ∙ bytes_same q text)
+    ∙ sym (position-push (λ d. bytes_eq d q) ts text)
+
+kept : (o : Option ℕ) (b : Bool) (n : ℕ) → (b ≡ true → is_some o ≡ true) → behind o b n ≡ o
+kept (Some i) b n h = refl
+kept None true n h = cc (h refl)
+kept None false n h = refl
+
+-- a text at the end that stands before
+pub positions_kept : (text : List ℕ) (es : List (Vec ℕ Global × ℕ)) (ts : List (List ℕ)) →
+    ArePositions es ts → is_some (lookup (λ k. bytes_eq text k.items) es) ≡ true → ArePositions es (ts ++ text ∷ [])
+positions_kept text es ts h there q =
+    h q ∙ sym (kept (position (λ d. bytes_eq d q) ts) (bytes_eq text q) (length ts) known) ∙ sym (position-push (λ d. bytes_eq d q) ts text)
+  where
+    known : bytes_eq text q ≡ true → is_some (position (λ d. bytes_eq d q) ts) ≡ true
+    known e = subst (λ x. is_some (position (λ d. bytes_eq d x) ts) ≡ true) ((bytes_eq-Decides text q).0 e) (ap is_some (sym (h text)) ∙ there)
+
+-- a look-up's answer, by whether it is there
+pub there_by : (r : Option (Bor ℕ)) (o : Option ℕ) (b : Bool) → option_copied r ≡ o → is_some r ≡ b → is_some o ≡ b
+there_by None o b e h = ap is_some (sym e) ∙ h
+there_by (Some x) o b e h = ap is_some (sym e) ∙ h
+
+pub none_by : (o : Option ℕ) → is_some o ≡ false → o ≡ None
+none_by None e = refl
+none_by (Some i) e = cc

@@ -1,0 +1,16 @@
+pub mod CallParts
+pub mod Folds
+pub mod Given
+pub mod KindOf
+pub mod Known
+pub mod MeaningOf
+pub mod NamesOf
+pub mod Numbered
+pub mod Parts
+pub mod Positions
+pub mod ScopeOf
+pub mod Seen
+pub mod SizeOf
+pub mod Summary
+pub mod Walk
+pub mod Went

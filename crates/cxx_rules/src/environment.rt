@@ -1,0 +1,286 @@
+// What is known of the names that a program declared so far.
+ghost use Rattle.std.specs.Prelude.{◌≡◌, option_map, find, bytes_eq, slice_get, length, IfOk};
+ghost use Rattle.cxx_ast.specs.ClassRules.{is_taken};
+ghost use Rattle.cxx_ast.specs.Declare.{with_name, with_class, with_signature};
+ghost use Rattle.cxx_ast.specs.FunctionRules.{has_text};
+ghost use Rattle.cxx_ast.specs.Lookup.{entry_of};
+ghost use Rattle.cxx_ast.specs.Resolve.{function_number};
+ghost use Rattle.cxx_rules.specs.Positions.{at_position};
+
+use crate::NoMemory;
+use crate::entry::{ClassEntry, Signature};
+use crate::names::{Names, Thing};
+use crate::texts::Texts;
+use std::alloc::Global;
+use std::marker::Model;
+
+/// The classes by number, the names of the one scope in order, how many globals there are, each declaration of a function, and
+/// the names of all functions that the program defines.
+#[derive(Drop)]
+pub struct Environment<'t> {
+    classes: Vec<ClassEntry<'t>>,
+    names: Names,
+    globals: usize,
+    signatures: Vec<Signature<'t>>,
+    texts: Texts,
+    definitions: Texts,
+}
+
+impl<'t> Model for Environment<'t> {
+    ghost use Rattle.cxx_ast.specs.Environment as environment;
+    ghost use Rattle.std.specs.Prelude.{◌≡◌, map as each};
+
+    ghost Value = { environment.Environment };
+
+    ghost view = { λ e. record {
+      classes = e.classes.items;
+      names = e.names;
+      globals = e.globals;
+      signatures = e.signatures.items;
+      definitions = e.definitions;
+    } };
+
+    ghost invariant = { λ e. e.texts ≡ each (λ s. s.name.text) e.signatures.items };
+}
+
+impl<'t> Environment<'t> {
+    ghost use Rattle.cxx_rules.specs.Known.{known_at_first, front_of, with_declaration, with_global};
+    ghost use Rattle.cxx_rules.specs.KindOf.{kind_of};
+    ghost use Rattle.cxx_rules.specs.NamesOf.{thing_of};
+
+    /// What is known before the first declaration, where the names of the functions that the program defines are given.
+    pub fn new(alloc: Global, definitions: Texts) -> Result<Self, NoMemory>
+        ensures { IfOk result (λ e. e ≡ known_at_first definitions) }
+    {
+        let mut classes = Vec::new(alloc);
+        classes.push(ClassEntry::bad_exception(alloc)?)?;
+        Ok(Environment {
+            classes,
+            names: Names::new(alloc),
+            globals: 0,
+            signatures: Vec::new(alloc),
+            texts: Texts::new(alloc),
+            definitions,
+        })
+    }
+
+    /// A name of the one scope is taken.
+    pub fn is_taken(&self, text: &[u8]) -> bool
+        ensures { result ≡ is_taken self.now text.now }
+    {
+        self.thing(text).is_some()
+    }
+
+    /// What is known with a name more; the first of a name stands.
+    pub fn with_name(self, alloc: Global, text: &[u8], thing: Thing) -> Result<Self, NoMemory>
+        ensures { IfOk result (λ e. e ≡ with_name self.entry text.now (thing_of thing)) }
+    {
+        if self.is_taken(text) {
+            return Ok(self);
+        }
+        let Environment {
+            classes,
+            mut names,
+            globals,
+            signatures,
+            texts,
+            definitions,
+        } = self;
+        names.add(alloc, text, thing)?;
+        Ok(Environment {
+            classes,
+            names,
+            globals,
+            signatures,
+            texts,
+            definitions,
+        })
+    }
+
+    /// What is known with a class more.
+    pub fn with_class(self, entry: ClassEntry<'t>) -> Result<Self, NoMemory>
+        ensures { IfOk result (λ e. e ≡ with_class self.entry entry.entry) }
+    {
+        let Environment {
+            mut classes,
+            names,
+            globals,
+            signatures,
+            texts,
+            definitions,
+        } = self;
+        classes.push(entry)?;
+        Ok(Environment {
+            classes,
+            names,
+            globals,
+            signatures,
+            texts,
+            definitions,
+        })
+    }
+
+    /// What is known without the last class.
+    pub fn without_class(self) -> Self
+        ensures { result ≡ record self.entry { classes = front_of self.entry.classes } }
+    {
+        let Environment {
+            mut classes,
+            names,
+            globals,
+            signatures,
+            texts,
+            definitions,
+        } = self;
+        classes.pop();
+        Environment {
+            classes,
+            names,
+            globals,
+            signatures,
+            texts,
+            definitions,
+        }
+    }
+
+    // What is known with a declaration of a function more.
+    fn with_declaration(self, alloc: Global, signature: Signature<'t>) -> Result<Self, NoMemory>
+        ensures { IfOk result (λ e. e ≡ with_declaration self.entry signature.entry) }
+    {
+        let Environment {
+            classes,
+            names,
+            globals,
+            mut signatures,
+            texts,
+            definitions,
+        } = self;
+        let texts = texts.with(alloc, signature.name().text.as_bytes())?;
+        signatures.push(signature)?;
+        Ok(Environment {
+            classes,
+            names,
+            globals,
+            signatures,
+            texts,
+            definitions,
+        })
+    }
+
+    /// What is known with a function of the one scope more, unless the name stands for something else.
+    pub fn with_signature(self, alloc: Global, signature: Signature<'t>) -> Result<Self, NoMemory>
+        ensures { IfOk result (λ e. e ≡ with_signature self.entry signature.entry) }
+    {
+        let text = signature.name().text.as_bytes();
+        match self.thing(text) {
+            None => self
+                .with_name(alloc, text, Thing::Function)?
+                .with_declaration(alloc, signature),
+            Some(Thing::Function) => self.with_declaration(alloc, signature),
+            Some(_) => Ok(self),
+        }
+    }
+
+    // What is known with a global counted.
+    fn with_globals(self, globals: usize) -> Self
+        ensures { result ≡ record self.entry { globals = globals } }
+    {
+        let Environment {
+            classes,
+            names,
+            globals: _,
+            signatures,
+            texts,
+            definitions,
+        } = self;
+        Environment {
+            classes,
+            names,
+            globals,
+            signatures,
+            texts,
+            definitions,
+        }
+    }
+
+    /// What is known with a global more.
+    pub fn with_global(self, alloc: Global, text: &[u8]) -> Result<Self, NoMemory>
+        ensures { IfOk result (λ e. e ≡ with_global self.entry text.now) }
+    {
+        let globals = self.globals();
+        let next = globals.checked_add(1).ok_or(NoMemory)?;
+        let named = self.with_name(alloc, text, Thing::Global(globals))?;
+        Ok(named.with_globals(next))
+    }
+
+    /// A class by its number.
+    pub fn class(&self, number: usize) -> Option<&ClassEntry<'t>>
+        ensures { option_map (λ c. c.now) result ≡ slice_get self.now.classes number }
+    {
+        self.classes.get(number)
+    }
+
+    /// How many classes there are.
+    pub fn class_count(&self) -> usize
+        ensures { result ≡ length self.now.classes }
+    {
+        self.classes.len()
+    }
+
+    /// Each declaration of a function.
+    pub fn signatures(&self) -> &[Signature<'t>]
+        ensures { result.now ≡ self.now.signatures }
+    {
+        self.signatures.as_slice()
+    }
+
+    /// How many globals there are.
+    pub fn globals(&self) -> usize
+        ensures { result ≡ self.now.globals }
+    {
+        self.globals
+    }
+
+    /// What a name of the one scope stands for.
+    pub fn thing(&self, text: &[u8]) -> Option<Thing>
+        ensures { option_map thing_of result ≡ option_map (λ e. e.thing) (entry_of self.now text.now) }
+    {
+        self.names.get(text)
+    }
+
+    /// The first declaration of a function.
+    pub fn function(&self, text: &[u8]) -> Option<&Signature<'t>>
+        ensures { option_map (λ s. s.now) result ≡ find (λ s. bytes_eq s.name.text text.now) self.now.signatures }
+    {
+        first_at(self.signatures.as_slice(), self.texts.position(text))
+    }
+
+    /// The number of a function among those that the program defines; one that is never defined has the number behind them.
+    pub fn function_number(&self, text: &[u8]) -> usize
+        ensures { result ≡ function_number self.now text.now }
+    {
+        self.definitions
+            .position(text)
+            .unwrap_or(self.definitions.len())
+    }
+
+    /// A function is among those that the program defines.
+    pub fn defines(&self, text: &[u8]) -> bool
+        ensures { result ≡ has_text text.now self.now.definitions }
+    {
+        self.definitions.contains(text)
+    }
+}
+
+// What stands at a position, where one is given.
+fn first_at<'a, 't>(
+    signatures: &'a [Signature<'t>],
+    position: Option<usize>,
+) -> Option<&'a Signature<'t>>
+    ensures { option_map (λ s. s.now) result ≡ at_position signatures.now position }
+{
+    match position {
+        None => None,
+        Some(i) => signatures.get(i),
+    }
+}
