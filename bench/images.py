@@ -15,7 +15,7 @@ import time
 from building import run
 
 TOP = pathlib.Path(__file__).resolve().parent.parent
-CROSS, RUNS, SIZES = "riscv64-linux-gnu-", 7, [500, 4_000, 16_000]
+CROSS, RUNS, SIZES = "riscv64-linux-gnu-", 7, [500, 4_000]
 
 
 def program(functions):
