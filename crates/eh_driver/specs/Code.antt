@@ -38,7 +38,7 @@ bytes_of code = flat_map (λ i. to_le_bytes w32 (word_of i)) code
 
 -- code lies at 0x10000, and may be executed and not written
 abbrev pub code_part : List ℕ → Part
-code_part bytes = record { address = 0x10000; bytes = bytes; write = false; exec = true }
+code_part bytes = record { address = 0x10000; bytes = bytes; file_at = 0; write = false; exec = true }
 
 -- a new machine over the code, with the pc at its first instruction
 abbrev pub started : List Instr → State

@@ -12,7 +12,7 @@ mod Joined
 mod Rows
 mod Gathers
 mod InRange
-mod Members
+pub mod Members
 mod Sweeps
 mod Overlaps
 mod Rises

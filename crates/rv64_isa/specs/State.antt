@@ -1,10 +1,11 @@
 -- The state of a hart: its pc, its registers and its memory.
 use Rattle.std.specs.Prelude.{ℕ, zero, suc, ◌+◌, ◌-◌, ◌*◌, ◌/◌, ◌%◌, ◌^◌, ◌==◌, ◌&&◌, Bool, nat_le, nat_lt, List, [], ◌∷◌, length, slice_index, slice_set, find, Option, Some, option_map, option_and_then, if◌then◌else◌}
 
--- a range of memory, and whether its bytes may be written and executed
+-- a range of memory, where its bytes stand in the file that they came from, and whether they may be written and executed
 pub record Part : Type 0 where
   pub address : ℕ
   pub bytes : List ℕ
+  pub file_at : ℕ
   pub write : Bool
   pub exec : Bool
 

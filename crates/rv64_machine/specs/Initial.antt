@@ -4,7 +4,7 @@ use Rattle.rv64_isa.specs.State.{Part, State, state}
 
 -- so many zero bytes, which may be written
 unfoldable pub zero_part : ℕ → ℕ → Part
-zero_part address size = record { address = address; bytes = replicate size 0; write = true; exec = false }
+zero_part address size = record { address = address; bytes = replicate size 0; file_at = 0; write = true; exec = false }
 
 -- 4 MiB of exception slots and 16 MiB of stack beside these parts; pc and registers are 0, but for sp, which is the stack's end
 abbrev pub initial : List Part → State

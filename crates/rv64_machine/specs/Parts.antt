@@ -8,7 +8,7 @@ use Rattle.rv64_machine.specs.Bytes.{number_at}
 use Rattle.rv64_machine.specs.declared.memory.Access.{Access}
 
 abbrev pub part_of : Segment → Part
-part_of s = record { address = s.address; bytes = s.bytes.items; write = s.write; exec = s.exec }
+part_of s = record { address = s.address; bytes = s.bytes.items; file_at = s.file_at; write = s.write; exec = s.exec }
 
 abbrev pub memory_of : Segment → Segment → List Segment → List Part
 memory_of slots stack segments = part_of slots ∷ part_of stack ∷ map part_of segments
