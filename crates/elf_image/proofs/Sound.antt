@@ -130,10 +130,11 @@ size_seen file h p =
     let taken : length (take h.file_size (drop h.offset file)) ≡ h.file_size = length-take-le h.file_size (drop h.offset file) (omega (arith, inside, left)) in
     omega (arith, room, long, taken, length-append (take h.file_size (drop h.offset file)) zeros)
 
-abbrev extent_in : memories.Part → Extent
+-- the extent of what a memory has
+abbrev pub extent_in : memories.Part → Extent
 extent_in part = record { address = part.address; size = length part.bytes; file_at = part.file_at }
 
-extents_in : (parts : List Segment) → extents_of parts ≡ map extent_in (map memories.part_of parts)
+pub extents_in : (parts : List Segment) → extents_of parts ≡ map extent_in (map memories.part_of parts)
 extents_in [] = refl
 extents_in (s ∷ parts) = ap (λ x. extent_of s ∷ x) (extents_in parts)
 

@@ -13,7 +13,7 @@ use Rattle.elf_image.specs.Reports.{reported}
 use Rattle.elf_image.specs.Reads.{ReadsImage}
 use Rattle.elf_image.proofs.Sound.{sound}
 
-abbrev all_faults : Bool → List ℕ → List Fault
+abbrev pub all_faults : Bool → List ℕ → List Fault
 all_faults run file = segment_faults file (headers_of file) ++ faults_to_run run file (headers_of file)
 
 header_refused : (file : List ℕ) (run : Bool) (f : Fault) → Some f ≡ least (header_faults file) → elf file run ≡ Err f

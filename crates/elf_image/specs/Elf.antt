@@ -4,7 +4,7 @@ use Rattle.std.specs.Int.{w64}
 use Rattle.eh_bytes.specs.Memory.{Memory}
 use Rattle.table_forms.specs.Fault.{Fault, ◌>>=◌, unless, least, answer}
 use Rattle.elf_image.specs.declared.program.ProgramHeader.{ProgramHeader}
-use Rattle.elf_image.specs.declared.runtime.RuntimeRecord.{RuntimeRecord}
+use Rattle.eh_bytes.specs.declared.unit.RuntimeRecord.{RuntimeRecord}
 use Rattle.elf_image.specs.Numbers.{field}
 use Rattle.elf_image.specs.Header.{header_faults}
 use Rattle.elf_image.specs.Programs.{headers_of, loaded, frames_header, runtime_header}

@@ -6,5 +6,9 @@ pub mod Runtime
 pub mod Elf
 pub mod Reports
 pub mod Reads
+pub mod Laid
+pub mod Written
+pub mod CanWrite
+pub mod Stands
 pub mod Clean
 pub mod Runnable

@@ -4,7 +4,7 @@ use Rattle.std.specs.List.{list_any}
 use Rattle.std.specs.Int.{w8, w64}
 use Rattle.table_forms.specs.Fault.{Fault, unless}
 use Rattle.elf_image.specs.declared.program.ProgramHeader.{ProgramHeader}
-use Rattle.elf_image.specs.declared.runtime.RuntimeRecord.{RuntimeRecord}
+use Rattle.eh_bytes.specs.declared.unit.RuntimeRecord.{RuntimeRecord}
 use Rattle.elf_image.specs.Numbers.{field}
 use Rattle.elf_image.specs.Programs.{end_of, is_executable}
 

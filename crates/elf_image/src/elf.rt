@@ -13,9 +13,8 @@ use crate::load::{is_within, load_refusal, low_refusal};
 use crate::memory::memory_of;
 use crate::number::word;
 use crate::program::{ProgramHeader, frames_header, headers_of, loads, runtime_header};
-use crate::runtime::RuntimeRecord;
 use crate::runtime_header::{has_table, runtime_of, runtime_refusal};
-use eh_bytes::Segments;
+use eh_bytes::{RuntimeRecord, Segments};
 use std::alloc::{AllocError, Global};
 use table_refusals::{Refusal, joined, unless};
 

@@ -1,20 +1,26 @@
 //! Images in ELF files (ELF-64 Object File Format): little-endian, for RISC-V, of fixed or of any
-//! place in memory.
+//! place in memory; read, and written.
 #![tactic(auto)]
 
 mod elf;
 mod error;
 mod header;
+mod laid;
 mod load;
 mod memory;
 mod number;
 mod program;
-mod runtime;
+mod put;
 mod runtime_header;
+mod write;
 
+pub use eh_bytes::RuntimeRecord;
 pub use elf::{Elf, read_elf};
 pub use error::ImageError;
-pub use runtime::RuntimeRecord;
+pub use std::alloc::AllocError as NoMemory;
+pub use write::{ImageParts, write_elf};
 
 #[cfg(test)]
 mod tests;
+#[cfg(test)]
+mod write_tests;

@@ -6,11 +6,11 @@ ghost use Rattle.elf_image.specs.Programs.{header_at, headers_from, headers_of, 
 use crate::number::{u16_at, u32_at, word};
 use std::alloc::{AllocError, Global};
 
-const LOAD: u32 = 1;
+pub const LOAD: u32 = 1;
 
-const FRAMES: u32 = 0x6474_e550;
+pub const FRAMES: u32 = 0x6474_e550;
 
-const RUNTIME: u32 = 0x6e48_5831;
+pub const RUNTIME: u32 = 0x6e48_5831;
 
 /// A program header, with its place in the file.
 #[derive(Clone, Copy, Debug)]

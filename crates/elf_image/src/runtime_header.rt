@@ -8,12 +8,12 @@ ghost use Rattle.elf_image.specs.Runtime.{has_address, byte_in, byte_at, is_bare
 
 use crate::number::{u8_at, word};
 use crate::program::ProgramHeader;
-use crate::runtime::RuntimeRecord;
+use eh_bytes::RuntimeRecord;
 use table_refusals::{Refusal, unless};
 
-const FORMAT: u64 = 1;
+pub const FORMAT: u64 = 1;
 
-const RECORD_SIZE: u64 = 24;
+pub const RECORD_SIZE: u64 = 24;
 
 fn has_address(address: u128, header: &ProgramHeader) -> bool
     ensures { result ≡ has_address address header.now }
@@ -21,8 +21,8 @@ fn has_address(address: u128, header: &ProgramHeader) -> bool
     header.address as u128 <= address && address < header.end()
 }
 
-// The first segment that has an address.
-fn load_with(loads: &[ProgramHeader], address: u128) -> Option<&ProgramHeader>
+/// The first segment that has an address.
+pub fn load_with(loads: &[ProgramHeader], address: u128) -> Option<&ProgramHeader>
     ensures first { option_copied result ≡ find (has_address address) loads.now }
     ensures has { IfSome result (λ load. has_address address load.now ≡ true) }
 {

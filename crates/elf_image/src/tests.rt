@@ -4,16 +4,16 @@ use std::alloc::Global;
 use std::test::Fail;
 
 #[derive(Clone, Copy, Debug)]
-struct Program {
-    kind: u32,
-    flags: u32,
-    offset: u64,
-    address: u64,
-    file_size: u64,
-    memory_size: u64,
+pub struct Program {
+    pub kind: u32,
+    pub flags: u32,
+    pub offset: u64,
+    pub address: u64,
+    pub file_size: u64,
+    pub memory_size: u64,
 }
 
-const LOAD: Program = Program {
+pub const LOAD: Program = Program {
     kind: 1,
     flags: 5,
     offset: 0,
@@ -22,7 +22,7 @@ const LOAD: Program = Program {
     memory_size: 0x500,
 };
 
-const FRAMES: Program = Program {
+pub const FRAMES: Program = Program {
     kind: 0x6474_e550,
     flags: 4,
     offset: 0x300,
@@ -31,7 +31,7 @@ const FRAMES: Program = Program {
     memory_size: 0x14,
 };
 
-const RUNTIME: Program = Program {
+pub const RUNTIME: Program = Program {
     kind: 0x6e48_5831,
     flags: 4,
     offset: 0x320,
@@ -56,9 +56,13 @@ fn put(bytes: &mut Vec<u8>, program: &Program) -> Result<(), Fail> {
     Ok(())
 }
 
-// A file of 0x400 bytes with these program headers, whose runtime record stands at 0x320, and with
-// some bytes changed.
-fn image(alloc: Global, programs: &[Program], changes: &[(usize, u8)]) -> Result<Vec<u8>, Fail> {
+// A file of so many bytes with these program headers, whose runtime record stands at a place.
+pub fn file_with(
+    alloc: Global,
+    programs: &[Program],
+    record_at: usize,
+    size: usize,
+) -> Result<Vec<u8>, Fail> {
     let mut bytes = Vec::new(alloc);
     bytes.extend_from_slice(
         b"\x7fELF\x02\x01\x01\0\0\0\0\0\0\0\0\0\x02\0\xf3\0\x01\0\0\0\x34\x12\x01\0\0\0\0\0\x40\0\0\0\0\0\0\0".as_slice(),
@@ -68,11 +72,17 @@ fn image(alloc: Global, programs: &[Program], changes: &[(usize, u8)]) -> Result
     for program in programs.iter() {
         put(&mut bytes, program)?;
     }
-    bytes.resize(0x320, 0)?;
+    bytes.resize(record_at, 0)?;
     for number in [1u64, 0x1_0040, 0x1_0050] {
         bytes.extend_from_slice(number.to_le_bytes().as_slice())?;
     }
-    bytes.resize(0x400, 0)?;
+    bytes.resize(size, 0)?;
+    Ok(bytes)
+}
+
+// A file of 0x400 bytes, whose runtime record stands at 0x320, and with some bytes changed.
+fn image(alloc: Global, programs: &[Program], changes: &[(usize, u8)]) -> Result<Vec<u8>, Fail> {
+    let mut bytes = file_with(alloc, programs, 0x320, 0x400)?;
     for (at, byte) in changes.iter() {
         if let Some(place) = bytes.get_mut(*at) {
             *place = *byte;
