@@ -1,0 +1,71 @@
+// The frame outward of a frame.
+ghost use Rattle.std.specs.Prelude.{◌≡◌, ℕ, Ok};
+ghost use Rattle.table_forms.specs.Frames as forms;
+ghost use Rattle.frame_read.specs.ReadsFrames.{ReadsFrames, listing};
+ghost use Rattle.frame_walk.specs.Outward.{cfa_of, is_outward, out_by, tables_of, next_frame};
+
+use crate::frame::{Frame, Walk};
+use crate::registers::{offset_by, register_at, registers_of};
+use frame_read::Frames;
+use rv64_machine::{FaultKind, Machine};
+use table_forms::{Row, Rule};
+
+// The canonical frame address that a row gives a frame.
+fn cfa_of(row: &Row, frame: &Frame) -> u64
+    ensures { result ≡ cfa_of row.now frame.now }
+{
+    offset_by(
+        register_at(&frame.regs, row.cfa_register as usize),
+        row.cfa_offset,
+    )
+}
+
+// Whether it lies in the stack, farther out than that of the frame before.
+fn is_outward(frame: &Frame, cfa: u64) -> bool
+    ensures { result ≡ is_outward frame.now cfa }
+{
+    cfa >= 0x7000_0000 && cfa <= 0x7100_0000 && (frame.top || frame.cfa < cfa)
+}
+
+// The frame outward by a row.
+fn out_by(machine: &Machine, frame: &Frame, return_register: u8, signal: bool, row: &Row) -> Walk
+    ensures { result ≡ out_by machine.now frame.now return_register signal row.now }
+{
+    if let Some(Rule::Undefined) = row.rules.get(return_register as usize) {
+        return Walk::EndOfStack;
+    }
+    let cfa = cfa_of(row, frame);
+    if !is_outward(frame, cfa) {
+        return Walk::Fault(FaultKind::Walk);
+    }
+    match registers_of(machine, cfa, &frame.regs, &row.rules) {
+        None => Walk::Fault(FaultKind::Walk),
+        Some(regs) => Walk::Next(Frame {
+            pc: register_at(&regs, return_register as usize),
+            cfa,
+            regs,
+            top: false,
+            signal,
+        }),
+    }
+}
+
+/// The frame outward of a frame, by the frames that `read_frames` gives of the machine's tables.
+///
+/// `EndOfStack` exactly where no FDE holds the frame's look-up place, or its row marks the return
+/// register undefined; else `Fault(Walk)` exactly where the row needs a word that `load_u64`
+/// refuses, or the canonical frame address is below 0x70000000 or above 0x71000000, or that of a
+/// frame other than the top one is not greater than that of the frame before. Takes no memory.
+pub fn step_out(machine: &Machine, frames: &Frames, frame: &Frame) -> Walk
+    requires { (header : ℕ) × ReadsFrames (Ok frames.now) (forms.frames (tables_of machine.now) header) }
+    ensures { (header : ℕ) (read : forms.Frames) → forms.frames (tables_of machine.now) header ≡ Ok read → frames.now ≡ listing read → result ≡ next_frame machine.now read.fdes frame.now }
+{
+    let place = frame.place();
+    match frames.fde_for(place) {
+        None => Walk::EndOfStack,
+        Some(fde) => {
+            let row = frames.row_at(machine.tables(), &fde, place);
+            out_by(machine, frame, fde.return_register, fde.signal, &row)
+        }
+    }
+}
