@@ -119,9 +119,24 @@ static CUTS: &[(usize, (u8, u64))] = &[
     (0, (60, 0)),
 ];
 
-// The worked image with some bytes changed, cut to a length.
-fn image(alloc: Global, at: usize, bytes: &[u8], length: usize) -> Result<Vec<u8>, Fail> {
-    let mut image = WORKED.to_vec(alloc)?;
+// Changes of the image for any place: a longer region of the second function, which then reaches
+// into the third, whose FDE stands at 0x140; the second segment inside the first; its program header
+// one of the record for the runtime.
+static CHANGES_ANYWHERE: &[(usize, &[u8], (u8, u64))] = &[
+    (0x110, b"\x14", (57, 0x140)),
+    (0x88, b"\x1f\x02", (65, 0x78)),
+    (0x78, b"\x31\x58\x48\x6e", (68, 0x78)),
+];
+
+// An image with some bytes changed, cut to a length.
+fn changed(
+    alloc: Global,
+    image: &[u8],
+    at: usize,
+    bytes: &[u8],
+    length: usize,
+) -> Result<Vec<u8>, Fail> {
+    let mut image = image.to_vec(alloc)?;
     for (i, byte) in bytes.iter().enumerate() {
         if let Some(place) = image.get_mut(at.wrapping_add(i)) {
             *place = *byte;
@@ -169,12 +184,10 @@ fn an_image_for_any_place(rt: HostRuntime) -> Result<(), Fail> {
         sites: 3,
     };
     assert_eq!(rt; check_image(alloc, ANYWHERE), Ok(summary));
-    // the second function then reaches into the third, whose FDE stands at 0x140
-    let mut longer = ANYWHERE.to_vec(alloc)?;
-    if let Some(length) = longer.get_mut(0x110) {
-        *length = 0x14;
+    for &(at, bytes, wanted) in CHANGES_ANYWHERE {
+        let found = refusal(alloc, &changed(alloc, ANYWHERE, at, bytes, ANYWHERE.len())?);
+        assert_eq!(rt; (found.0, found.1), wanted, "{bytes:?} at {at}");
     }
-    assert_eq!(rt; refusal(alloc, &longer), (57, 0x140, 0, 0));
     Ok(())
 }
 
@@ -182,10 +195,13 @@ fn an_image_for_any_place(rt: HostRuntime) -> Result<(), Fail> {
 fn changes_of_it(rt: HostRuntime) -> Result<(), Fail> {
     let alloc = rt.alloc();
     for &(at, bytes, wanted) in CHANGES {
-        let found = refusal(alloc, &image(alloc, at, bytes, 304)?);
+        let found = refusal(alloc, &changed(alloc, WORKED, at, bytes, 304)?);
         assert_eq!(rt; (found.0, found.1), wanted, "{bytes:?} at {at}");
     }
-    let rows = refusal(alloc, &image(alloc, 0xbc, b"\x60".as_slice(), 304)?);
+    let rows = refusal(
+        alloc,
+        &changed(alloc, WORKED, 0xbc, b"\x60".as_slice(), 304)?,
+    );
     assert_eq!(rt; (rows.2, rows.3), (0x1_0110, 0x1_010c));
     Ok(())
 }
@@ -194,7 +210,7 @@ fn changes_of_it(rt: HostRuntime) -> Result<(), Fail> {
 fn cuts_of_it(rt: HostRuntime) -> Result<(), Fail> {
     let alloc = rt.alloc();
     for &(length, wanted) in CUTS {
-        let found = refusal(alloc, &image(alloc, 0, b"".as_slice(), length)?);
+        let found = refusal(alloc, &changed(alloc, WORKED, 0, b"".as_slice(), length)?);
         assert_eq!(rt; (found.0, found.1), wanted, "{length} bytes");
     }
     Ok(())
