@@ -1,0 +1,10 @@
+pub mod JoinedLaws
+pub mod MeasureLaws
+pub mod PlaceLaws
+pub mod OwnLaws
+pub mod FunctionLaws
+pub mod OrderLaws
+pub mod KnownLaws
+pub mod ClassLaws
+pub mod WholeLaws
+pub mod TreeLaws

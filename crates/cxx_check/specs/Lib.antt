@@ -1,0 +1,15 @@
+pub mod Joined
+pub mod Measured
+pub mod FunctionParts
+pub mod InsideOf
+pub mod ClassParts
+pub mod Places
+pub mod PlacesOf
+pub mod OwnParts
+pub mod Whole
+pub mod Once
+pub mod RefusalOf
+pub mod HeadingOf
+pub mod TreeParts
+pub mod PartsOf
+pub mod AnswerOf

@@ -1,0 +1,52 @@
+// Checked programs.
+ghost use Rattle.std.specs.Prelude.{◌≡◌, IfOk};
+ghost use Rattle.cxx_ast.specs.Checked.{checked};
+ghost use Rattle.cxx_ast.specs.View.{program_of, checked_of};
+ghost use Rattle.cxx_check.specs.AnswerOf.{Answers};
+
+use crate::NoMemory;
+use crate::bound::numbered;
+use crate::declared_tree::{declarations_bound, parts_bound};
+use crate::error::CheckError;
+use crate::refused::{definitions, nameless, refusal};
+use cxx_ast::program::{Checked, Program};
+use cxx_rules::Environment;
+use std::alloc::Global;
+
+// The same program with every name bound.
+fn bound_program(alloc: Global, program: &Program) -> Result<Checked, NoMemory>
+    ensures { IfOk result (λ c. checked_of c ≡ checked (program_of program.now)) }
+{
+    let decls = program.decls.as_slice();
+    let none = nameless(alloc);
+    let first = Environment::new(alloc, definitions(alloc, decls)?)?;
+    let main = numbered(first.function_number(b"main".as_slice()))?;
+    let rebuilt = declarations_bound(alloc, first, &none, decls)?;
+    let second = Environment::new(alloc, definitions(alloc, decls)?)?;
+    let parts = parts_bound(alloc, second, &none, decls)?;
+    Ok(Checked {
+        program: Program {
+            decls: rebuilt,
+            tokens: program.tokens,
+            length: program.length,
+        },
+        classes: parts.classes,
+        globals: parts.globals,
+        functions: parts.functions,
+        main,
+    })
+}
+
+/// Checks a program by the static rules.
+///
+/// Where it breaks none, the answer is the same program with every name bound. Else it is refused with the rule that is broken at
+/// the least place, and at one place the least number. Places are bytes from the source's start.
+pub fn check(alloc: Global, program: Program) -> Result<Checked, CheckError>
+    ensures { Answers (program_of program) result }
+{
+    if let Some(refusal) = refusal(alloc, &program)? {
+        return Err(CheckError::Refused(refusal.number, refusal.place));
+    }
+    let checked = bound_program(alloc, &program)?;
+    Ok(checked)
+}

@@ -1,0 +1,83 @@
+// The refusal of a program.
+ghost use Rattle.std.specs.Prelude.{◌≡◌, [], IfOk, map, option_map};
+ghost use Rattle.cxx_ast.specs.declared.name.Bound.TheVariants.{Free};
+ghost use Rattle.cxx_ast.specs.Broken.{is_main, has_main};
+ghost use Rattle.cxx_ast.specs.Declare.{definitions};
+ghost use Rattle.cxx_ast.specs.Refused.{refused};
+ghost use Rattle.cxx_ast.specs.View.{function_of, declaration_of, program_of};
+ghost use Rattle.cxx_check.specs.RefusalOf.{pair_of};
+
+use crate::NoMemory;
+use crate::declared::declarations;
+use crate::once::once_only_found;
+use cxx_ast::declaration::{Decl, Func};
+use cxx_ast::name::{Bound, Name};
+use cxx_ast::program::Program;
+use cxx_ast::text::Text;
+use cxx_ast::types::Ty;
+use cxx_rules::{Environment, Found, Refusal, Rule, Texts};
+use std::alloc::Global;
+
+/// The names of the functions that a program defines, in order.
+pub fn definitions(alloc: Global, decls: &[Decl]) -> Result<Texts, NoMemory>
+    ensures { IfOk result (λ texts. texts ≡ definitions (map declaration_of decls.now)) }
+{
+    let mut texts = Texts::new(alloc);
+    for d in decls {
+        if let Decl::Func(f) = d {
+            if f.body.is_some() {
+                texts = texts.with(alloc, f.name.text.as_bytes())?;
+            }
+        }
+    }
+    Ok(texts)
+}
+
+// `int main()` without parameters is defined.
+fn is_main(f: &Func) -> bool
+    ensures { result ≡ is_main (function_of f.now) }
+{
+    f.name.text.as_bytes() == b"main".as_slice()
+        && f.body.is_some()
+        && f.params.len() == 0
+        && matches!(f.result, Ty::Int)
+}
+
+// Some declaration is that.
+fn has_main(decls: &[Decl]) -> bool
+    ensures { result ≡ has_main (map declaration_of decls.now) }
+{
+    for d in decls {
+        if let Decl::Func(f) = d {
+            if is_main(f) {
+                return true;
+            }
+        }
+    }
+    false
+}
+
+/// The name of a data member that has none.
+pub fn nameless(alloc: Global) -> Name
+    ensures { result ≡ record { text = []; place = 0; bound = Free } }
+{
+    Name {
+        text: Text::new(Vec::new(alloc)),
+        place: 0,
+        bound: Bound::Free,
+    }
+}
+
+/// Why a program is refused, where it breaks a rule: the broken rule at the least place, in bytes from the source's start, and
+/// there the least number.
+pub fn refusal(alloc: Global, program: &Program) -> Result<Option<Refusal>, NoMemory>
+    ensures { IfOk result (λ r. option_map pair_of r ≡ refused (program_of program.now)) }
+{
+    let decls = program.decls.as_slice();
+    let none = nameless(alloc);
+    let env = Environment::new(alloc, definitions(alloc, decls)?)?;
+    let walked = declarations(alloc, env, &none, decls)?;
+    let once = once_only_found(alloc, &walked.env, decls)?;
+    let main = Found::broken_if(!has_main(decls), Rule::NoMain, program.length);
+    Ok(walked.found.and(once).and(main).least)
+}
