@@ -1,0 +1,9 @@
+// 31 at 46
+int largest(int a, int b) {
+  int a = b;
+  return a;
+}
+
+int main() {
+  return largest(1, 2);
+}

@@ -1,0 +1,4 @@
+// 38 at 44
+void main() {
+  write_int(1);
+}

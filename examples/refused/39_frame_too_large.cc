@@ -1,0 +1,16 @@
+// 39 at 256
+struct Two { int a; int b; };
+struct Four { Two a; Two b; };
+struct Eight { Four a; Four b; };
+struct Sixteen { Eight a; Eight b; };
+struct More { Sixteen a; Sixteen b; };
+struct Many { More a; More b; };
+struct Most { Many a; Many b; };
+
+int main() {
+  Most a;
+  Most b;
+  Most c;
+  int n;
+  return 0;
+}
