@@ -104,6 +104,69 @@ frame 0x1f0 0x220
   list -1: 2
 ";
 
+// Loaded at 0x20000 and nowhere else: a header with a table of three rows, at 0xd4 a CIE without
+// letters and one whose tables and locations are absolute, at 0x160 a table with an LPStart and
+// absolute types, and at 0x190 one without types.
+static ABSOLUTE: &[u8] = b"\x7fELF\x02\x01\x01\0\0\0\0\0\0\0\0\0\
+\x02\0\xf3\0\x01\0\0\0\0\x02\x02\0\0\0\0\0\
+@\0\0\0\0\0\0\0\0\0\0\0\0\0\0\0\
+\0\0\0\0@\0\x38\0\x02\0\0\0\0\0\0\0\
+\x01\0\0\0\x05\0\0\0\0\0\0\0\0\0\0\0\
+\0\0\x02\0\0\0\0\0\0\0\x02\0\0\0\0\0\
+@\x02\0\0\0\0\0\0@\x02\0\0\0\0\0\0\
+\0\x10\0\0\0\0\0\0P\xe5td\x04\0\0\0\
+\xb0\0\0\0\0\0\0\0\xb0\0\x02\0\0\0\0\0\
+\xb0\0\x02\0\0\0\0\0$\0\0\0\0\0\0\0\
+$\0\0\0\0\0\0\0\x04\0\0\0\0\0\0\0\
+\x01\x1b\x03;\x20\0\0\0\x03\0\0\0P\x01\0\0\
+\x34\0\0\0p\x01\0\0l\0\0\0\x80\x01\0\0\
+\x8c\0\0\0\x0c\0\0\0\0\0\0\0\x01\0\x01x\
+\x01\x0c\x02\0\x1c\0\0\0\x14\0\0\0\0\x02\x02\0\
+\0\0\0\0\x20\0\0\0\0\0\0\0D\x0e\x10\x81\
+\x01\0\0\0\x14\0\0\0\0\0\0\0\x03zLR\
+\0\x02|\x01\x02\0\x03\x0c\x02\0\0\0\x1c\0\0\0\
+\x1c\0\0\0\x20\x02\x02\0\x10\0\0\0\x08`\x01\x02\
+\0\0\0\0\0B\x0e\x20\x81\x02\0\0\x18\0\0\0\
+<\0\0\0\x30\x02\x02\0\x10\0\0\0\x08\x90\x01\x02\
+\0\0\0\0\0B\x0e\x10\0\0\0\0\0\0\0\0\
+\x04\0\x02\x02\0\0\0\0\0\0$\x02\x0e\x04\0\x08\
+\0\x10\0\x03\x0c\0\x04\0\x14\0\0\x02\0\x01}\0\
+\0\0\0\0\0\0\0\0\x0f\x02\0\0\0\0\0\0\
+\xff\xff\x01\x04\0\x10\0\0\0\0\0\0\0\0\0\0\
+\0\0\0\0\0\0\0\0\0\0\0\0\0\0\0\0\
+\0\0\0\0\0\0\0\0\0\0\0\0\0\0\0\0\
+\0\0\0\0\0\0\0\0\0\0\0\0\0\0\0\0\
+\0\0\0\0\0\0\0\0\0\0\0\0\0\0\0\0\
+\0\0\0\0\0\0\0\0\0\0\0\0\0\0\0\0\
+\0\0\0\0\0\0\0\0\0\0\0\0\0\0\0\0\
+\x13\0\0\0\x13\0\0\0\x13\0\0\0\x13\0\0\0\
+\x13\0\0\0\x13\0\0\0\x13\0\0\0\x13\0\0\0\
+\x13\0\0\0\x13\0\0\0\x13\0\0\0\x13\0\0\0\
+\x13\0\0\0\x13\0\0\0\x13\0\0\0\x13\0\0\0";
+
+static ABSOLUTE_TEXT: &str = "image entry 0x20200
+segment 0x20000 0x20240 r-x
+cie 0x200d4 version 1 aug - code 1 data -8 ra x1
+cie 0x20104 version 3 aug zLR code 2 data -4 ra x1
+frame 0x20200 0x20220
+  row 0x20200 cfa x2+0
+  row 0x20204 cfa x2+16 x1=c-8
+frame 0x20220 0x20230
+  row 0x20220 cfa x2+0
+  row 0x20224 cfa x2+32 x1=c-8
+  lsda 0x20160
+  site 0x20224 0x2022c pad 0x20210 action 3
+  site 0x2022c 0x20230 pad 0x20214 action 0
+  action 3: 1 2
+  type 1: 0x20f00
+  type 2: 0x0
+frame 0x20230 0x20240
+  row 0x20230 cfa x2+0
+  row 0x20234 cfa x2+16
+  lsda 0x20190
+  site 0x20230 0x20240 pad 0x0 action 0
+";
+
 // The bytes put at a place, a line that then stands in place of another one.
 static CHANGES: &[(usize, &[u8], &str, &str)] = &[
     (0, b"", "", ""),
@@ -185,6 +248,14 @@ fn an_image_for_any_place(rt: HostRuntime) -> Result<(), Fail> {
     let alloc = rt.alloc();
     let text = dump_image(alloc, ANYWHERE);
     assert_eq!(rt; text.as_deref(), Ok(ANYWHERE_TEXT.as_bytes()));
+    Ok(())
+}
+
+#[test]
+fn an_image_for_one_place(rt: HostRuntime) -> Result<(), Fail> {
+    let alloc = rt.alloc();
+    let text = dump_image(alloc, ABSOLUTE);
+    assert_eq!(rt; text.as_deref(), Ok(ABSOLUTE_TEXT.as_bytes()));
     Ok(())
 }
 
