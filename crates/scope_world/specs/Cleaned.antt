@@ -1,0 +1,11 @@
+-- What the cleanup of a foreign exception does.
+use Rattle.std.specs.Prelude.{ℕ}
+use Rattle.scope_rules.specs.declared.item.Item.TheVariants.{Clean}
+use Rattle.scope_rules.specs.World.{without_exception}
+use Rattle.scope_rules.specs.Outcome.{Action, change, emit, ◌>>◌}
+
+-- a module's cleanup is called with the token of an exception, which is no longer live
+abbrev pub clean_up : (exception guest token : ℕ) → Action (Unit {0})
+clean_up e k t = do
+  emit (Clean k t)
+  change (λ w. without_exception w e)
