@@ -1,0 +1,11 @@
+pub mod Texts
+pub mod Lists
+pub mod Numbers
+pub mod Runs
+pub mod Rules
+pub mod Rows
+pub mod Shapes
+pub mod Walks
+pub mod Sorted
+pub mod Parses
+pub mod Under

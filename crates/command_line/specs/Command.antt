@@ -1,0 +1,147 @@
+-- The command that words are.
+use Rattle.std.specs.Prelude.{ℕ, Bool, true, false, ◌==◌, ◌&&◌, not, nat_le, List, [], ◌∷◌, length, map, flat_map, Option, Some, None, option_map, codes, bytes_eq, if◌then◌else◌, string_bytes}
+use Rattle.std.specs.List.{list_all}
+use Rattle.std.specs.Option.{option_and_then}
+use Rattle.eh_outer.specs.declared.module.Reply.{Reply}
+use Rattle.command_line.specs.declared.command.Command.{Command}
+use Rattle.command_line.specs.declared.command.Verb.{Verb}
+use Rattle.command_line.specs.declared.command.Verb.TheVariants.{Run, Check, Dump}
+use Rattle.command_line.specs.declared.setting.Setting.{Setting}
+use Rattle.command_line.specs.declared.setting.Setting.TheVariants.{Input, Max, Trace, Count, Foreign}
+use Rattle.command_line.specs.Number.{count_up_to}
+use Rattle.command_line.specs.Pieces.{Piece, Operand, Given, pieces_of}
+use Rattle.command_line.specs.Script.{all_some, script_of}
+use Rattle.command_line.specs.Setting.{name_of}
+
+-- a command without where it lies in memory
+pub record CommandView : Type 0 where
+  pub verb : Verb
+  pub operands : List (List ℕ)
+  pub inputs : List (List ℕ)
+  pub max : ℕ
+  pub trace : Bool
+  pub count : Bool
+  pub scripts : List (List (Reply × ℕ))
+
+abbrev pub command_seen : Command → CommandView
+command_seen c = record {
+  verb = c.verb;
+  operands = map string_bytes c.operands.items;
+  inputs = map string_bytes c.inputs.items;
+  max = c.max;
+  trace = c.trace;
+  count = c.count;
+  scripts = map (λ runs. runs.items) c.scripts.items;
+}
+
+-- the operands among pieces
+abbrev pub operand_in : Piece → List (List ℕ)
+operand_in (Operand word) = word ∷ []
+operand_in (Given s value) = []
+
+abbrev pub operands_in : List Piece → List (List ℕ)
+operands_in = flat_map operand_in
+
+-- the values of an option among pieces
+abbrev pub value_in : Setting → Piece → List (List ℕ)
+value_in s (Operand word) = []
+value_in s (Given t value) = if bytes_eq (name_of t) (name_of s) then value ∷ [] else []
+
+abbrev pub values_in : Setting → List Piece → List (List ℕ)
+values_in s = flat_map (value_in s)
+
+abbrev pub are_named : List (List ℕ) → Bool
+are_named = list_all (λ name. not (length name == 0))
+
+-- so many names, none empty
+abbrev pub exactly : ℕ → List (List ℕ) → Option (List (List ℕ))
+exactly count names = if (length names == count) && are_named names then Some names else None
+
+-- a name or none, and none empty
+abbrev pub at_most_one : List (List ℕ) → Option (List (List ℕ))
+at_most_one names = if nat_le (length names) 1 && are_named names then Some names else None
+
+-- the most turns, 1 to 2^40
+abbrev pub max_in : List ℕ → Option ℕ
+max_in text = count_up_to 1099511627776 text
+
+abbrev pub max_of : List (List ℕ) → Option ℕ
+max_of [] = Some 10000000
+max_of (text ∷ []) = max_in text
+max_of (text ∷ other ∷ others) = None
+
+-- whether a switch stands, which stands at most once
+abbrev pub switch_of : List (List ℕ) → Option Bool
+switch_of [] = Some false
+switch_of (value ∷ []) = Some true
+switch_of (value ∷ other ∷ others) = None
+
+-- the scripts, at most 64
+abbrev pub scripts_of : List (List ℕ) → Option (List (List (Reply × ℕ)))
+scripts_of texts = if nat_le (length texts) 64 then all_some script_of texts else None
+
+-- what words give for the operands and for each option
+pub record FoundView : Type 0 where
+  pub operands : List (List ℕ)
+  pub inputs : List (List ℕ)
+  pub max : List (List ℕ)
+  pub trace : List (List ℕ)
+  pub count : List (List ℕ)
+  pub scripts : List (List ℕ)
+
+abbrev pub found_in : List Piece → FoundView
+found_in pieces = record {
+  operands = operands_in pieces;
+  inputs = values_in Input pieces;
+  max = values_in Max pieces;
+  trace = values_in Trace pieces;
+  count = values_in Count pieces;
+  scripts = values_in Foreign pieces;
+}
+
+-- the command of a verb that takes so many operands, by what is found
+unfoldable pub command_from : Verb → ℕ → FoundView → Option CommandView
+command_from verb most found =
+    option_and_then (λ operands.
+    option_and_then (λ inputs.
+    option_and_then (λ max.
+    option_and_then (λ trace.
+    option_and_then (λ count.
+    option_map (λ scripts. record {
+      verb = verb;
+      operands = operands;
+      inputs = inputs;
+      max = max;
+      trace = trace;
+      count = count;
+      scripts = scripts;
+    }) (scripts_of found.scripts))
+    (switch_of found.count))
+    (switch_of found.trace))
+    (max_of found.max))
+    (at_most_one found.inputs))
+    (exactly most found.operands)
+
+-- the command of a verb that takes these options and so many operands, by the words behind it
+abbrev pub command_taking : Verb → List Setting → ℕ → List (List ℕ) → Option CommandView
+command_taking verb settings most words = option_and_then (λ pieces. command_from verb most (found_in pieces)) (pieces_of settings words None)
+
+-- the word that a command begins with
+abbrev pub verb_of : List ℕ → Option Verb
+verb_of word =
+    if bytes_eq word (codes "run") then Some Run
+    else if bytes_eq word (codes "check") then Some Check
+    else if bytes_eq word (codes "dump") then Some Dump
+    else None
+
+-- what the command of a verb takes: its options, and how many operands
+abbrev pub settings_of : Verb → List Setting
+settings_of verb = []
+
+abbrev pub operand_count : Verb → ℕ
+operand_count verb = 1
+
+-- the command that words are, if they are one
+abbrev pub command_of : List (List ℕ) → Option CommandView
+command_of [] = None
+command_of (word ∷ words) = option_and_then (λ verb. command_taking verb (settings_of verb) (operand_count verb) words) (verb_of word)

@@ -1,0 +1,31 @@
+// What the words of the command line say.
+use eh_outer::Reply;
+
+/// What a command does.
+#[derive(Clone, Copy, Debug, PartialEq, Eq)]
+pub enum Verb {
+    /// Compile a source and run it.
+    Run,
+    /// Judge an image, and count what it has.
+    Check,
+    /// Print the tables of an image.
+    Dump,
+}
+
+/// A command: what is done, with which names, and how.
+#[derive(Debug, Drop)]
+pub struct Command {
+    pub verb: Verb,
+    /// The names that it is given, in order.
+    pub operands: Vec<String>,
+    /// The names of the files that are its input, in order; at most one.
+    pub inputs: Vec<String>,
+    /// The most turns, 1 to 2^40.
+    pub max: u64,
+    /// Whether events are printed.
+    pub trace: bool,
+    /// Whether steps are counted.
+    pub count: bool,
+    /// What each module replies, each reply so many times, in order; at most 64 modules.
+    pub scripts: Vec<Vec<(Reply, u32)>>,
+}

@@ -1,0 +1,21 @@
+//! The words of the command line: which command they are, with its operands and options.
+#![tactic(auto)]
+
+mod command;
+mod error;
+mod found;
+mod matches;
+mod number;
+mod operands;
+mod options;
+mod parted;
+mod reader;
+mod script;
+mod setting;
+#[cfg(test)]
+mod tests;
+
+pub use command::{Command, Verb};
+pub use eh_outer::Reply;
+pub use error::WordsError;
+pub use reader::{read_words, scripts};

@@ -1,0 +1,75 @@
+// The values of the options.
+ghost use Rattle.std.specs.Prelude.{◌≡◌, ℕ, Bool, map, string_bytes};
+ghost use Rattle.command_line.specs.Gives.{Gives};
+ghost use Rattle.command_line.specs.Script.{all_some, script_of};
+ghost use Rattle.command_line.specs.Command.{max_in, max_of, scripts_of, switch_of};
+
+use crate::error::WordsError;
+use crate::number::number_of;
+use crate::script::script_of;
+use eh_outer::Reply;
+use std::alloc::Global;
+
+/// The most turns, where no option says so.
+const DEFAULT_MAX: u64 = 10_000_000;
+
+/// The largest number that may be the most turns.
+const GREATEST_MAX: u64 = 1 << 40;
+
+/// The most scripts.
+const MOST_SCRIPTS: usize = 64;
+
+// The most turns that a text asks for.
+fn max_in(text: &str) -> Result<u64, WordsError>
+    ensures { Gives (λ (n : ℕ). n) result (max_in text.now) }
+{
+    match number_of(GREATEST_MAX, text.as_bytes()) {
+        None | Some(0) => Err(WordsError::Usage),
+        Some(max) => Ok(max),
+    }
+}
+
+/// The most turns.
+pub fn max_of(texts: &[String]) -> Result<u64, WordsError>
+    ensures { Gives (λ (n : ℕ). n) result (max_of (map string_bytes texts.now)) }
+{
+    match texts {
+        [] => Ok(DEFAULT_MAX),
+        [text] => max_in(text.as_str()),
+        _ => Err(WordsError::Usage),
+    }
+}
+
+/// Whether a switch stands, which stands at most once.
+pub fn switch_of(texts: &[String]) -> Result<bool, WordsError>
+    ensures { Gives (λ (on : Bool). on) result (switch_of (map string_bytes texts.now)) }
+{
+    match texts {
+        [] => Ok(false),
+        [_] => Ok(true),
+        _ => Err(WordsError::Usage),
+    }
+}
+
+// The script of each text.
+fn each_script(alloc: Global, texts: &[String]) -> Result<Vec<Vec<(Reply, u32)>>, WordsError>
+    ensures { Gives (λ scripts. map (λ runs. runs.items) scripts.items) result (all_some script_of (map string_bytes texts.now)) }
+{
+    let mut scripts = Vec::new(alloc);
+    for text in texts {
+        let script = script_of(alloc, text.as_str())?;
+        scripts.push(script)?;
+    }
+    Ok(scripts)
+}
+
+/// The scripts, in order, of which there are at most 64.
+pub fn scripts_of(alloc: Global, texts: &[String]) -> Result<Vec<Vec<(Reply, u32)>>, WordsError>
+    ensures { Gives (λ scripts. map (λ runs. runs.items) scripts.items) result (scripts_of (map string_bytes texts.now)) }
+{
+    if texts.len() <= MOST_SCRIPTS {
+        each_script(alloc, texts)
+    } else {
+        Err(WordsError::Usage)
+    }
+}

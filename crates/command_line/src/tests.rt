@@ -1,0 +1,212 @@
+// What words are read as, over a row with all options and over the present verbs. Written by hand from the rules.
+use crate::command::{Command, Verb};
+use crate::reader::{Takes, read_behind};
+use crate::setting::Setting;
+use crate::{Reply, WordsError, read_words, scripts};
+use std::alloc::{AllocError, Global};
+use std::test::Fail;
+
+// A verb with all options and two operands.
+const ALL: Takes = Takes {
+    settings: &[
+        Setting::Input,
+        Setting::Max,
+        Setting::Trace,
+        Setting::Count,
+        Setting::Foreign,
+    ],
+    operands: 2,
+};
+
+const USAGE: &str = "usage";
+
+// The command, or the error, as a text.
+fn shown(alloc: Global, read: Result<Command, WordsError>) -> Result<String, AllocError> {
+    match read {
+        Ok(c) => format!(in alloc;
+            "{:?} {:?} {:?} {} {} {} {:?}",
+            c.verb, c.operands, c.inputs, c.max, c.trace, c.count, c.scripts
+        ),
+        Err(error) => format!(in alloc; "{error}"),
+    }
+}
+
+fn owned(alloc: Global, words: &[&str]) -> Result<Vec<String>, AllocError> {
+    let mut all = Vec::new(alloc);
+    for word in words {
+        all.push(word.to_string(alloc)?)?;
+    }
+    Ok(all)
+}
+
+// The words behind the verb, and the rest of what is shown behind `Run`.
+static BEHIND: &[(&[&str], &str)] = &[
+    (&["a", "b"], "Run [\"a\", \"b\"] [] 10000000 false false []"),
+    (&["a"], USAGE),
+    (&["a", "b", "c"], USAGE),
+    (&["a", ""], USAGE),
+    (&["-", "b"], "Run [\"-\", \"b\"] [] 10000000 false false []"),
+    (&["a", "-b"], USAGE),
+    (&["a", "-1"], USAGE),
+    (&["a", "b", "-h"], USAGE),
+    (&["a", "b", "--help"], USAGE),
+    (&["a", "b", "--version"], USAGE),
+    (
+        &["--", "-a", "--max=3"],
+        "Run [\"-a\", \"--max=3\"] [] 10000000 false false []",
+    ),
+    (
+        &["a", "--", "--"],
+        "Run [\"a\", \"--\"] [] 10000000 false false []",
+    ),
+    (&["a", "--", "b", "--trace"], USAGE),
+    (
+        &["a", "b", "--"],
+        "Run [\"a\", \"b\"] [] 10000000 false false []",
+    ),
+    (
+        &["--trace", "a", "--max=7", "b", "--count", "--in=f"],
+        "Run [\"a\", \"b\"] [\"f\"] 7 true true []",
+    ),
+    (
+        &["a", "b", "--max", "7", "--in", "-"],
+        "Run [\"a\", \"b\"] [\"-\"] 7 false false []",
+    ),
+    (&["a", "b", "--in", "-f"], USAGE),
+    (&["a", "b", "--in", "--", "f"], USAGE),
+    (&["a", "b", "--in"], USAGE),
+    (&["a", "b", "--in", "--trace"], USAGE),
+    (&["a", "b", "--in="], USAGE),
+    (&["a", "b", "--in", ""], USAGE),
+    (
+        &["a", "b", "--in=-f"],
+        "Run [\"a\", \"b\"] [\"-f\"] 10000000 false false []",
+    ),
+    (
+        &["a", "b", "--in=f=g"],
+        "Run [\"a\", \"b\"] [\"f=g\"] 10000000 false false []",
+    ),
+    (&["a", "b", "--in=f", "--in=f"], USAGE),
+    (&["a", "b", "--trace", "--trace"], USAGE),
+    (&["a", "b", "--trace="], USAGE),
+    (&["a", "b", "--trace=1"], USAGE),
+    (&["a", "b", "--tra"], USAGE),
+    (&["a", "b", "--=f"], USAGE),
+    (&["a", "b", "--operand=c"], USAGE),
+    (&["a", "b", "---trace"], USAGE),
+    (&["a", "b", "--max=0"], USAGE),
+    (&["a", "b", "--max=007"], USAGE),
+    (&["a", "b", "--max=+7"], USAGE),
+    (&["a", "b", "--max="], USAGE),
+    (&["a", "b", "--max=7x"], USAGE),
+    (&["a", "b", "--max=1", "--max=1"], USAGE),
+    (
+        &["a", "b", "--max=1099511627776"],
+        "Run [\"a\", \"b\"] [] 1099511627776 false false []",
+    ),
+    (&["a", "b", "--max=1099511627777"], USAGE),
+    (&["a", "b", "--max=99999999999999999999999"], USAGE),
+    (
+        &["a", "b", "--foreign=v5"],
+        "Run [\"a\", \"b\"] [] 10000000 false false [[(Value(5), 1)]]",
+    ),
+    (
+        &["a", "b", "--foreign=r7*2,v-1", "--foreign", "v0*1000000"],
+        "Run [\"a\", \"b\"] [] 10000000 false false [[(Raise(7), 2), (Value(-1), 1)], [(Value(0), 1000000)]]",
+    ),
+    (
+        &["a", "b", "--foreign=v-2147483648,v2147483647,r4294967295"],
+        "Run [\"a\", \"b\"] [] 10000000 false false [[(Value(-2147483648), 1), (Value(2147483647), 1), (Raise(4294967295), 1)]]",
+    ),
+    (&["a", "b", "--foreign=v2147483648"], USAGE),
+    (&["a", "b", "--foreign=v-2147483649"], USAGE),
+    (&["a", "b", "--foreign=r4294967296"], USAGE),
+    (&["a", "b", "--foreign=v-0"], USAGE),
+    (&["a", "b", "--foreign=v00"], USAGE),
+    (&["a", "b", "--foreign=v+1"], USAGE),
+    (&["a", "b", "--foreign=r-1"], USAGE),
+    (&["a", "b", "--foreign=v"], USAGE),
+    (&["a", "b", "--foreign=x1"], USAGE),
+    (&["a", "b", "--foreign="], USAGE),
+    (&["a", "b", "--foreign=v1,"], USAGE),
+    (&["a", "b", "--foreign=,v1"], USAGE),
+    (&["a", "b", "--foreign=v1*0"], USAGE),
+    (&["a", "b", "--foreign=v1*01"], USAGE),
+    (&["a", "b", "--foreign=v1*"], USAGE),
+    (&["a", "b", "--foreign=v1*2*3"], USAGE),
+    (&["a", "b", "--foreign=v1*1000001"], USAGE),
+    (
+        &["a", "b", "--foreign=v1*999999,r2"],
+        "Run [\"a\", \"b\"] [] 10000000 false false [[(Value(1), 999999), (Raise(2), 1)]]",
+    ),
+    (&["a", "b", "--foreign=v1*999999,r2*2"], USAGE),
+];
+
+#[test]
+fn all_options(rt: HostRuntime) -> Result<(), Fail> {
+    for (words, want) in BEHIND.iter() {
+        let words = owned(rt.alloc(), *words)?;
+        let read = read_behind(rt.alloc(), Verb::Run, ALL, words.as_slice());
+        assert_eq!(rt; shown(rt.alloc(), read)?.as_str(), *want, "{words:?}");
+    }
+    Ok(())
+}
+
+// 64 scripts, and one more.
+#[test]
+fn as_many_scripts_as_may_be(rt: HostRuntime) -> Result<(), Fail> {
+    let mut words = owned(rt.alloc(), &["a", "b"])?;
+    for _ in 0..64 {
+        words.push("--foreign=v1".to_string(rt.alloc())?)?;
+    }
+    let read = read_behind(rt.alloc(), Verb::Run, ALL, words.as_slice())?;
+    assert_eq!(rt; read.scripts.len(), 64);
+    words.push("--foreign=v1".to_string(rt.alloc())?)?;
+    assert!(rt;
+        matches!(
+            read_behind(rt.alloc(), Verb::Run, ALL, words.as_slice()),
+            Err(WordsError::Usage)
+        )
+    );
+    Ok(())
+}
+
+// Words behind the program's name.
+static WORDS: &[(&[&str], &str)] = &[
+    (&["run", "f"], "Run [\"f\"] [] 10000000 false false []"),
+    (&["check", "f"], "Check [\"f\"] [] 10000000 false false []"),
+    (
+        &["dump", "--", "-f"],
+        "Dump [\"-f\"] [] 10000000 false false []",
+    ),
+    (
+        &["run", "f", "--"],
+        "Run [\"f\"] [] 10000000 false false []",
+    ),
+    (&["run", "-"], "Run [\"-\"] [] 10000000 false false []"),
+    (&[], USAGE),
+    (&["run"], USAGE),
+    (&["run", ""], USAGE),
+    (&["run", "f", "g"], USAGE),
+    (&["run", "-f"], USAGE),
+    (&["run", "f", "--max=1"], USAGE),
+    (&["run", "f", "--trace"], USAGE),
+    (&["", "f"], USAGE),
+    (&["mean", "f"], USAGE),
+    (&["--", "run", "f"], USAGE),
+    (&["Run", "f"], USAGE),
+];
+
+#[test]
+fn present_verbs(rt: HostRuntime) -> Result<(), Fail> {
+    for (words, want) in WORDS.iter() {
+        let words = owned(rt.alloc(), *words)?;
+        let read = shown(rt.alloc(), read_words(rt.alloc(), &words))?;
+        assert_eq!(rt; read.as_str(), *want, "{words:?}");
+        match scripts(rt.alloc(), &words) {
+            Ok(scripts) => assert!(rt; scripts.is_empty() && *want != USAGE, "{words:?}"),
+            Err(error) => assert!(rt; error == WordsError::Usage && *want == USAGE, "{words:?}"),
+        }
+    }
+    Ok(())
+}
