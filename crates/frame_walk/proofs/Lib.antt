@@ -1,2 +1,3 @@
 mod Rules
-mod Tables
+pub mod Tables
+mod Nexts

@@ -1,11 +1,13 @@
 -- The frame outward of a frame (Itanium C++ ABI: Exception Handling, level I, "Context Management"; DWARF 5, 6.4.4).
-use Rattle.std.specs.Prelude.{ℕ, ◌&&◌, ◌||◌, nat_lt, nat_le, Bool, true, false, List, map, drop, slice_index_or, Option, Some, None, if◌then◌else◌}
+use Rattle.std.specs.Prelude.{ℕ, ◌&&◌, ◌||◌, nat_lt, nat_le, Bool, true, false, List, map, drop, slice_index_or, Option, Some, None, option_map, if◌then◌else◌}
 use Rattle.eh_bytes.specs.Memory as read
 use Rattle.table_forms.specs.declared.found.Rule.{Rule}
 use Rattle.table_forms.specs.declared.found.Rule.TheVariants as rules
 use Rattle.table_forms.specs.declared.found.Row.{Row}
 use Rattle.table_forms.specs.Fde.{Fde, fde_for, row_at}
 use Rattle.table_forms.specs.Verdict.{look_up_place}
+use Rattle.frame_read.specs.Listed.{fde_listed}
+use Rattle.frame_read.specs.declared.listed.Fde as shown
 use Rattle.rv64_isa.specs.State.{State, Part}
 use Rattle.rv64_isa.specs.declared.step.FaultKind.TheVariants as faults
 use Rattle.frame_walk.specs.declared.frame.Frame.{Frame}
@@ -27,6 +29,13 @@ cfa_of row f = offset_by (slice_index_or f.regs row.cfa_register 0) row.cfa_offs
 -- it lies in the stack, and farther out than that of the frame before
 abbrev pub is_outward : Frame → ℕ → Bool
 is_outward f cfa = nat_le 0x7000_0000 cfa && nat_le cfa 0x7100_0000 && (f.top || nat_lt f.cfa cfa)
+
+-- the FDE that holds the look-up place, as it is listed, with its row there
+abbrev pub with_row : Frame → Fde → shown.Fde × Row
+with_row f fde = (fde_listed fde, row_at fde (look_up_place f.pc f.signal))
+
+abbrev pub row_for : List Fde → Frame → Option (shown.Fde × Row)
+row_for fdes f = option_map (with_row f) (fde_for fdes (look_up_place f.pc f.signal))
 
 abbrev pub with_registers : ℕ → Bool → ℕ → Option (List ℕ) → Walk
 with_registers return_register signal cfa None = walks.Fault faults.Walk

@@ -6,7 +6,7 @@ mod outward;
 mod registers;
 
 pub use frame::{Frame, Walk};
-pub use outward::step_out;
+pub use outward::{cfa_of, row_for, step_out};
 pub use rv64_isa::FaultKind;
 
 #[cfg(test)]

@@ -2,16 +2,16 @@
 ghost use Rattle.std.specs.Prelude.{◌≡◌, ℕ, Ok};
 ghost use Rattle.table_forms.specs.Frames as forms;
 ghost use Rattle.frame_read.specs.ReadsFrames.{ReadsFrames, listing};
-ghost use Rattle.frame_walk.specs.Outward.{cfa_of, is_outward, out_by, tables_of, next_frame};
+ghost use Rattle.frame_walk.specs.Outward.{cfa_of, is_outward, out_by, tables_of, row_for, next_frame};
 
 use crate::frame::{Frame, Walk};
 use crate::registers::{offset_by, register_at, registers_of};
-use frame_read::Frames;
+use frame_read::{Fde, Frames};
 use rv64_machine::{FaultKind, Machine};
 use table_forms::{Row, Rule};
 
-// The canonical frame address that a row gives a frame.
-fn cfa_of(row: &Row, frame: &Frame) -> u64
+/// The canonical frame address that a row gives a frame, modulo 2^64. It may lie outside the stack.
+pub fn cfa_of(row: &Row, frame: &Frame) -> u64
     ensures { result ≡ cfa_of row.now frame.now }
 {
     offset_by(
@@ -50,6 +50,19 @@ fn out_by(machine: &Machine, frame: &Frame, return_register: u8, signal: bool, r
     }
 }
 
+/// The FDE whose region holds a frame's look-up place, with its row there, by the frames that
+/// `read_frames` gives of the machine's tables; none exactly where no region holds the place.
+pub fn row_for(machine: &Machine, frames: &Frames, frame: &Frame) -> Option<(Fde, Row)>
+    requires { (header : ℕ) × ReadsFrames (Ok frames.now) (forms.frames (tables_of machine.now) header) }
+    ensures { (header : ℕ) (read : forms.Frames) → forms.frames (tables_of machine.now) header ≡ Ok read → frames.now ≡ listing read → result ≡ row_for read.fdes frame.now }
+{
+    let place = frame.place();
+    match frames.fde_for(place) {
+        None => None,
+        Some(fde) => Some((fde, frames.row_at(machine.tables(), &fde, place))),
+    }
+}
+
 /// The frame outward of a frame, by the frames that `read_frames` gives of the machine's tables.
 ///
 /// `EndOfStack` exactly where no FDE holds the frame's look-up place, or its row marks the return
@@ -60,12 +73,8 @@ pub fn step_out(machine: &Machine, frames: &Frames, frame: &Frame) -> Walk
     requires { (header : ℕ) × ReadsFrames (Ok frames.now) (forms.frames (tables_of machine.now) header) }
     ensures { (header : ℕ) (read : forms.Frames) → forms.frames (tables_of machine.now) header ≡ Ok read → frames.now ≡ listing read → result ≡ next_frame machine.now read.fdes frame.now }
 {
-    let place = frame.place();
-    match frames.fde_for(place) {
+    match row_for(machine, frames, frame) {
         None => Walk::EndOfStack,
-        Some(fde) => {
-            let row = frames.row_at(machine.tables(), &fde, place);
-            out_by(machine, frame, fde.return_register, fde.signal, &row)
-        }
+        Some((fde, row)) => out_by(machine, frame, fde.return_register, fde.signal, &row),
     }
 }

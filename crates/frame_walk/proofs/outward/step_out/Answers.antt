@@ -1,43 +1,13 @@
-use Rattle.std.proofs.Common.{◌≡◌, map, Ok, ap, sym, subst, ◌∙◌}
-use Rattle.eh_bytes.specs.Memory.{Memory, memory_of}
-use Rattle.table_forms.specs.Fde.{is_in, fde_for, row_at}
-use Rattle.table_forms.specs.Frames as forms
-use Rattle.frame_read.specs.declared.listed.Fde as shown
-use Rattle.frame_read.specs.ReadsFrames.{ReadsFrames}
-use Rattle.frame_read.proofs.Members.{find_in, in_contains}
-use Rattle.frame_walk.specs.Outward.{tables_of, out_by, out_of, next_frame}
-use Rattle.frame_walk.proofs.Tables.{tables_same, none_there, one_there}
+use Rattle.std.proofs.Common.{ap, sym, ◌∙◌}
+use Rattle.frame_walk.proofs.Nexts.{by_row, next_by_row}
 use Rattle.frame_walk.proofs.outward.step_out.Goals as goal
 
-pub row_at-row-requires-clause-read : goal.row_at-row-requires-clause-read
-row_at-row-requires-clause-read c =
-    let same : tables_of c.args.machine.now ≡ memory_of c.tables.result.now = tables_same c.args.machine.now c.tables.result.now c.tables.ensures in
-    (c.requires.0, subst (λ (m : Memory). ReadsFrames (Ok c.args.frames.now) (forms.frames m c.requires.0)) same c.requires.1)
-
 pub returns-in-None : goal.returns-in-None
-unfolding next_frame
 returns-in-None c = λ header read reads lists.
-    let none = none_there (fde_for read.fdes c.place-place.result) (c.in-None.ensures.frame (tables_of c.args.machine.now) header read reads lists) in
-    sym (ap (λ p. out_of c.args.machine.now c.args.frame.now (fde_for read.fdes p)) (sym c.place-place.ensures) ∙ ap (out_of c.args.machine.now c.args.frame.now) none)
+    let m = c.args.machine.now in let fr = c.args.frame.now in
+    sym (next_by_row m read.fdes fr ∙ ap (by_row m fr) (sym (c.in-None.ensures header read reads lists)))
 
 pub returns-in-Some : goal.returns-in-Some
-unfolding next_frame
 returns-in-Some c = λ header read reads lists.
-    let m = c.args.machine.now in let fr = c.args.frame.now in let place = c.place-place.result in
-    let same : tables_of m ≡ memory_of c.tables.result.now = tables_same c.args.machine.now c.tables.result.now c.tables.ensures in
-    let there = one_there (fde_for read.fdes place) c.in-Some.fde (c.in-Some.ensures.frame (tables_of m) header read reads lists) in
-    let f = there.0 in
-    let stands = find_in (λ g. is_in g.region place) read.fdes f there.1 in
-    let row = c.row_at-row.ensures f (record {
-      header = header;
-      read = read;
-      reads = subst (λ (t : Memory). forms.frames t header ≡ Ok read) same reads;
-      lists = lists;
-      stands = in_contains read.fdes f stands.0;
-      listed = there.2;
-      inside = stands.1;
-    }) in
-    c.out_by.ensures ∙ ap (λ (g : shown.Fde). out_by m fr g.return_register g.signal c.row_at-row.result) there.2 ∙
-    ap (out_by m fr f.cie.return_register f.cie.signal) row ∙
-    ap (λ p. out_by m fr f.cie.return_register f.cie.signal (row_at f p)) c.place-place.ensures ∙
-    sym (ap (λ p. out_of m fr (fde_for read.fdes p)) (sym c.place-place.ensures) ∙ ap (out_of m fr) there.1)
+    let m = c.args.machine.now in let fr = c.args.frame.now in
+    c.out_by.ensures ∙ sym (next_by_row m read.fdes fr ∙ ap (by_row m fr) (sym (c.in-Some.ensures header read reads lists)))
