@@ -1,0 +1,6 @@
+pub mod Given
+mod Registers
+mod Walks
+mod Rising
+mod Outcomes
+mod Entering
