@@ -1,5 +1,5 @@
 // What names are bound to, worked out by hand: classes and functions by their numbers, a variable among those of its function.
-use crate::reading::checked;
+use crate::reading::program;
 use cxx_ast::expression::{Expr, Lvalue};
 use cxx_ast::name::{Bound, Builtin};
 use cxx_ast::program::Checked;
@@ -92,7 +92,7 @@ static IN_MAIN: &[Bound] = &[
 #[test]
 fn what_names_stand_for(rt: HostRuntime) -> Result<(), Fail> {
     let alloc = rt.alloc();
-    let checked = checked(alloc, SOURCE.as_bytes()).map_err(|_| AllocError)?;
+    let checked = program(alloc, SOURCE.as_bytes()).map_err(|_| AllocError)?;
     assert_eq!(rt; checked.main, 0);
     assert_eq!(rt; checked.classes.len(), 3);
     assert_eq!(rt; checked.globals.as_slice(), [3].as_slice());
@@ -109,7 +109,7 @@ fn what_names_stand_for(rt: HostRuntime) -> Result<(), Fail> {
 #[test]
 fn what_initialisers_name(rt: HostRuntime) -> Result<(), Fail> {
     let alloc = rt.alloc();
-    let checked = checked(alloc, SOURCE.as_bytes()).map_err(|_| AllocError)?;
+    let checked = program(alloc, SOURCE.as_bytes()).map_err(|_| AllocError)?;
     let mut bounds = Vec::new(alloc);
     for class in &checked.classes {
         for f in &class.funcs {
