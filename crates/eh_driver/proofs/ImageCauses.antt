@@ -1,5 +1,5 @@
 -- From what the parts of `check` and `dump` say to the cause of a status.
-use Rattle.std.proofs.Common.{◌≡◌, ◌≤◌, ℕ, List, length, Option, [], ◌∷◌, Some, None, IfSome, Result, Ok, Err, subst}
+use Rattle.std.proofs.Common.{◌≡◌, ◌≤◌, ℕ, List, length, [], ◌∷◌, Some, IfSome, Ok, subst}
 use Rattle.std.specs.Prelude.{IsErrAnd}
 use Rattle.std.specs.FinMap.{get}
 use Rattle.eh_outer.specs.Store.{StoreView}

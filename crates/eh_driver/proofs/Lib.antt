@@ -1,6 +1,6 @@
-pub mod Numbers
-pub mod Reading
 pub mod Loop
+pub mod Few
+pub mod Words
 pub mod Puts
 pub mod FirstLine
 pub mod Hexadecimal

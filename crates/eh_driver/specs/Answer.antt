@@ -1,13 +1,22 @@
 -- When each status comes, and what it leaves.
-use Rattle.std.specs.Prelude.{◌≡◌, ◌⊎◌, ℕ, ◌^◌, List, [], Option, Some, None}
+use Rattle.std.specs.Prelude.{◌≡◌, ◌⊎◌, ◌≤◌, ℕ, ◌^◌, List, length, Option, Some, None}
 use Rattle.eh_outer.specs.Store.{StoreView, Rose}
 use Rattle.eh_outer.specs.Sink.{SinkView, Gains}
 use Rattle.eh_driver.specs.declared.status.Status.{Status}
 use Rattle.eh_driver.specs.declared.status.Status.TheVariants.{Done, Usage, SourceRefused, ReadFault, TooLong, WriteFault, NoMemory}
-use Rattle.eh_driver.specs.declared.words.Verb.{Verb}
-use Rattle.eh_driver.specs.declared.words.Verb.TheVariants.{Run, Check, Dump}
-use Rattle.eh_driver.specs.Words.{Command}
-use Rattle.eh_driver.specs.Source.{IsSource}
+use Rattle.command_line.specs.declared.command.Verb.{Verb}
+use Rattle.command_line.specs.declared.command.Verb.TheVariants.{Run, Check, Dump}
+use Rattle.command_line.specs.declared.error.WordsError.{WordsError}
+use Rattle.command_line.specs.declared.error.WordsError.TheVariants as words
+use Rattle.command_line.specs.Command.{CommandView}
+use Rattle.eh_driver.specs.Words.{file_of}
+use Rattle.cxx_ast.specs.Limits.{most_tokens}
+use Rattle.cxx_ast.specs.Plain.{Program}
+use Rattle.cxx_ast.specs.Checked.{checked}
+use Rattle.cxx_front.specs.declared.error.SourceError.{SourceError}
+use Rattle.cxx_front.specs.declared.error.SourceError.TheVariants as errors
+use Rattle.cxx_front.specs.Fate.{HasOnly, refused, valid}
+use Rattle.eh_driver.specs.Source.{small_main}
 use Rattle.eh_driver.specs.File.{Told, Unread}
 use Rattle.eh_driver.specs.Image.{ImageCause, check_lines, dump_lines}
 use Rattle.eh_driver.specs.Output.{exit_pieces, TakesAll, FailsAmong}
@@ -16,14 +25,22 @@ use Rattle.eh_driver.specs.Output.{exit_pieces, TakesAll, FailsAmong}
 abbrev pub source_limit : ℕ
 source_limit = 2 ^ 20
 
--- the source writes these lines and returns this answer, and can be read in no other way
-pub record IsOnly (source lines : List ℕ) (answer : ℕ) : Type 0 where
-  pub is : IsSource source lines answer
-  pub only : (others : List ℕ) (other : ℕ) → IsSource source others other → (lines ≡ others) × (answer ≡ other)
+-- the source is a valid program that writes these lines and returns this answer
+abbrev pub Builds : List ℕ → List ℕ → ℕ → Type 0
+Builds source lines answer = (p : Program) × HasOnly source (valid p) × (small_main (checked p) ≡ Some (lines, answer))
 
--- the source is none that is built so far
+-- the source is a valid program of a form that is not built
 abbrev pub IsNotBuilt : List ℕ → Type 0
-IsNotBuilt source = (lines : List ℕ) (answer : ℕ) → IsSource source lines answer → ⊥
+IsNotBuilt source = (p : Program) × HasOnly source (valid p) × (small_main (checked p) ≡ None)
+
+-- The source is refused by its tokens, by the grammar or by the static rules, or its form is not built, which is number 29 at 0.
+abbrev pub IsRefusedBy : ℕ → ℕ → List ℕ → Type 0
+IsRefusedBy number place source = HasOnly source (refused number place) ⊎ ((number ≡ 29) × (place ≡ 0) × IsNotBuilt source)
+
+-- the status of a source that the front end refuses
+abbrev pub status_of_refusal : SourceError → Status
+status_of_refusal (errors.Refused number place) = SourceRefused number place
+status_of_refusal errors.NoMemory = NoMemory
 
 -- when the run of a main gives each status, and what it leaves of the sink
 abbrev pub MainEnds : List ℕ → ℕ → SinkView → SinkView → Status → Type 0
@@ -32,24 +49,34 @@ MainEnds lines answer old new WriteFault = FailsAmong (exit_pieces lines answer)
 MainEnds lines answer old new NoMemory = new ≡ old
 MainEnds lines answer old new status = ⊥
 
+-- when the run of a checked program gives each status, by the main that it is, and what it leaves of the sink
+abbrev pub CheckedEnds : Option (List ℕ × ℕ) → SinkView → SinkView → Status → Type 0
+CheckedEnds (Some main) old new status = MainEnds main.0 main.1 old new status
+CheckedEnds None old new status = ((status ≡ NoMemory) ⊎ (status ≡ SourceRefused 29 0)) × (new ≡ old)
+
+-- a main has no more lines than a source has tokens
+abbrev pub AreFew : Option (List ℕ × ℕ) → Type 0
+AreFew (Some main) = length main.0 ≤ most_tokens
+AreFew None = Unit {0}
+
 -- when the run of a source gives each status, and what it leaves of the sink
 abbrev pub SourceEnds : List ℕ → SinkView → SinkView → Status → Type 0
-SourceEnds source old new Done = (lines : List ℕ) × (answer : ℕ) × IsOnly source lines answer × TakesAll (exit_pieces lines answer) old new
-SourceEnds source old new (SourceRefused number place) = (number ≡ 29) × (place ≡ 0) × IsNotBuilt source × (new ≡ old)
-SourceEnds source old new WriteFault = (lines : List ℕ) × (answer : ℕ) × IsOnly source lines answer × FailsAmong (exit_pieces lines answer) old new
+SourceEnds source old new Done = (lines : List ℕ) × (answer : ℕ) × Builds source lines answer × TakesAll (exit_pieces lines answer) old new
+SourceEnds source old new (SourceRefused number place) = IsRefusedBy number place source × (new ≡ old)
+SourceEnds source old new WriteFault = (lines : List ℕ) × (answer : ℕ) × Builds source lines answer × FailsAmong (exit_pieces lines answer) old new
 SourceEnds source old new NoMemory = new ≡ old
 SourceEnds source old new status = ⊥
 
 -- when `run FILE` gives each status, what it leaves of the store's refusals, and of `out`
 abbrev pub RunCause : List ℕ → StoreView → StoreView → SinkView → SinkView → Status → Type 0
 RunCause name old new out out' Done =
-    (lines : List ℕ) × (answer : ℕ) × Told source_limit old name (λ source. IsOnly source lines answer) × TakesAll (exit_pieces lines answer) out out'
+    (lines : List ℕ) × (answer : ℕ) × Told source_limit old name (λ source. Builds source lines answer) × TakesAll (exit_pieces lines answer) out out'
 RunCause name old new out out' (SourceRefused number place) =
-    (number ≡ 29) × (place ≡ 0) × Told source_limit old name IsNotBuilt × (out' ≡ out)
+    Told source_limit old name (IsRefusedBy number place) × (out' ≡ out)
 RunCause name old new out out' ReadFault = Unread source_limit name old new ReadFault × (out' ≡ out)
 RunCause name old new out out' TooLong = Unread source_limit name old new TooLong × (out' ≡ out)
 RunCause name old new out out' WriteFault =
-    (lines : List ℕ) × (answer : ℕ) × Told source_limit old name (λ source. IsOnly source lines answer) × FailsAmong (exit_pieces lines answer) out out'
+    (lines : List ℕ) × (answer : ℕ) × Told source_limit old name (λ source. Builds source lines answer) × FailsAmong (exit_pieces lines answer) out out'
 RunCause name old new out out' NoMemory = out' ≡ out
 RunCause name old new out out' status = ⊥
 
@@ -59,15 +86,15 @@ CommandCause Run name = RunCause name
 CommandCause Check name = ImageCause check_lines name
 CommandCause Dump name = ImageCause dump_lines name
 
--- when any words give each status: Usage exactly where they are no command
-abbrev pub Cause : Option Command → StoreView → StoreView → SinkView → SinkView → Status → Type 0
-Cause None old new out out' status = (status ≡ Usage) × (new ≡ old) × (out' ≡ out)
-Cause (Some command) old new out out' status = CommandCause command.verb command.name old new out out' status
+-- the status of words that are read as no command
+abbrev pub status_of_words : WordsError → Status
+status_of_words words.Usage = Usage
+status_of_words words.NoMemory = NoMemory
 
--- the file that the words name, if they name one
-abbrev pub name_in : Option Command → List ℕ
-name_in (Some command) = command.name
-name_in None = []
+-- when any words give each status: Usage where they are no command, and nowhere else
+abbrev pub Cause : Option CommandView → StoreView → StoreView → SinkView → SinkView → Status → Type 0
+Cause None old new out out' status = ((status ≡ Usage) ⊎ (status ≡ NoMemory)) × (new ≡ old) × (out' ≡ out)
+Cause (Some command) old new out out' status = CommandCause command.verb (file_of command) old new out out' status
 
 -- a told sink gained exactly the text, or the sink's count of faults rose
 abbrev pub Reports : List ℕ → SinkView → SinkView → Type 0

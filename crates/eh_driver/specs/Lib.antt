@@ -1,7 +1,6 @@
 pub mod Words
 pub mod Seen
 pub mod Source
-pub mod Reading
 pub mod Code
 pub mod Output
 pub mod Run

@@ -1,6 +1,7 @@
--- A command as its definition sees it.
-use Rattle.eh_driver.specs.Words as words
-use Rattle.eh_driver.specs.declared.words.Command.{Command}
+-- A main as its definition sees it.
+use Rattle.std.specs.Prelude.{ℕ, List}
+use Rattle.eh_driver.specs.declared.source.SmallMain.{SmallMain}
 
-abbrev pub command_seen : Command → words.Command
-command_seen c = record { verb = c.verb; name = c.name.now }
+-- the lines and the answer
+abbrev pub main_seen : SmallMain → List ℕ × ℕ
+main_seen m = (m.lines.items, m.answer)

@@ -13,7 +13,6 @@ mod run;
 mod source;
 mod status;
 mod top;
-mod words;
 
 pub use run::End;
 pub use status::Status;

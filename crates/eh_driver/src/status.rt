@@ -1,7 +1,10 @@
 // The statuses of the commands.
 ghost use Rattle.std.specs.Prelude.{◌≡◌};
+ghost use Rattle.eh_driver.specs.Answer.{status_of_refusal, status_of_words};
 ghost use Rattle.eh_driver.specs.Status.{number_of};
 
+use command_line::WordsError;
+use cxx_front::SourceError;
 use rv64_machine::FaultKind;
 
 /// How a command ended.
@@ -52,6 +55,28 @@ impl Status {
             Status::Stack => 12,
             Status::MachineFault(_, _) => 13,
             Status::Undefined => 14,
+        }
+    }
+}
+
+impl From<WordsError> for Status {
+    ghost from_gives = { λ e s. s ≡ status_of_words e };
+
+    fn from(error: WordsError) -> Status {
+        match error {
+            WordsError::Usage => Status::Usage,
+            WordsError::NoMemory => Status::NoMemory,
+        }
+    }
+}
+
+impl From<SourceError> for Status {
+    ghost from_gives = { λ e s. s ≡ status_of_refusal e };
+
+    fn from(error: SourceError) -> Status {
+        match error {
+            SourceError::Refused(number, place) => Status::SourceRefused(number, place),
+            SourceError::NoMemory => Status::NoMemory,
         }
     }
 }

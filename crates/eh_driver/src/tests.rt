@@ -54,44 +54,81 @@ pub fn answer(alloc: Global, words: &[&str], outside: &Outside<'_>) -> Result<Se
     Ok(Seen { status, out, err })
 }
 
+// Sources, with the lines that they write and their end.
+static BUILT: [(&str, &str); 7] = [
+    ("int main() { write_int(5); return 3; }", "5\n= exit 3\n"),
+    ("int main() { return 0; }", "= exit 0\n"),
+    ("int main() {return 0; }", "= exit 0\n"),
+    (
+        "int main() { write_int(0); write_int(2047); write_int(2048); write_int(4095); return 2147483647; }\n",
+        "0\n2047\n2048\n4095\n= exit 2147483647\n",
+    ),
+    (
+        "int main() { write_int(2147483647); write_int(2147481600); return 2147481599; }",
+        "2147483647\n2147481600\n= exit 2147481599\n",
+    ),
+    (
+        "// one line\nint main ( )\n{\twrite_int(5) ;/* and */write_int\n( 6 );\n\n return/**/3 ; }\n\n",
+        "5\n6\n= exit 3\n",
+    ),
+    ("int main(){return 7;}// no line feed", "= exit 7\n"),
+];
+
+// Sources that are refused, with the number and the place of what they break.
+static REFUSED: [(&str, u8, u32); 24] = [
+    ("int main() { @ }", 10, 13),
+    ("int main() { return 2147483648; }", 11, 20),
+    ("int main() { write_int(05); return 0; }", 11, 23),
+    ("/* int main() { }", 12, 0),
+    ("int main() { return x; /* }", 12, 23),
+    ("int main() { return 1 }", 20, 22),
+    ("int main() { return 1;", 20, 22),
+    ("int main() { 1 = 2; }", 20, 13),
+    ("int main() { x = ; }", 20, 17),
+    ("int main() { return x; }", 30, 20),
+    ("int a; int a; int main() { }", 31, 11),
+    (
+        "int main() { try { } catch (...) { } catch (int) { } }",
+        35,
+        44,
+    ),
+    ("", 38, 0),
+    ("void f(); int main() { f(); }", 43, 5),
+    ("int main() { break; }", 44, 13),
+    ("void f() { return 1; } int main() { }", 45, 11),
+    ("int main() { main(); }", 47, 13),
+    ("int main() { write_int(-5); return 0; }", 29, 0),
+    ("int main() { write_int(5); }", 29, 0),
+    ("int main() { return 0; write_int(5); }", 29, 0),
+    ("int main() throw() { return 0; }", 29, 0),
+    ("int main() { { return 0; } }", 29, 0),
+    ("int g; int main() { return 0; }", 29, 0),
+    ("int main() { write_int(read_byte()); return 0; }", 29, 0),
+];
+
 #[test]
 fn sources(rt: HostRuntime) -> Result<(), Fail> {
-    let not_built = (
-        Status::SourceRefused(29, 0),
-        "",
-        "ehc: source refused: 29 at 0\n",
-    );
-    let cases = [
-        (
-            "int main() { write_int(5); return 3; }",
-            (Status::Done, "5\n= exit 3\n", ""),
-        ),
-        ("int main() { return 0; }", (Status::Done, "= exit 0\n", "")),
-        (
-            "int main() { write_int(0); write_int(2047); write_int(2048); write_int(4095); return 2147483647; }\n",
-            (Status::Done, "0\n2047\n2048\n4095\n= exit 2147483647\n", ""),
-        ),
-        (
-            "int main() { write_int(2147483647); write_int(2147481600); return 2147481599; }",
-            (
-                Status::Done,
-                "2147483647\n2147481600\n= exit 2147481599\n",
-                "",
-            ),
-        ),
-        ("int main() {return 0; }", not_built),
-        ("int main() { return 2147483648; }", not_built),
-        ("int main() { write_int(05); return 0; }", not_built),
-        ("int main() { write_int(-5); return 0; }", not_built),
-        ("int main() { write_int(5); }", not_built),
-        ("int main() { return 0; }\n\n", not_built),
-        ("", not_built),
-    ];
-    for (source, (status, out, err)) in cases {
+    for (source, lines) in BUILT.iter() {
         let seen = answer(rt.alloc(), &["run", "SRC"], &holding(source.as_bytes()))?;
-        assert_eq!(rt; seen.status, status, "{source}");
-        assert_eq!(rt; seen.out.bytes(), out.as_bytes(), "{source}");
-        assert_eq!(rt; seen.err.bytes(), err.as_bytes(), "{source}");
+        assert_eq!(rt; seen.status, Status::Done, "{source}");
+        assert_eq!(rt; seen.out.bytes(), lines.as_bytes(), "{source}");
+        assert_eq!(rt; seen.err.bytes(), b"".as_slice(), "{source}");
+    }
+    Ok(())
+}
+
+#[test]
+fn refused_sources(rt: HostRuntime) -> Result<(), Fail> {
+    for (source, number, place) in REFUSED.iter() {
+        let seen = answer(rt.alloc(), &["run", "SRC"], &holding(source.as_bytes()))?;
+        let text = format!(in rt.alloc(); "ehc: source refused: {number} at {place}\n")?;
+        assert_eq!(rt;
+            seen.status,
+            Status::SourceRefused(*number, *place),
+            "{source}"
+        );
+        assert_eq!(rt; seen.out.bytes(), b"".as_slice(), "{source}");
+        assert_eq!(rt; seen.err.bytes(), text.as_bytes(), "{source}");
     }
     Ok(())
 }
@@ -184,10 +221,8 @@ fn faults(rt: HostRuntime) -> Result<(), Fail> {
     Ok(())
 }
 
-#[test]
-fn the_largest_source(rt: HostRuntime) -> Result<(), Fail> {
-    let alloc = rt.alloc();
-    let calls = 74_896;
+// A main with so many calls, and the lines that it writes.
+fn calling(alloc: Global, calls: usize) -> Result<(Vec<u8>, Vec<u8>), Fail> {
     let mut source = b"int main() { ".to_vec(alloc)?;
     let mut lines = Vec::new(alloc);
     for _ in 0..calls {
@@ -196,15 +231,20 @@ fn the_largest_source(rt: HostRuntime) -> Result<(), Fail> {
     }
     source.extend_from_slice(b"return 0; }\n")?;
     lines.extend_from_slice(b"= exit 0\n")?;
-    let outside = Outside {
-        source: source.as_slice(),
-        store_fails: &[],
-        out_fails: &[],
-        room: 0x10_0000,
-    };
-    let seen = answer(alloc, &["run", "SRC"], &outside)?;
+    Ok((source, lines))
+}
+
+#[test]
+fn the_longest_main(rt: HostRuntime) -> Result<(), Fail> {
+    let alloc = rt.alloc();
+    // Each call has 5 tokens, and the rest of main 9: 1,999 with 398 calls.
+    let (source, lines) = calling(alloc, 398)?;
+    let seen = answer(alloc, &["run", "SRC"], &holding(source.as_slice()))?;
     assert_eq!(rt; seen.status, Status::Done);
     assert!(rt; seen.out.bytes() == lines.as_slice());
+    let (longer, _) = calling(alloc, 399)?;
+    let seen = answer(alloc, &["run", "SRC"], &holding(longer.as_slice()))?;
+    assert_eq!(rt; seen.status, Status::SourceRefused(40, 4));
     Ok(())
 }
 

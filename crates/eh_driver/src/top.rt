@@ -1,9 +1,11 @@
 // The top call.
 ghost use Rattle.std.specs.Prelude.{◌≡◌, ◌≤◌, ◌^◌, length};
 ghost use Rattle.std.specs.List.{AllByRecursion};
-ghost use Rattle.eh_driver.specs.Source.{IsInt};
-ghost use Rattle.eh_driver.specs.Words.{command_of, texts};
-ghost use Rattle.eh_driver.specs.Answer.{Cause, CommandCause, MainEnds, Reports, RunCause, SourceEnds, name_in, source_limit};
+ghost use Rattle.cxx_ast.specs.View.{checked_of};
+ghost use Rattle.eh_driver.specs.Source.{IsInt, small_main};
+ghost use Rattle.command_line.specs.Command.{command_of, command_seen};
+ghost use Rattle.eh_driver.specs.Words.{file_of, name_in, texts};
+ghost use Rattle.eh_driver.specs.Answer.{AreFew, Cause, CheckedEnds, CommandCause, MainEnds, Reports, RunCause, SourceEnds, source_limit};
 ghost use Rattle.eh_driver.specs.Status.{text_of_status};
 ghost use Rattle.eh_driver.specs.Promise.{Promise};
 
@@ -13,9 +15,11 @@ use crate::image::{check_file, dump_file};
 use crate::line::put_int;
 use crate::report::report;
 use crate::run::{End, run};
-use crate::source::{SmallMain, main_of};
+use crate::source::{SmallMain, small_main};
 use crate::status::Status;
-use crate::words::{Command, Verb, command_of};
+use command_line::{Command, Verb, read_words};
+use cxx_ast::program::Checked;
+use cxx_front::checked;
 use eh_outer::{Module, Sink, SinkError, Store};
 use std::alloc::Global;
 
@@ -46,15 +50,26 @@ fn run_main<Out: Sink>(alloc: Global, main: &SmallMain, out: &mut Out) -> Status
     }
 }
 
+// Compiles and runs a checked program.
+fn run_checked<Out: Sink>(alloc: Global, program: &Checked, out: &mut Out) -> Status
+    requires few { AreFew (small_main (checked_of program.now)) }
+    ensures { CheckedEnds (small_main (checked_of program.now)) (Out.view out.old) (Out.view out.new) result }
+{
+    match small_main(alloc, program) {
+        Err(_) => Status::NoMemory,
+        Ok(None) => Status::SourceRefused(29, 0),
+        Ok(Some(main)) => run_main(alloc, &main, out),
+    }
+}
+
 // Compiles and runs a source.
 fn run_source<Out: Sink>(alloc: Global, source: &[u8], out: &mut Out) -> Status
     requires { length source.now ≤ source_limit }
     ensures { SourceEnds source.now (Out.view out.old) (Out.view out.new) result }
 {
-    match main_of(alloc, source) {
-        Err(_) => Status::NoMemory,
-        Ok(None) => Status::SourceRefused(29, 0),
-        Ok(Some(main)) => run_main(alloc, &main, out),
+    match checked(alloc, source) {
+        Err(error) => error.into(),
+        Ok(program) => run_checked(alloc, &program, out),
     }
 }
 
@@ -74,20 +89,31 @@ fn run_file<St: Store, Out: Sink>(
     }
 }
 
-// Does what a command says.
+// The file that a command is given.
+fn file_of(command: &Command) -> &str
+    ensures { result.now ≡ file_of (command_seen command.now) }
+{
+    match command.operands.as_slice() {
+        [] => "",
+        [name, ..] => name.as_str(),
+    }
+}
+
+// Does what a command does with its file.
 fn execute<St: Store, Out: Sink>(
     alloc: Global,
-    command: Command<'_>,
+    verb: Verb,
+    file: &str,
     store: &mut St,
     out: &mut Out,
 ) -> Status
-    ensures cause { CommandCause command.entry.verb command.entry.name.now (St.view store.old) (St.view store.new) (Out.view out.old) (Out.view out.new) result }
+    ensures cause { CommandCause verb file.now (St.view store.old) (St.view store.new) (Out.view out.old) (Out.view out.new) result }
     ensures files { (St.view store.new).files ≡ (St.view store.old).files }
 {
-    match command.verb {
-        Verb::Run => run_file(alloc, command.name, store, out),
-        Verb::Check => check_file(alloc, command.name, store, out),
-        Verb::Dump => dump_file(alloc, command.name, store, out),
+    match verb {
+        Verb::Run => run_file(alloc, file, store, out),
+        Verb::Check => check_file(alloc, file, store, out),
+        Verb::Dump => dump_file(alloc, file, store, out),
     }
 }
 
@@ -103,14 +129,16 @@ fn answer<St: Store, Out: Sink, Er: Sink>(
     ensures files { (St.view store.new).files ≡ (St.view store.old).files }
     ensures report { Reports (text_of_status (name_in (command_of (texts words.now.items))) result) (Er.view err.old) (Er.view err.new) }
 {
-    match command_of(words) {
-        None => {
-            report(err, "", Status::Usage);
-            Status::Usage
+    match read_words(alloc, words) {
+        Err(error) => {
+            let status = Status::from(error);
+            report(err, "", status);
+            status
         }
-        Some(command) => {
-            let status = execute(alloc, command, store, out);
-            report(err, command.name, status);
+        Ok(command) => {
+            let file = file_of(&command);
+            let status = execute(alloc, command.verb, file, store, out);
+            report(err, file, status);
             status
         }
     }
@@ -118,8 +146,8 @@ fn answer<St: Store, Out: Sink, Er: Sink>(
 
 /// Does all that the program does with its words, and answers its status.
 ///
-/// `run FILE` reads a source of at most 1 MiB, compiles it, runs the code on the machine, and puts each line that it
-/// writes and `= exit N` on `out`. `check FILE` and `dump FILE` read an image of at most 64 MiB, and put how much it has,
+/// `run FILE` reads a source of at most 1 MiB, refuses it by the number and the place of what it breaks, or compiles it, runs the
+/// code on the machine, and puts each line that it writes and `= exit N` on `out`. `check FILE` and `dump FILE` read an image of at most 64 MiB, and put how much it has,
 /// or its tables, on `out` where it is clean. Whatever else comes is one line on `err`. The modules are dropped.
 pub fn ehc<St: Store, Out: Sink, Er: Sink>(
     alloc: Global,

@@ -1,4 +1,5 @@
-use Rattle.eh_driver.specs.Words.{command_of, texts}
+use Rattle.command_line.specs.Command.{command_of}
+use Rattle.eh_driver.specs.Words.{texts}
 use Rattle.eh_driver.proofs.Promised.{promised}
 use Rattle.eh_driver.proofs.top.ehc.Goals as goal
 
