@@ -1,8 +1,10 @@
 // Raises in one function and its caller, by hand from the worked frames and exception table of
 // docs/TABLES.md.
+ghost use Rattle.raise_core.specs.Reads.{AreTables};
+
 use crate::{Raised, forced, raise, resume, tables_are_readable};
 use eh_bytes::{Segment, Segments};
-use frame_read::read_frames;
+use frame_read::{Frames, read_frames};
 use frame_walk::FaultKind;
 use personality::{Thrown, TypeChain};
 use rv64_machine::Machine;
@@ -74,19 +76,26 @@ enum Call {
     Forced,
 }
 
+fn called(machine: &mut Machine, frames: &Frames, call: Call, thrown: &Thrown) -> Raised
+    requires { AreTables machine.old frames.now }
+{
+    match call {
+        Call::Raise => raise(machine, frames, thrown),
+        Call::Resume(target) => resume(machine, frames, thrown, target),
+        Call::Forced => forced(machine, frames),
+    }
+}
+
 // The answer of a call, where frames and tables can be read.
 fn answer(alloc: Global, machine: &mut Machine, call: Call, thrown: &Thrown) -> Option<Raised> {
     match read_frames(alloc, machine.tables(), HEADER) {
         Err(_) => None,
         Ok(frames) => {
-            if !tables_are_readable(machine, &frames) {
-                return None;
+            if tables_are_readable(machine, &frames) {
+                Some(called(machine, &frames, call, thrown))
+            } else {
+                None
             }
-            Some(match call {
-                Call::Raise => raise(machine, &frames, thrown),
-                Call::Resume(target) => resume(machine, &frames, thrown, target),
-                Call::Forced => forced(machine, &frames),
-            })
         }
     }
 }
