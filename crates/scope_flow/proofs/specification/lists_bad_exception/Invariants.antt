@@ -1,0 +1,10 @@
+use Rattle.std.proofs.Common.{◌≡◌, length, map}
+use Rattle.scope_rules.specs.Class.{object_type, some_of}
+use Rattle.scope_rules.specs.Specification.{is_bad_exception}
+use Rattle.scope_flow.proofs.specification.lists_bad_exception.Given as goal
+
+abbrev pub invariant-types : goal.invariant-types
+invariant-types l = some_of is_bad_exception (map object_type l.initial.rest) ≡ some_of is_bad_exception (map object_type l.rest)
+
+abbrev pub decreases-types : goal.decreases-types
+decreases-types l = length l.rest

@@ -1,0 +1,25 @@
+//! How control leaves scopes: terminate, throwing, what is destroyed on the way, handlers, and specifications.
+//!
+//! What is done inside a call is left to what makes the calls, `Calls`.
+#![tactic(auto, using(crate::proofs::Passing::passing))]
+
+mod callee;
+mod construct;
+mod destroy;
+mod handler;
+mod specification;
+mod terminating;
+#[cfg(test)]
+mod tests;
+mod throw;
+
+pub use callee::{Callee, Calls, Constructor};
+pub use construct::{
+    constructor_for, copy_constructor, copy_object, default_object, destructor_place,
+};
+pub use destroy::{Leaving, after_part, after_scope};
+pub use handler::{after_handler, entered, handler_for, new_copy, own_type};
+pub use specification::after_extent;
+pub use std::alloc::AllocError as NoMemory;
+pub use terminating::terminate;
+pub use throw::{call_module, rethrow, throw_built};

@@ -1,0 +1,198 @@
+// Exceptions that are thrown, caught and left, worked by hand.
+ghost use Rattle.std.specs.Prelude.{[], ⊤};
+
+use crate::{Callee, Calls, after_handler, entered, rethrow, throw_built};
+use cxx_ast::program::{Checked, Program};
+use cxx_ast::types::Ty;
+use eh_outer::Reply;
+use scope_rules::item::Item;
+use scope_world::{
+    Argument, Context, Flow, Guard, Guards, Guests, Halt, Installed, Numbers, Part, Reference,
+    World,
+};
+use std::alloc::Global;
+use std::test::Fail;
+
+// Memory is wanting for each call.
+#[derive(Drop)]
+struct NoCalls;
+
+impl<G: Guests> Calls<G> for NoCalls {
+    ghost answers = { λ _ _. ⊤ };
+
+    fn call(
+        &self,
+        _c: &Context<'_>,
+        _w: &mut World<G>,
+        _callee: Callee,
+        _this: &Reference,
+        _given: &[Argument],
+    ) -> Result<i32, Halt> {
+        Err(Halt::NoMemory)
+    }
+}
+
+// A program without modules.
+#[derive(Drop)]
+struct Nobody;
+
+impl Guests for Nobody {
+    ghost rests = { λ _. [] };
+
+    fn reply(&mut self, _guest: u32, _argument: i32) -> Reply {
+        Reply::Value(0)
+    }
+}
+
+fn empty_program(a: Global) -> Checked {
+    Checked {
+        program: Program {
+            decls: Vec::new(a),
+            tokens: 0,
+            length: 0,
+        },
+        classes: Vec::new(a),
+        globals: Vec::new(a),
+        functions: Vec::new(a),
+        main: 0,
+    }
+}
+
+fn world(a: Global) -> World<Nobody> {
+    World {
+        objects: Vec::new(a),
+        input: Vec::new(a),
+        read: 0,
+        items: Vec::new(a),
+        live: Vec::new(a),
+        last_number: 0,
+        guests: Nobody,
+        installed: Installed {
+            terminate: None,
+            unexpected: None,
+        },
+        turns: 1,
+        deepest: 0,
+    }
+}
+
+fn context<'a>(
+    a: Global,
+    program: &'a Checked,
+    nothing: &'a Numbers<'a>,
+    guards: &'a Guards<'a>,
+) -> Context<'a> {
+    Context {
+        alloc: a,
+        program,
+        handled: nothing,
+        travelling: nothing,
+        guards,
+        ending: false,
+        depth: 0,
+    }
+}
+
+// `throw 7;`
+fn seven_thrown(c: &Context<'_>, w: &mut World<Nobody>) -> Result<Halt, Halt> {
+    let number = w.make()?;
+    let object = w.new_object(Part::Cell(Some(7)))?;
+    Ok(throw_built(&NoCalls, c, w, number, Ok(object)))
+}
+
+// An int that is caught by value, and a foreign exception that is caught and left by a forced unwind.
+fn caught_and_left(
+    c: &Context<'_>,
+    w: &mut World<Nobody>,
+) -> Result<(Halt, Result<Flow, Halt>, Result<Flow, Halt>), Halt> {
+    let thrown = seven_thrown(c, w)?;
+    let _parameter = entered(&NoCalls, c, w, &Some(Ty::Int), 1)?;
+    let first = after_handler(&NoCalls, c, w, 1, Ok(Flow::Breaks));
+    let foreign = w.raise(3, 9)?;
+    let _nothing = entered(&NoCalls, c, w, &None, foreign)?;
+    let second = after_handler(&NoCalls, c, w, foreign, Err(Halt::Cancelled(4)));
+    Ok((thrown, first, second))
+}
+
+// A rethrow with nothing handled, one inside a handler, and the leaving of an inner handler of the same exception.
+fn thrown_again(
+    outside: &Context<'_>,
+    w: &mut World<Nobody>,
+) -> Result<(Halt, Halt, Result<Flow, Halt>), Halt> {
+    let nothing = rethrow(&NoCalls, outside, w);
+    let _thrown = seven_thrown(outside, w)?;
+    let first = Numbers::More(1, &Numbers::None);
+    let inside = Context {
+        handled: &first,
+        ..*outside
+    };
+    let again = rethrow(&NoCalls, &inside, w);
+    let left = after_handler(&NoCalls, &inside, w, 1, Ok(Flow::Normal));
+    Ok((nothing, again, left))
+}
+
+#[test]
+fn an_exception_travels_only_to_what_stops_it(rt: HostRuntime) -> Result<(), Fail> {
+    let a = rt.alloc();
+    let program = empty_program(a);
+    let caught = Guards::More(Guard::CatchAll, &Guards::None);
+    let behind_barrier = Guards::More(Guard::Barrier, &caught);
+    let unlisted = Guards::More(Guard::Specification(&[]), &behind_barrier);
+    let thrown = Halt::Thrown(1);
+    let rows = [
+        (Guards::None, Halt::Aborted, 2),
+        (caught, thrown, 1),
+        (behind_barrier, Halt::Aborted, 2),
+        (unlisted, thrown, 1),
+    ];
+    for (guards, expected, count) in rows {
+        let mut w = world(a);
+        let halt = seven_thrown(&context(a, &program, &Numbers::None, &guards), &mut w);
+        let (items, _deepest, _guests) = w.into_parts();
+        assert_eq!(rt; halt, Ok(expected));
+        assert_eq!(rt; items.len(), count);
+    }
+    Ok(())
+}
+
+#[test]
+fn a_caught_exception_is_entered_left_and_given_back(rt: HostRuntime) -> Result<(), Fail> {
+    let a = rt.alloc();
+    let program = empty_program(a);
+    let caught = Guards::More(Guard::CatchAll, &Guards::None);
+    let mut w = world(a);
+    let outcomes = caught_and_left(&context(a, &program, &Numbers::None, &caught), &mut w);
+    let live = w.live.len();
+    let (items, _deepest, _guests) = w.into_parts();
+    let left = (Halt::Thrown(1), Ok(Flow::Breaks), Err(Halt::Cancelled(4)));
+    assert_eq!(rt; outcomes, Ok(left));
+    let expected = [
+        Item::Make(1),
+        Item::Enter(1),
+        Item::Leave(1),
+        Item::Destroy(1),
+        Item::Free(1),
+        Item::Foreign(2, 3, 9),
+        Item::Enter(2),
+        Item::Leave(2),
+        Item::Clean(3, 9),
+    ];
+    assert_eq!(rt; items.as_slice(), expected.as_slice());
+    assert_eq!(rt; live, 0);
+    Ok(())
+}
+
+#[test]
+fn an_exception_stays_while_another_handler_has_it(rt: HostRuntime) -> Result<(), Fail> {
+    let a = rt.alloc();
+    let program = empty_program(a);
+    let caught = Guards::More(Guard::CatchAll, &Guards::None);
+    let mut w = world(a);
+    let outcomes = thrown_again(&context(a, &program, &Numbers::None, &caught), &mut w);
+    let live = w.live.len();
+    let (_items, _deepest, _guests) = w.into_parts();
+    let left = (Halt::Aborted, Halt::Thrown(1), Ok(Flow::Normal));
+    assert_eq!(rt; outcomes, Ok(left));
+    assert_eq!(rt; live, 1);
+    Ok(())
+}
