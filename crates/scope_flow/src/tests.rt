@@ -131,27 +131,27 @@ fn thrown_again(
     Ok((nothing, again, left))
 }
 
+// How throwing 7 inside some guards comes out, and how many items it writes.
+fn thrown_inside(a: Global, program: &Checked, guards: &Guards<'_>) -> (Result<Halt, Halt>, usize) {
+    let mut w = world(a);
+    let halt = seven_thrown(&context(a, program, &Numbers::None, guards), &mut w);
+    let (items, _deepest, _guests) = w.into_parts();
+    (halt, items.len())
+}
+
 #[test]
 fn an_exception_travels_only_to_what_stops_it(rt: HostRuntime) -> Result<(), Fail> {
     let a = rt.alloc();
     let program = empty_program(a);
-    let caught = Guards::More(Guard::CatchAll, &Guards::None);
+    let (travels, ends) = ((Ok(Halt::Thrown(1)), 1), (Ok(Halt::Aborted), 2));
+    let none = Guards::None;
+    assert_eq!(rt; thrown_inside(a, &program, &none), ends);
+    let caught = Guards::More(Guard::CatchAll, &none);
+    assert_eq!(rt; thrown_inside(a, &program, &caught), travels);
     let behind_barrier = Guards::More(Guard::Barrier, &caught);
+    assert_eq!(rt; thrown_inside(a, &program, &behind_barrier), ends);
     let unlisted = Guards::More(Guard::Specification(&[]), &behind_barrier);
-    let thrown = Halt::Thrown(1);
-    let rows = [
-        (Guards::None, Halt::Aborted, 2),
-        (caught, thrown, 1),
-        (behind_barrier, Halt::Aborted, 2),
-        (unlisted, thrown, 1),
-    ];
-    for (guards, expected, count) in rows {
-        let mut w = world(a);
-        let halt = seven_thrown(&context(a, &program, &Numbers::None, &guards), &mut w);
-        let (items, _deepest, _guests) = w.into_parts();
-        assert_eq!(rt; halt, Ok(expected));
-        assert_eq!(rt; items.len(), count);
-    }
+    assert_eq!(rt; thrown_inside(a, &program, &unlisted), travels);
     Ok(())
 }
 
