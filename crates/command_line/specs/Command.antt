@@ -5,7 +5,7 @@ use Rattle.std.specs.Option.{option_and_then}
 use Rattle.eh_outer.specs.declared.module.Reply.{Reply}
 use Rattle.command_line.specs.declared.command.Command.{Command}
 use Rattle.command_line.specs.declared.command.Verb.{Verb}
-use Rattle.command_line.specs.declared.command.Verb.TheVariants.{Run, Check, Dump}
+use Rattle.command_line.specs.declared.command.Verb.TheVariants.{Run, Mean, Check, Dump}
 use Rattle.command_line.specs.declared.setting.Setting.{Setting}
 use Rattle.command_line.specs.declared.setting.Setting.TheVariants.{Input, Max, Trace, Count, Foreign}
 use Rattle.command_line.specs.Number.{count_up_to}
@@ -130,12 +130,14 @@ command_taking verb settings most words = option_and_then (λ pieces. command_fr
 abbrev pub verb_of : List ℕ → Option Verb
 verb_of word =
     if bytes_eq word (codes "run") then Some Run
+    else if bytes_eq word (codes "mean") then Some Mean
     else if bytes_eq word (codes "check") then Some Check
     else if bytes_eq word (codes "dump") then Some Dump
     else None
 
 -- what the command of a verb takes: its options, and how many operands
 abbrev pub settings_of : Verb → List Setting
+settings_of Mean = Input ∷ Max ∷ Trace ∷ Foreign ∷ []
 settings_of verb = []
 
 abbrev pub operand_count : Verb → ℕ

@@ -6,6 +6,8 @@ use eh_outer::Reply;
 pub enum Verb {
     /// Compile a source and run it.
     Run,
+    /// Print what a source means.
+    Mean,
     /// Judge an image, and count what it has.
     Check,
     /// Print the tables of an image.

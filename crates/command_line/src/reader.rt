@@ -25,6 +25,15 @@ impl Verb {
         ensures operands { result.operands ≡ operand_count self }
     {
         match self {
+            Verb::Mean => Takes {
+                settings: &[
+                    Setting::Input,
+                    Setting::Max,
+                    Setting::Trace,
+                    Setting::Foreign,
+                ],
+                operands: 1,
+            },
             Verb::Run | Verb::Check | Verb::Dump => Takes {
                 settings: &[],
                 operands: 1,
@@ -39,6 +48,7 @@ fn verb_of(word: &str) -> Option<Verb>
 {
     match word {
         "run" => Some(Verb::Run),
+        "mean" => Some(Verb::Mean),
         "check" => Some(Verb::Check),
         "dump" => Some(Verb::Dump),
         _ => None,

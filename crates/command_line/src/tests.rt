@@ -192,10 +192,34 @@ static WORDS: &[(&[&str], &str)] = &[
     (&["run", "f", "--max=1"], USAGE),
     (&["run", "f", "--trace"], USAGE),
     (&["", "f"], USAGE),
-    (&["mean", "f"], USAGE),
+    (&["mean", "f"], "Mean [\"f\"] [] 10000000 false false []"),
+    (
+        &["mean", "--max=5", "f", "--trace", "--in=g"],
+        "Mean [\"f\"] [\"g\"] 5 true false []",
+    ),
+    (&["mean", "f", "--count"], USAGE),
+    (&["mean", "f", "g"], USAGE),
+    (&["mean"], USAGE),
+    (&["meaning", "f"], USAGE),
     (&["--", "run", "f"], USAGE),
     (&["Run", "f"], USAGE),
 ];
+
+// The scripts of the modules that `mean` is given, in order.
+#[test]
+fn scripts_of_mean(rt: HostRuntime) -> Result<(), Fail> {
+    let words = owned(
+        rt.alloc(),
+        &["mean", "f", "--foreign=r7,v1*2", "--foreign=v0"],
+    )?;
+    let found = scripts(rt.alloc(), &words)?;
+    let shown = format!(in rt.alloc(); "{found:?}")?;
+    assert_eq!(rt;
+        shown.as_str(),
+        "[[(Raise(7), 1), (Value(1), 2)], [(Value(0), 1)]]"
+    );
+    Ok(())
+}
 
 #[test]
 fn present_verbs(rt: HostRuntime) -> Result<(), Fail> {

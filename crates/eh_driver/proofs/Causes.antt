@@ -12,8 +12,8 @@ use Rattle.eh_driver.specs.Source.{small_main}
 use Rattle.cxx_front.specs.Answer.{Answers as FrontAnswers}
 use Rattle.cxx_front.specs.declared.error.SourceError.{SourceError}
 use Rattle.cxx_front.specs.declared.error.SourceError.TheVariants as errors
-use Rattle.eh_driver.specs.File.{Unread}
-use Rattle.eh_driver.specs.Answer.{Builds, CheckedEnds, IsRefusedBy, MainEnds, SourceEnds, RunCause, source_limit, status_of_refusal}
+use Rattle.eh_driver.specs.File.{Unread, source_limit}
+use Rattle.eh_driver.specs.Answer.{Builds, CheckedEnds, IsRefusedBy, MainEnds, SourceEnds, RunCause, status_of_refusal}
 
 pub told_from : (limit : ℕ) (files : Option Files) (name file : List ℕ) (P : List ℕ → Type 0) → length file ≤ limit → IfSome files (λ m. get m name ≡ Some file) → P file →
     IfSome files (λ m. (s : List ℕ) × (get m name ≡ Some s) × (length s ≤ limit) × P s)

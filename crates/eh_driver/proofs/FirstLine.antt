@@ -4,8 +4,8 @@ use Rattle.std.proofs.Math.Seq.{take-length, drop-length}
 use Rattle.memchr.specs.Find.{IsFirstByte, is_byte}
 use Rattle.eh_outer.specs.Sink.{SinkView, Takes, Fails}
 use Rattle.eh_driver.specs.Lines.{lines_of, in_front, IsParted}
-use Rattle.eh_driver.specs.Output.{TakesAll, FailsAmong}
-use Rattle.eh_driver.proofs.Puts.{takes_none, takes_one, takes_more, fails_first, fails_more}
+use Rattle.run_items.specs.Output.{TakesAll, FailsAmong}
+use Rattle.run_items.proofs.Puts.{takes_none, takes_one, takes_more, fails_first, fails_more}
 
 lines_none : lines_of [] ≡ []
 unfolding lines_of

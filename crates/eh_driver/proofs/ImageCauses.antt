@@ -12,8 +12,8 @@ use Rattle.eh_driver.specs.declared.status.Status.{Status}
 use Rattle.eh_driver.specs.declared.status.Status.TheVariants.{Done, Usage, SourceRefused, ImageRefused, ReadFault, TooLong, WriteFault, NoMemory, Aborted, Budget, Stack, MachineFault, Undefined}
 use Rattle.eh_driver.specs.File.{Unread}
 use Rattle.eh_driver.specs.Image.{ImageEnds, ImageCause, check_lines, image_limit, status_of, summary_line}
-use Rattle.eh_driver.specs.Output.{FailsAmong}
-use Rattle.eh_driver.proofs.Puts.{fails_first}
+use Rattle.run_items.specs.Output.{FailsAmong}
+use Rattle.run_items.proofs.Puts.{fails_first}
 use Rattle.eh_driver.proofs.Causes.{told_from}
 
 pub image_caused : (lines : CleanImage → List (List ℕ)) (name file : List ℕ) (old new : StoreView) (out out' : SinkView) (status : Status) → length file ≤ image_limit →

@@ -1,7 +1,6 @@
 pub mod Loop
 pub mod Few
 pub mod Words
-pub mod Puts
 pub mod FirstLine
 pub mod Hexadecimal
 pub mod Coding
@@ -12,4 +11,9 @@ pub mod Main
 pub mod Causes
 pub mod ImageCauses
 pub mod Reports
+pub mod Meanings
+pub mod MeanCauses
+pub mod Named
+pub mod Sources
+pub mod MeanPromised
 pub mod Promised

@@ -11,8 +11,9 @@ use Rattle.eh_driver.specs.declared.run.End.TheVariants.{Exit, Budget, Fault}
 use Rattle.eh_driver.specs.Source.{IsInt}
 use Rattle.eh_driver.specs.Code.{code_of, started}
 use Rattle.eh_driver.specs.Run.{Ran, run_of, RunEnds}
-use Rattle.eh_driver.specs.Output.{line_of, exit_line, exit_pieces, TakesAll, FailsAmong}
-use Rattle.eh_driver.proofs.Puts.{takes_one, takes_more, fails_first, fails_more, fails_before}
+use Rattle.run_items.specs.Output.{TakesAll, FailsAmong}
+use Rattle.eh_driver.specs.Output.{line_of, exit_line, exit_pieces}
+use Rattle.run_items.proofs.Puts.{takes_one, takes_more, fails_first, fails_more, fails_before}
 use Rattle.eh_driver.proofs.Blocks.{started_runs}
 
 -- the run of a main

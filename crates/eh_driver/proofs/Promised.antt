@@ -1,8 +1,7 @@
 -- What the causes promise.
-use Rattle.std.proofs.Common.{◌≡◌, ◌≤◌, ◌⊎◌, inl, inr, ℕ, List, length, Option, Some, None, IfSome, Result, Ok, Err, refl, sym, ap, subst, ◌∙◌}
+use Rattle.std.proofs.Common.{◌≡◌, ◌⊎◌, inl, inr, ℕ, List, Option, Some, None, Result, Ok, Err, refl, sym, ap, subst, ◌∙◌}
 use Rattle.std.specs.Prelude.{IsErrAnd}
-use Rattle.std.specs.FinMap.{get}
-use Rattle.eh_outer.specs.Store.{Files, StoreView}
+use Rattle.eh_outer.specs.Store.{StoreView}
 use Rattle.eh_outer.specs.Sink.{SinkView, Gains}
 use Rattle.eh_driver.specs.declared.status.Status.{Status}
 use Rattle.eh_driver.specs.declared.status.Status.TheVariants.{Done, Usage, SourceRefused, ImageRefused, ReadFault, TooLong, WriteFault, NoMemory, Aborted, Budget, Stack, MachineFault, Undefined}
@@ -11,49 +10,33 @@ use Rattle.cxx_ast.specs.Checked.{checked}
 use Rattle.cxx_front.specs.Source.{IsRefused}
 use Rattle.cxx_front.specs.Fate.{HasOnly, refused, valid}
 use Rattle.eh_driver.specs.Source.{small_main}
-use Rattle.eh_driver.specs.Output.{exit_pieces, text_of}
+use Rattle.run_items.specs.Output.{bytes_of}
+use Rattle.eh_driver.specs.Output.{exit_pieces}
 use Rattle.table_forms.specs.Fault.{Fault}
 use Rattle.elf_image.specs.Clean.{CleanImage, clean}
 use Rattle.elf_image.specs.Reports.{reported}
 use Rattle.command_line.specs.declared.command.Verb.{Verb}
-use Rattle.command_line.specs.declared.command.Verb.TheVariants.{Run, Check, Dump}
+use Rattle.command_line.specs.declared.command.Verb.TheVariants.{Run, Mean, Check, Dump}
 use Rattle.command_line.specs.Command.{CommandView}
-use Rattle.eh_driver.specs.Words.{file_of}
-use Rattle.eh_driver.specs.File.{Told}
+use Rattle.eh_outer.specs.Module.{ModuleView}
+use Rattle.eh_driver.specs.Words.{asked}
+use Rattle.eh_driver.specs.Mean.{Asked}
+use Rattle.eh_driver.proofs.Sources.{some_same, told_of, valid_same, not_refused, same_refusal}
+use Rattle.eh_driver.proofs.MeanPromised.{mean_promised}
+use Rattle.eh_driver.specs.File.{Told, source_limit}
 use Rattle.eh_driver.specs.Image.{ImageCause, ImagePromise, Judged, check_lines, dump_lines, image_limit, status_of}
-use Rattle.eh_driver.specs.Answer.{Builds, IsRefusedBy, RunCause, CommandCause, Cause, source_limit}
+use Rattle.eh_driver.specs.Answer.{Builds, IsRefusedBy, RunCause, CommandCause, Cause}
 use Rattle.eh_driver.specs.Promise.{Undisturbed, Means, RunPromise, CommandPromise, Promise}
-
-some_same : {A : Type 0} {x y : A} → Some x ≡ Some y → x ≡ y
-some_same e = cc
-
--- what holds of the told file holds of this source
-told_of : (limit : ℕ) (store : StoreView) (name file : List ℕ) (files : Files) (P : List ℕ → Type 0) → store.files ≡ Some files → get files name ≡ Some file → Told limit store name P → P file
-told_of limit store name file files P is there told =
-    let (held, found, short, holds) = subst (λ f. IfSome f (λ m. (s : List ℕ) × (get m name ≡ Some s) × (length s ≤ limit) × P s)) is told in
-    subst P (some_same (sym found ∙ there)) holds
-
-valid_same : {p q : Program} → valid p ≡ valid q → p ≡ q
-valid_same e = cc
 
 -- a valid program of a source is the one that it has
 one_program : (source : List ℕ) (p : Program) (main : Option (List ℕ × ℕ)) → HasOnly source (valid p) → Means source main → small_main (checked p) ≡ main
 one_program source p main only (q, program, holds, is) = ap (λ x. small_main (checked x)) (valid_same (only.only (valid q) (program, holds))) ∙ is
-
--- a source that is valid is not refused
-not_refused : (source : List ℕ) (p : Program) (number place : ℕ) → HasOnly source (valid p) → IsRefused source number place → ⊥
-not_refused source p number place only is =
-    let same : valid p ≡ refused number place = only.only (refused number place) is in
-    cc
 
 -- a source that is refused is not valid
 not_valid : (source : List ℕ) (number place : ℕ) (main : Option (List ℕ × ℕ)) → HasOnly source (refused number place) → Means source main → ⊥
 not_valid source number place main only (q, program, holds, is) =
     let same : refused number place ≡ valid q = only.only (valid q) (program, holds) in
     cc
-
-same_refusal : {m n p q : ℕ} → refused m p ≡ refused n q → SourceRefused m p ≡ SourceRefused n q
-same_refusal e = cc
 
 -- a told source is refused by no more than one number at one place
 refused_so : (source : List ℕ) (m at number place : ℕ) → IsRefusedBy m at source → IsRefused source number place → SourceRefused m at ≡ SourceRefused number place
@@ -87,10 +70,10 @@ module _ (name : List ℕ) (old new : StoreView) (out out' : SinkView) (source :
 
   -- the lines went out, or memory ran out
   run_kept : (lines : List ℕ) (answer : ℕ) (status : Status) → Means source (Some (lines, answer)) → RunCause name old new out out' status →
-      (status ≡ NoMemory) ⊎ ((status ≡ Done) × Gains (text_of (exit_pieces lines answer)) out out')
+      (status ≡ NoMemory) ⊎ ((status ≡ Done) × Gains (bytes_of (exit_pieces lines answer)) out out')
   run_kept lines answer Done means (ls, a, there, puts) =
       let same = built_so source ls lines a answer (told (λ s. Builds s ls a) there) means in
-      inr (refl, subst (λ t. Gains (text_of t) out out') (ap (λ x. exit_pieces x.0 x.1) same) puts.gains)
+      inr (refl, subst (λ t. Gains (bytes_of t) out out') (ap (λ x. exit_pieces x.0 x.1) same) puts.gains)
   run_kept lines answer (SourceRefused m at) means (there, rest) = absurd (built_not_refused source lines answer m at (told (IsRefusedBy m at) there) means)
   run_kept lines answer ReadFault means (why, rest) = absurd (calm.store why.rose)
   run_kept lines answer TooLong means ((n, above, why, long), rest) = absurd (calm.store why.rose)
@@ -154,11 +137,12 @@ image_kept lines name old new out out' Stack h files file is there short store s
 image_kept lines name old new out out' (MachineFault kind place) h files file is there short store sink = absurd h
 image_kept lines name old new out out' Undefined h files file is there short store sink = absurd h
 
-command_promised : (verb : Verb) (name : List ℕ) (old new : StoreView) (out out' : SinkView) (status : Status) → CommandCause verb name old new out out' status → CommandPromise verb name old new out out' status
-command_promised Run name old new out out' status cause = run_promised name old new out out' status cause
-command_promised Check name old new out out' status cause = image_kept check_lines name old new out out' status cause
-command_promised Dump name old new out out' status cause = image_kept dump_lines name old new out out' status cause
+command_promised : (verb : Verb) (a : Asked) (old new : StoreView) (out out' : SinkView) (status : Status) → CommandCause verb a old new out out' status → CommandPromise verb a old new out out' status
+command_promised Run a old new out out' status cause = run_promised a.source old new out out' status cause
+command_promised Mean a old new out out' status cause = mean_promised a old new out out' status cause
+command_promised Check a old new out out' status cause = image_kept check_lines a.source old new out out' status cause
+command_promised Dump a old new out out' status cause = image_kept dump_lines a.source old new out out' status cause
 
-pub promised : (command : Option CommandView) (old new : StoreView) (out out' : SinkView) (status : Status) → Cause command old new out out' status → Promise command old new out out' status
-promised None old new out out' status cause = tt
-promised (Some command) old new out out' status cause = command_promised command.verb (file_of command) old new out out' status cause
+pub promised : (modules : List ModuleView) (command : Option CommandView) (old new : StoreView) (out out' : SinkView) (status : Status) → Cause modules command old new out out' status → Promise modules command old new out out' status
+promised modules None old new out out' status cause = tt
+promised modules (Some command) old new out out' status cause = command_promised command.verb (asked modules command) old new out out' status cause

@@ -3,7 +3,7 @@ use Rattle.std.proofs.Common.{◌++◌, Bool, true, false, List, ℕ, inl, inr, 
 use Rattle.eh_outer.specs.Sink.{SinkView}
 use Rattle.eh_driver.specs.Answer.{Reports}
 use Rattle.eh_driver.specs.Report.{Says}
-use Rattle.eh_driver.proofs.Puts.{gains_more}
+use Rattle.run_items.proofs.Puts.{gains_more}
 
 pub said : (text : List ℕ) (old new : SinkView) (b : Bool) → Says text old new b → Reports text old new
 said text old new true h = inr h.0

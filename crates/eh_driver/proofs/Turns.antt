@@ -10,9 +10,10 @@ use Rattle.rv64_isa.specs.Step.{step_of}
 use Rattle.eh_outer.specs.Sink.{SinkView, Fails}
 use Rattle.eh_driver.specs.declared.run.End.{End}
 use Rattle.eh_driver.specs.declared.run.End.TheVariants.{Exit, Budget, Fault, WriteFault}
-use Rattle.eh_driver.specs.Output.{line_of, TakesAll, FailsAmong}
+use Rattle.run_items.specs.Output.{TakesAll, FailsAmong}
+use Rattle.eh_driver.specs.Output.{line_of}
 use Rattle.eh_driver.specs.Run.{Ran, Onward, RunEnds, run_of, stepped, called, ends, with_lines, as_int}
-use Rattle.eh_driver.proofs.Puts.{takes_none, takes_more, fails_first, fails_more}
+use Rattle.run_items.proofs.Puts.{takes_none, takes_more, fails_first, fails_more}
 
 -- what a step makes of a run
 pub run_done : (s t : State) (budget : ℕ) → (steps.Done, t) ≡ step_of s → run_of (suc budget) s ≡ run_of budget t

@@ -3,7 +3,7 @@ use Rattle.std.proofs.Common.{◌≡◌, List, [], ℕ, Option, Some, None, inl,
 use Rattle.eh_outer.specs.Store.{StoreView}
 use Rattle.eh_outer.specs.Sink.{SinkView}
 use Rattle.command_line.specs.declared.command.Verb.{Verb}
-use Rattle.command_line.specs.declared.command.Verb.TheVariants.{Run, Check, Dump}
+use Rattle.command_line.specs.declared.command.Verb.TheVariants.{Run, Mean, Check, Dump}
 use Rattle.command_line.specs.declared.error.WordsError.{WordsError}
 use Rattle.command_line.specs.declared.error.WordsError.TheVariants as words
 use Rattle.command_line.specs.Command.{CommandView, command_seen}
@@ -12,12 +12,15 @@ use Rattle.std.specs.Prelude.{Err}
 use Rattle.eh_driver.specs.declared.status.Status.TheVariants.{NoMemory}
 use Rattle.eh_driver.specs.Answer.{Cause, CommandCause, status_of_words}
 use Rattle.eh_driver.specs.Status.{text_of_status}
-use Rattle.eh_driver.specs.Words.{file_of}
+use Rattle.eh_outer.specs.Module.{ModuleView}
+use Rattle.eh_driver.specs.Words.{asked}
+use Rattle.eh_driver.specs.Mean.{Asked}
 
-no_memory : (verb : Verb) (name : List ℕ) (store : StoreView) (out : SinkView) → CommandCause verb name store store out out NoMemory
-no_memory Run name store out = refl
-no_memory Check name store out = refl
-no_memory Dump name store out = refl
+no_memory : (verb : Verb) (a : Asked) (store : StoreView) (out : SinkView) → CommandCause verb a store store out out NoMemory
+no_memory Run a store out = refl
+no_memory Mean a store out = refl
+no_memory Check a store out = refl
+no_memory Dump a store out = refl
 
 -- the text of such a status names no file
 pub no_name : (e : WordsError) (name : List ℕ) → text_of_status [] (status_of_words e) ≡ text_of_status name (status_of_words e)
@@ -25,8 +28,8 @@ no_name words.Usage name = refl
 no_name words.NoMemory name = refl
 
 -- words that are read as no command
-pub unread : (command : Option CommandView) (e : WordsError) (store : StoreView) (out : SinkView) → Gives command_seen (Err e) command → Cause command store store out out (status_of_words e)
-unread None words.Usage store out is = (inl refl, refl, refl)
-unread (Some command) words.Usage store out is = let no : Some command ≡ None = is in cc
-unread None words.NoMemory store out is = (inr refl, refl, refl)
-unread (Some command) words.NoMemory store out is = no_memory command.verb (file_of command) store out
+pub unread : (modules : List ModuleView) (command : Option CommandView) (e : WordsError) (store : StoreView) (out : SinkView) → Gives command_seen (Err e) command → Cause modules command store store out out (status_of_words e)
+unread modules None words.Usage store out is = (inl refl, refl, refl)
+unread modules (Some command) words.Usage store out is = let no : Some command ≡ None = is in cc
+unread modules None words.NoMemory store out is = (inr refl, refl, refl)
+unread modules (Some command) words.NoMemory store out is = no_memory command.verb (asked modules command) store out

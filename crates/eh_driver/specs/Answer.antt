@@ -1,15 +1,17 @@
 -- When each status comes, and what it leaves.
-use Rattle.std.specs.Prelude.{◌≡◌, ◌⊎◌, ◌≤◌, ℕ, ◌^◌, List, length, Option, Some, None}
+use Rattle.std.specs.Prelude.{◌≡◌, ◌⊎◌, ◌≤◌, ℕ, List, length, Option, Some, None}
 use Rattle.eh_outer.specs.Store.{StoreView, Rose}
 use Rattle.eh_outer.specs.Sink.{SinkView, Gains}
 use Rattle.eh_driver.specs.declared.status.Status.{Status}
 use Rattle.eh_driver.specs.declared.status.Status.TheVariants.{Done, Usage, SourceRefused, ReadFault, TooLong, WriteFault, NoMemory}
 use Rattle.command_line.specs.declared.command.Verb.{Verb}
-use Rattle.command_line.specs.declared.command.Verb.TheVariants.{Run, Check, Dump}
+use Rattle.command_line.specs.declared.command.Verb.TheVariants.{Run, Mean, Check, Dump}
 use Rattle.command_line.specs.declared.error.WordsError.{WordsError}
 use Rattle.command_line.specs.declared.error.WordsError.TheVariants as words
 use Rattle.command_line.specs.Command.{CommandView}
-use Rattle.eh_driver.specs.Words.{file_of}
+use Rattle.eh_outer.specs.Module.{ModuleView}
+use Rattle.eh_driver.specs.Words.{asked}
+use Rattle.eh_driver.specs.Mean.{Asked, MeanCause}
 use Rattle.cxx_ast.specs.Limits.{most_tokens}
 use Rattle.cxx_ast.specs.Plain.{Program}
 use Rattle.cxx_ast.specs.Checked.{checked}
@@ -17,13 +19,10 @@ use Rattle.cxx_front.specs.declared.error.SourceError.{SourceError}
 use Rattle.cxx_front.specs.declared.error.SourceError.TheVariants as errors
 use Rattle.cxx_front.specs.Fate.{HasOnly, refused, valid}
 use Rattle.eh_driver.specs.Source.{small_main}
-use Rattle.eh_driver.specs.File.{Told, Unread}
+use Rattle.eh_driver.specs.File.{Told, Unread, source_limit}
 use Rattle.eh_driver.specs.Image.{ImageCause, check_lines, dump_lines}
-use Rattle.eh_driver.specs.Output.{exit_pieces, TakesAll, FailsAmong}
-
--- the longest source: 1 MiB
-abbrev pub source_limit : ℕ
-source_limit = 2 ^ 20
+use Rattle.run_items.specs.Output.{TakesAll, FailsAmong}
+use Rattle.eh_driver.specs.Output.{exit_pieces}
 
 -- the source is a valid program that writes these lines and returns this answer
 abbrev pub Builds : List ℕ → List ℕ → ℕ → Type 0
@@ -81,10 +80,11 @@ RunCause name old new out out' NoMemory = out' ≡ out
 RunCause name old new out out' status = ⊥
 
 -- when each command gives each status
-abbrev pub CommandCause : Verb → List ℕ → StoreView → StoreView → SinkView → SinkView → Status → Type 0
-CommandCause Run name = RunCause name
-CommandCause Check name = ImageCause check_lines name
-CommandCause Dump name = ImageCause dump_lines name
+abbrev pub CommandCause : Verb → Asked → StoreView → StoreView → SinkView → SinkView → Status → Type 0
+CommandCause Run a = RunCause a.source
+CommandCause Mean a = MeanCause a
+CommandCause Check a = ImageCause check_lines a.source
+CommandCause Dump a = ImageCause dump_lines a.source
 
 -- the status of words that are read as no command
 abbrev pub status_of_words : WordsError → Status
@@ -92,9 +92,9 @@ status_of_words words.Usage = Usage
 status_of_words words.NoMemory = NoMemory
 
 -- when any words give each status: Usage where they are no command, and nowhere else
-abbrev pub Cause : Option CommandView → StoreView → StoreView → SinkView → SinkView → Status → Type 0
-Cause None old new out out' status = ((status ≡ Usage) ⊎ (status ≡ NoMemory)) × (new ≡ old) × (out' ≡ out)
-Cause (Some command) old new out out' status = CommandCause command.verb (file_of command) old new out out' status
+abbrev pub Cause : List ModuleView → Option CommandView → StoreView → StoreView → SinkView → SinkView → Status → Type 0
+Cause modules None old new out out' status = ((status ≡ Usage) ⊎ (status ≡ NoMemory)) × (new ≡ old) × (out' ≡ out)
+Cause modules (Some command) old new out out' status = CommandCause command.verb (asked modules command) old new out out' status
 
 -- a told sink gained exactly the text, or the sink's count of faults rose
 abbrev pub Reports : List ℕ → SinkView → SinkView → Type 0

@@ -16,7 +16,7 @@ use Rattle.eh_driver.specs.Lines.{lines_of}
 use Rattle.eh_driver.specs.declared.status.Status.{Status}
 use Rattle.eh_driver.specs.declared.status.Status.TheVariants.{Done, ImageRefused, ReadFault, TooLong, WriteFault, NoMemory}
 use Rattle.eh_driver.specs.File.{Told, Unread}
-use Rattle.eh_driver.specs.Output.{TakesAll, FailsAmong, text_of}
+use Rattle.run_items.specs.Output.{TakesAll, FailsAmong, bytes_of}
 
 -- the largest image file: 64 MiB
 abbrev pub image_limit : ℕ
@@ -68,7 +68,7 @@ ImageCause lines name old new out out' status = ⊥
 
 -- a clean image's lines went out and the status is Done, or the status is the refusal and nothing was written
 abbrev pub Judged : (CleanImage → List (List ℕ)) → Result CleanImage Fault → SinkView → SinkView → Status → Type 0
-Judged lines (Ok image) out out' status = (status ≡ Done) × Gains (text_of (lines image)) out out'
+Judged lines (Ok image) out out' status = (status ≡ Done) × Gains (bytes_of (lines image)) out out'
 Judged lines (Err fault) out out' status = (status ≡ status_of (reported fault)) × (out' ≡ out)
 
 -- where the store tells a file of that name within the limit, and neither the store nor the sink fails, it is judged, or memory ran out

@@ -1,4 +1,3 @@
-pub mod Words
 pub mod Seen
 pub mod Source
 pub mod Code
@@ -8,6 +7,9 @@ pub mod Status
 pub mod Lines
 pub mod File
 pub mod Image
+pub mod Mean
+pub mod Question
+pub mod Words
 pub mod Answer
 pub mod Report
 pub mod Promise

@@ -6,7 +6,8 @@ use Rattle.rv64_isa.specs.declared.step.Step.{Step}
 use Rattle.rv64_isa.specs.declared.step.Step.TheVariants as steps
 use Rattle.rv64_isa.specs.declared.step.FaultKind.TheVariants.{Call}
 use Rattle.eh_outer.specs.Sink.{SinkView}
-use Rattle.eh_driver.specs.Output.{TakesAll, FailsAmong, line_of}
+use Rattle.run_items.specs.Output.{TakesAll, FailsAmong}
+use Rattle.eh_driver.specs.Output.{line_of}
 use Rattle.eh_driver.specs.declared.run.End.{End}
 use Rattle.eh_driver.specs.declared.run.End.TheVariants.{Exit, Budget, Fault, WriteFault}
 

@@ -1,7 +1,9 @@
 -- What the words of a command name.
-use Rattle.std.specs.Prelude.{ℕ, List, [], ◌∷◌, map, Option, Some, None, String, string_bytes}
+use Rattle.std.specs.Prelude.{ℕ, List, [], ◌∷◌, map, slice_get, String, string_bytes}
 use Rattle.std.specs.declared.alloc.Global.{Global}
 use Rattle.command_line.specs.Command.{CommandView}
+use Rattle.eh_outer.specs.Module.{ModuleView}
+use Rattle.eh_driver.specs.Mean.{Asked}
 
 -- the texts of words
 abbrev pub texts : List (String Global) → List (List ℕ)
@@ -16,7 +18,12 @@ first_of (name ∷ names) = name
 abbrev pub file_of : CommandView → List ℕ
 file_of command = first_of command.operands
 
--- the file that the words name, if they are a command
-abbrev pub name_in : Option CommandView → List ℕ
-name_in (Some command) = file_of command
-name_in None = []
+-- what a command asks of a source, where the modules tell this of themselves
+abbrev pub asked : List ModuleView → CommandView → Asked
+asked modules command = record {
+  source = file_of command;
+  input = slice_get command.inputs 0;
+  turns = command.max;
+  trace = command.trace;
+  modules = modules;
+}

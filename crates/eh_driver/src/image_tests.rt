@@ -142,6 +142,7 @@ fn a_failing_line(rt: HostRuntime) -> Result<(), Fail> {
     ];
     for (command, fails, taken) in cases {
         let outside = Outside {
+            input: &[],
             source: WORKED,
             store_fails: &[],
             out_fails: &[fails],

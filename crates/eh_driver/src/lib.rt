@@ -1,6 +1,6 @@
 //! The commands of `ehc`: `run FILE` makes RV64 code for a source, runs it on the simulated machine, and prints what it
-//! writes and how it ended; `check FILE` and `dump FILE` judge an image and print its tables. `ehc` is the call that the
-//! program makes; its contract says what each command promises.
+//! writes and how it ended; `mean FILE` prints what a source means; `check FILE` and `dump FILE` judge an image and print its
+//! tables. `ehc` is the call that the program makes; its contract says what each command promises.
 #![tactic(auto)]
 
 mod code;
@@ -8,6 +8,7 @@ mod file;
 mod image;
 mod line;
 mod lines;
+mod mean;
 mod report;
 mod run;
 mod source;
@@ -20,5 +21,7 @@ pub use top::ehc;
 
 #[cfg(test)]
 mod image_tests;
+#[cfg(test)]
+mod mean_tests;
 #[cfg(test)]
 mod tests;

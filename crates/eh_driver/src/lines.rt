@@ -2,7 +2,7 @@
 ghost use Rattle.eh_outer.specs.Sink.{Puts};
 ghost use Rattle.eh_driver.specs.Image.{summary_line};
 ghost use Rattle.eh_driver.specs.Lines.{lines_of, IsParted};
-ghost use Rattle.eh_driver.specs.Output.{PutsAll};
+ghost use Rattle.run_items.specs.Output.{PutsAll};
 ghost use Rattle.std.specs.Prelude.{◌<◌, length};
 
 use crate::line::push;

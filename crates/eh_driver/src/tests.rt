@@ -1,6 +1,6 @@
 // What a user sees of `ehc`, over a store and sinks in memory.
 use crate::{Status, ehc};
-use eh_outer::{MemSink, MemStore};
+use eh_outer::{MemSink, MemStore, Module};
 use std::alloc::Global;
 use std::test::Fail;
 
@@ -12,10 +12,11 @@ pub struct Seen {
     pub err: MemSink,
 }
 
-/// What lies outside: the file SRC, which numbers of calls of the store and of puts fail, and how much `out` can take.
+/// What lies outside: the files SRC and IN, which numbers of calls of the store and of puts fail, and how much `out` can take.
 #[derive(Drop)]
 pub struct Outside<'a> {
     pub source: &'a [u8],
+    pub input: &'a [u8],
     pub store_fails: &'a [u64],
     pub out_fails: &'a [u64],
     pub room: usize,
@@ -24,18 +25,29 @@ pub struct Outside<'a> {
 pub fn holding(source: &[u8]) -> Outside<'_> {
     Outside {
         source,
+        input: &[],
         store_fails: &[],
         out_fails: &[],
         room: 4096,
     }
 }
 
-pub fn answer(alloc: Global, words: &[&str], outside: &Outside<'_>) -> Result<Seen, Fail> {
+fn files_of(alloc: Global, outside: &Outside<'_>) -> Result<Vec<(String, Vec<u8>)>, Fail> {
     let mut files = Vec::new(alloc);
-    files.push((
-        String::from_str(alloc, "SRC")?,
-        outside.source.to_vec(alloc)?,
-    ))?;
+    for (name, bytes) in [("SRC", outside.source), ("IN", outside.input)] {
+        files.push((String::from_str(alloc, name)?, bytes.to_vec(alloc)?))?;
+    }
+    Ok(files)
+}
+
+/// What a command answers with these modules.
+pub fn answer_with(
+    alloc: Global,
+    words: &[&str],
+    outside: &Outside<'_>,
+    modules: Vec<Box<dyn Module>>,
+) -> Result<Seen, Fail> {
+    let files = files_of(alloc, outside)?;
     let mut store = MemStore::new(files, outside.store_fails.to_vec(alloc)?);
     let mut out = MemSink::new(alloc, outside.room, outside.out_fails.to_vec(alloc)?)?;
     let mut err = MemSink::new(alloc, 4096, Vec::new(alloc))?;
@@ -43,15 +55,13 @@ pub fn answer(alloc: Global, words: &[&str], outside: &Outside<'_>) -> Result<Se
     for word in words {
         owned.push(String::from_str(alloc, word)?)?;
     }
-    let status = ehc(
-        alloc,
-        &owned,
-        &mut store,
-        &mut out,
-        &mut err,
-        Vec::new(alloc),
-    );
+    let status = ehc(alloc, &owned, &mut store, &mut out, &mut err, modules);
     Ok(Seen { status, out, err })
+}
+
+/// What a command answers without modules.
+pub fn answer(alloc: Global, words: &[&str], outside: &Outside<'_>) -> Result<Seen, Fail> {
+    answer_with(alloc, words, outside, Vec::new(alloc))
 }
 
 // Sources, with the lines that they write and their end.
@@ -146,7 +156,7 @@ fn words(rt: HostRuntime) -> Result<(), Fail> {
         (["run", "--", ""].as_slice(), usage),
         (["run", "SRC", "SRC"].as_slice(), usage),
         (["run", "SRC", "--", "SRC"].as_slice(), usage),
-        (["mean", "SRC"].as_slice(), usage),
+        (["mean"].as_slice(), usage),
         (
             ["run", "-"].as_slice(),
             (Status::ReadFault, "ehc: read fault: -\n"),
@@ -209,6 +219,7 @@ fn faults(rt: HostRuntime) -> Result<(), Fail> {
     for (store_fails, out_fails, room, out, (status, err)) in cases {
         let outside = Outside {
             source,
+            input: b"",
             store_fails,
             out_fails,
             room,

@@ -1,18 +1,22 @@
 // The top call.
-ghost use Rattle.std.specs.Prelude.{◌≡◌, ◌≤◌, ◌^◌, length};
+ghost use Rattle.std.specs.Prelude.{◌≡◌, ◌≤◌, ◌^◌, List, length, map, option_map, slice_get, string_bytes};
 ghost use Rattle.std.specs.List.{AllByRecursion};
 ghost use Rattle.cxx_ast.specs.View.{checked_of};
 ghost use Rattle.eh_driver.specs.Source.{IsInt, small_main};
 ghost use Rattle.command_line.specs.Command.{command_of, command_seen};
-ghost use Rattle.eh_driver.specs.Words.{file_of, name_in, texts};
-ghost use Rattle.eh_driver.specs.Answer.{AreFew, Cause, CheckedEnds, CommandCause, MainEnds, Reports, RunCause, SourceEnds, source_limit};
+ghost use Rattle.eh_outer.specs.Module.{ModuleView};
+ghost use Rattle.eh_driver.specs.File.{NamesRefusal, refused_name, source_limit};
+ghost use Rattle.eh_driver.specs.Question.{asked_by};
+ghost use Rattle.eh_driver.specs.Words.{asked, texts};
+ghost use Rattle.eh_driver.specs.Answer.{AreFew, Cause, CheckedEnds, CommandCause, MainEnds, Reports, RunCause, SourceEnds};
 ghost use Rattle.eh_driver.specs.Status.{text_of_status};
 ghost use Rattle.eh_driver.specs.Promise.{Promise};
 
 use crate::code::machine_of;
-use crate::file::read;
+use crate::file::{Ended, SOURCE_LIMIT, read};
 use crate::image::{check_file, dump_file};
 use crate::line::put_int;
+use crate::mean::{Question, mean_file};
 use crate::report::report;
 use crate::run::{End, run};
 use crate::source::{SmallMain, small_main};
@@ -25,9 +29,6 @@ use std::alloc::Global;
 
 /// How many instructions a run executes at most.
 const DEFAULT_BUDGET: u64 = 10_000_000;
-
-/// The longest source, in bytes.
-const SOURCE_LIMIT: u64 = 0x10_0000;
 
 // Runs a main.
 fn run_main<Out: Sink>(alloc: Global, main: &SmallMain, out: &mut Out) -> Status
@@ -89,45 +90,71 @@ fn run_file<St: Store, Out: Sink>(
     }
 }
 
-// The file that a command is given.
-fn file_of(command: &Command) -> &str
-    ensures { result.now ≡ file_of (command_seen command.now) }
+// The first of some names.
+fn first_of(names: &[String]) -> Option<&str>
+    ensures { option_map (λ name. name.now) result ≡ slice_get (map string_bytes names.now) 0 }
 {
-    match command.operands.as_slice() {
-        [] => "",
-        [name, ..] => name.as_str(),
+    match names {
+        [] => None,
+        [name, ..] => Some(name.as_str()),
     }
 }
 
-// Does what a command does with its file.
-fn execute<St: Store, Out: Sink>(
+// What a command asks of a source.
+fn question_of(command: &Command) -> Question<'_>
+    ensures { (modules : List ModuleView) → asked_by result modules ≡ asked modules (command_seen command.now) }
+{
+    Question {
+        source: first_of(command.operands.as_slice()).unwrap_or(""),
+        input: first_of(command.inputs.as_slice()),
+        turns: command.max,
+        trace: command.trace,
+    }
+}
+
+// Does what a command does with the file that it is given.
+fn execute<'a, St: Store, Out: Sink, M: Module>(
     alloc: Global,
     verb: Verb,
-    file: &str,
+    question: Question<'a>,
     store: &mut St,
     out: &mut Out,
-) -> Status
-    ensures cause { CommandCause verb file.now (St.view store.old) (St.view store.new) (Out.view out.old) (Out.view out.new) result }
+    modules: &mut Vec<M>,
+) -> Ended<'a>
+    ensures cause { CommandCause verb (asked_by question.entry (map M.view modules.old.items)) (St.view store.old) (St.view store.new) (Out.view out.old) (Out.view out.new) result.status }
     ensures files { (St.view store.new).files ≡ (St.view store.old).files }
+    ensures name { NamesRefusal result.status result.file.now (St.view store.new) }
 {
+    let file = question.source;
     match verb {
-        Verb::Run => run_file(alloc, file, store, out),
-        Verb::Check => check_file(alloc, file, store, out),
-        Verb::Dump => dump_file(alloc, file, store, out),
+        Verb::Run => Ended {
+            status: run_file(alloc, file, store, out),
+            file,
+        },
+        Verb::Mean => mean_file(alloc, question, store, out, modules),
+        Verb::Check => Ended {
+            status: check_file(alloc, file, store, out),
+            file,
+        },
+        Verb::Dump => Ended {
+            status: dump_file(alloc, file, store, out),
+            file,
+        },
     }
 }
 
 // Does what the words say, and reports the status.
-fn answer<St: Store, Out: Sink, Er: Sink>(
+fn answer<St: Store, Out: Sink, Er: Sink, M: Module>(
     alloc: Global,
     words: &Vec<String>,
     store: &mut St,
     out: &mut Out,
     err: &mut Er,
+    modules: &mut Vec<M>,
 ) -> Status
-    ensures cause { Cause (command_of (texts words.now.items)) (St.view store.old) (St.view store.new) (Out.view out.old) (Out.view out.new) result }
+    ensures cause { Cause (map M.view modules.old.items) (command_of (texts words.now.items)) (St.view store.old) (St.view store.new) (Out.view out.old) (Out.view out.new) result }
     ensures files { (St.view store.new).files ≡ (St.view store.old).files }
-    ensures report { Reports (text_of_status (name_in (command_of (texts words.now.items))) result) (Er.view err.old) (Er.view err.new) }
+    ensures report { Reports (text_of_status (refused_name (St.view store.new)) result) (Er.view err.old) (Er.view err.new) }
 {
     match read_words(alloc, words) {
         Err(error) => {
@@ -136,19 +163,21 @@ fn answer<St: Store, Out: Sink, Er: Sink>(
             status
         }
         Ok(command) => {
-            let file = file_of(&command);
-            let status = execute(alloc, command.verb, file, store, out);
-            report(err, file, status);
-            status
+            let question = question_of(&command);
+            let ended = execute(alloc, command.verb, question, store, out, modules);
+            report(err, ended.file, ended.status);
+            ended.status
         }
     }
 }
 
 /// Does all that the program does with its words, and answers its status.
 ///
-/// `run FILE` reads a source of at most 1 MiB, refuses it by the number and the place of what it breaks, or compiles it, runs the
-/// code on the machine, and puts each line that it writes and `= exit N` on `out`. `check FILE` and `dump FILE` read an image of at most 64 MiB, and put how much it has,
-/// or its tables, on `out` where it is clean. Whatever else comes is one line on `err`. The modules are dropped.
+/// `run FILE` reads a source of at most 1 MiB, refuses it by the number and the place of what it breaks, or compiles it, runs
+/// the code on the machine, and puts each line that it writes and `= exit N` on `out`. `mean FILE` puts what the source means
+/// with its input and the modules: each line that it writes, under `--trace` each event, and its end. `check FILE` and
+/// `dump FILE` read an image of at most 64 MiB, and put how much it has, or its tables, on `out` where it is clean. Whatever else
+/// comes is one line on `err`. The modules are dropped.
 pub fn ehc<St: Store, Out: Sink, Er: Sink>(
     alloc: Global,
     words: &Vec<String>,
@@ -157,15 +186,16 @@ pub fn ehc<St: Store, Out: Sink, Er: Sink>(
     err: &mut Er,
     modules: Vec<Box<dyn Module>>,
 ) -> Status
-    // What a source that is built, and an image, come to where nothing fails.
-    ensures promise { Promise (command_of (texts words.now.items)) (St.view store.old) (St.view store.new) (Out.view out.old) (Out.view out.new) result }
+    // What a source that is built, a meaning, and an image come to where nothing fails.
+    ensures promise { Promise (map (λ b. (Module-box b).view b.value) modules.items) (command_of (texts words.now.items)) (St.view store.old) (St.view store.new) (Out.view out.old) (Out.view out.new) result }
 
     // When each status comes, and what it leaves of the store's refusals and of `out`.
-    ensures cause { Cause (command_of (texts words.now.items)) (St.view store.old) (St.view store.new) (Out.view out.old) (Out.view out.new) result }
+    ensures cause { Cause (map (λ b. (Module-box b).view b.value) modules.items) (command_of (texts words.now.items)) (St.view store.old) (St.view store.new) (Out.view out.old) (Out.view out.new) result }
     ensures files { (St.view store.new).files ≡ (St.view store.old).files }
-    ensures report { Reports (text_of_status (name_in (command_of (texts words.now.items))) result) (Er.view err.old) (Er.view err.new) }
+    ensures report { Reports (text_of_status (refused_name (St.view store.new)) result) (Er.view err.old) (Er.view err.new) }
 {
-    let status = answer(alloc, words, store, out, err);
+    let mut modules = modules;
+    let status = answer(alloc, words, store, out, err, &mut modules);
     drop(modules);
     status
 }

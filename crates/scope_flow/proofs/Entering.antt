@@ -4,7 +4,7 @@ use Rattle.std.specs.Prelude.{◌==◌, ◌&&◌, not, if◌then◌else◌}
 use Rattle.cxx_ast.specs.declared.name.Name.{Name}
 use Rattle.cxx_ast.specs.declared.types.Ty.{Ty}
 use Rattle.cxx_ast.specs.declared.types.Ty.TheVariants.{Int, IntRef, Void, Object, ObjectRef}
-use Rattle.scope_rules.specs.declared.item.Item.TheVariants.{Enter, Leave, Destroy}
+use Rattle.run_items.specs.declared.item.Item.TheVariants.{Enter, Leave, Destroy}
 use Rattle.scope_rules.specs.Class.{class_named, class_type, int_type, some_of}
 use Rattle.scope_rules.specs.Part.{Part, cell, unset}
 use Rattle.scope_rules.specs.World.{World, Exception, Reference, as_class, exception_at, whole}

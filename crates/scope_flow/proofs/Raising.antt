@@ -1,7 +1,7 @@
 -- Terminate because of an exception, and raising one, from what the evaluator finds of it.
 use Rattle.std.proofs.Common.{◌≡◌, ◌∙◌, ℕ, ℤ, Bool, true, false, List, [], ◌∷◌, Option, Some, None, refl, subst, sym}
 use Rattle.std.specs.Prelude.{if◌then◌else◌}
-use Rattle.scope_rules.specs.declared.item.Item.TheVariants.{Enter, Make, Foreign}
+use Rattle.run_items.specs.declared.item.Item.TheVariants.{Enter, Make, Foreign}
 use Rattle.scope_rules.specs.Class.{ObjectType, contains}
 use Rattle.scope_rules.specs.Part.{part_type}
 use Rattle.scope_rules.specs.World.{World, Installed, building, native, foreign, exception_at, type_at, object_at, with_exception}

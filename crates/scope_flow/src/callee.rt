@@ -9,7 +9,7 @@ ghost use Rattle.scope_world.specs.Inward.{argument_of, context_of};
 ghost use Rattle.scope_world.specs.Objects.{reference_of};
 ghost use Rattle.scope_world.specs.Seen.{world_of};
 
-use scope_world::{Argument, Context, Guests, Halt, Reference, World};
+use scope_world::{Argument, Context, Halt, Outside, Reference, World};
 
 /// A constructor that a class declares, by its place among the class's functions, or one that it has without declaring it.
 #[derive(Clone, Copy)]
@@ -29,7 +29,7 @@ pub enum Callee {
 }
 
 /// What makes the calls inside a call.
-pub trait Calls<G: Guests> {
+pub trait Calls<G: Outside> {
     /// A call that is made with so many open comes out as it means.
     ghost answers: { Self → ℕ → Type 0 };
 
@@ -43,5 +43,5 @@ pub trait Calls<G: Guests> {
         given: &[Argument],
     ) -> Result<i32, Halt>
         requires { answers self.now c.now.depth }
-        ensures { Gives (full_call (checked_of c.now.program.now) (callee_of callee) (reference_of this.now) (map argument_of given.now) (context_of c.now) (world_of G.rests c.now.depth w.old)) result (world_of G.rests c.now.depth w.new) };
+        ensures { Gives (full_call (checked_of c.now.program.now) (callee_of callee) (reference_of this.now) (map argument_of given.now) (context_of c.now) (world_of G.told c.now.depth w.old)) result (world_of G.told c.now.depth w.new) };
 }

@@ -14,7 +14,7 @@ use crate::callee::{Callee, Calls, Constructor};
 use cxx_ast::declaration::{Func, FuncKind};
 use cxx_ast::program::Checked;
 use cxx_ast::types::{Param, Ty};
-use scope_world::{Argument, Context, Guests, Halt, Reference, World, class_named, methods_of};
+use scope_world::{Argument, Context, Halt, Outside, Reference, World, class_named, methods_of};
 
 // The parameters of a copy constructor of the class: one `const T&` of it.
 fn takes_copy(class: u32, parameters: &[Param]) -> bool
@@ -93,7 +93,7 @@ pub fn destructor_place(program: &Checked, class: u32) -> Option<usize>
 }
 
 /// An object is built by the default constructor of its class.
-pub fn default_object<G: Guests, C: Calls<G>>(
+pub fn default_object<G: Outside, C: Calls<G>>(
     calls: &C,
     c: &Context<'_>,
     w: &mut World<G>,
@@ -101,7 +101,7 @@ pub fn default_object<G: Guests, C: Calls<G>>(
     target: &Reference,
 ) -> Result<(), Halt>
     requires { C.answers calls.now c.now.depth }
-    ensures { Gives (rules.default_object (always (checked_of c.now.program.now)) class (reference_of target.now) (context_of c.now) (world_of G.rests c.now.depth w.old)) result (world_of G.rests c.now.depth w.new) }
+    ensures { Gives (rules.default_object (always (checked_of c.now.program.now)) class (reference_of target.now) (context_of c.now) (world_of G.told c.now.depth w.old)) result (world_of G.told c.now.depth w.new) }
 {
     let which = constructor_for(c.program, class, 0);
     calls.call(c, w, Callee::Constructor(class, which), target, &[])?;
@@ -109,7 +109,7 @@ pub fn default_object<G: Guests, C: Calls<G>>(
 }
 
 /// An object is built by the copy constructor of its class.
-pub fn copy_object<G: Guests, C: Calls<G>>(
+pub fn copy_object<G: Outside, C: Calls<G>>(
     calls: &C,
     c: &Context<'_>,
     w: &mut World<G>,
@@ -118,7 +118,7 @@ pub fn copy_object<G: Guests, C: Calls<G>>(
     source: &Reference,
 ) -> Result<(), Halt>
     requires { C.answers calls.now c.now.depth }
-    ensures { Gives (rules.copy_object (always (checked_of c.now.program.now)) class (reference_of target.now) (reference_of source.now) (context_of c.now) (world_of G.rests c.now.depth w.old)) result (world_of G.rests c.now.depth w.new) }
+    ensures { Gives (rules.copy_object (always (checked_of c.now.program.now)) class (reference_of target.now) (reference_of source.now) (context_of c.now) (world_of G.told c.now.depth w.old)) result (world_of G.told c.now.depth w.new) }
 {
     let which = copy_constructor(c.program, class);
     let given = [Argument::Place(source.copied(c.alloc)?)];

@@ -18,7 +18,7 @@ use crate::callee::{Callee, Calls};
 use crate::handler::let_go;
 use crate::terminating::terminate;
 use scope_world::{
-    Context, Flow, Guard, Guards, Guests, Halt, Numbers, ObjectType, Reference, World,
+    Context, Flow, Guard, Guards, Halt, Numbers, ObjectType, Outside, Reference, World,
 };
 
 /// What is left with a scope: an object of a type, which is destroyed; or an exception, which is given back unless it is kept.
@@ -29,7 +29,7 @@ pub enum Leaving<'a> {
 }
 
 /// An object is destroyed; an int needs no destruction.
-pub fn destroy<G: Guests, C: Calls<G>>(
+pub fn destroy<G: Outside, C: Calls<G>>(
     calls: &C,
     c: &Context<'_>,
     w: &mut World<G>,
@@ -37,7 +37,7 @@ pub fn destroy<G: Guests, C: Calls<G>>(
     target: &Reference,
 ) -> Result<(), Halt>
     requires { C.answers calls.now c.now.depth }
-    ensures { Gives (construct_rules.destroy (always (checked_of c.now.program.now)) (type_of ty) (reference_of target.now) (context_of c.now) (world_of G.rests c.now.depth w.old)) result (world_of G.rests c.now.depth w.new) }
+    ensures { Gives (construct_rules.destroy (always (checked_of c.now.program.now)) (type_of ty) (reference_of target.now) (context_of c.now) (world_of G.told c.now.depth w.old)) result (world_of G.told c.now.depth w.new) }
 {
     match ty {
         ObjectType::Int => Ok(()),
@@ -48,14 +48,14 @@ pub fn destroy<G: Guests, C: Calls<G>>(
     }
 }
 
-fn leave<G: Guests, C: Calls<G>>(
+fn leave<G: Outside, C: Calls<G>>(
     calls: &C,
     c: &Context<'_>,
     w: &mut World<G>,
     what: &Leaving<'_>,
 ) -> Result<(), Halt>
     requires { C.answers calls.now c.now.depth }
-    ensures { Gives ((leaving_of (always (checked_of c.now.program.now)) what.now) (context_of c.now) (world_of G.rests c.now.depth w.old)) result (world_of G.rests c.now.depth w.new) }
+    ensures { Gives ((leaving_of (always (checked_of c.now.program.now)) what.now) (context_of c.now) (world_of G.told c.now.depth w.old)) result (world_of G.told c.now.depth w.new) }
 {
     match what {
         Leaving::Object(ty, target) => destroy(calls, c, w, *ty, target),
@@ -65,14 +65,14 @@ fn leave<G: Guests, C: Calls<G>>(
 
 /// A forced unwind that comes out to a barrier calls terminate.
 #[tactic(auto, using(crate::proofs::Passing::passing, crate::proofs::Left::barrier_passed, crate::proofs::Left::barrier_reached))]
-pub fn after_barrier<G: Guests, C: Calls<G>>(
+pub fn after_barrier<G: Outside, C: Calls<G>>(
     calls: &C,
     c: &Context<'_>,
     w: &mut World<G>,
     outcome: Result<(), Halt>,
 ) -> Result<(), Halt>
     requires { C.answers calls.now c.now.depth }
-    ensures { (m : Outcome (Unit {0})) → Gives m outcome (world_of G.rests c.now.depth w.old) → Gives (terminate_rules.after_barrier (always (checked_of c.now.program.now)) (context_of c.now) m) result (world_of G.rests c.now.depth w.new) }
+    ensures { (m : Outcome (Unit {0})) → Gives m outcome (world_of G.told c.now.depth w.old) → Gives (terminate_rules.after_barrier (always (checked_of c.now.program.now)) (context_of c.now) m) result (world_of G.told c.now.depth w.new) }
 {
     match outcome {
         Ok(()) => Ok(()),
@@ -83,14 +83,14 @@ pub fn after_barrier<G: Guests, C: Calls<G>>(
     }
 }
 
-fn leave_behind_barrier<G: Guests, C: Calls<G>>(
+fn leave_behind_barrier<G: Outside, C: Calls<G>>(
     calls: &C,
     c: &Context<'_>,
     w: &mut World<G>,
     what: &Leaving<'_>,
 ) -> Result<(), Halt>
     requires { C.answers calls.now c.now.depth }
-    ensures { Gives (terminate_rules.behind_barrier (always (checked_of c.now.program.now)) (context_of c.now) (leaving_of (always (checked_of c.now.program.now)) what.now) (world_of G.rests c.now.depth w.old)) result (world_of G.rests c.now.depth w.new) }
+    ensures { Gives (terminate_rules.behind_barrier (always (checked_of c.now.program.now)) (context_of c.now) (leaving_of (always (checked_of c.now.program.now)) what.now) (world_of G.told c.now.depth w.old)) result (world_of G.told c.now.depth w.new) }
 {
     let guards = Guards::More(Guard::Barrier, c.guards);
     let inner = Context {
@@ -113,7 +113,7 @@ fn left_as(left: Result<(), Halt>, halt: Halt) -> Halt
 
 // In an exceptional exit the leaving runs behind a barrier, with the exception travelling; any other stop runs nothing.
 #[tactic(auto, using(crate::proofs::Passing::passing, crate::proofs::Left::stays, crate::proofs::Left::left_thrown, crate::proofs::Left::left_cancelled, crate::proofs::Left::scope_unwinds, crate::proofs::Left::part_unwinds))]
-fn unwound<G: Guests, C: Calls<G>>(
+fn unwound<G: Outside, C: Calls<G>>(
     calls: &C,
     c: &Context<'_>,
     w: &mut World<G>,
@@ -121,8 +121,8 @@ fn unwound<G: Guests, C: Calls<G>>(
     halt: Halt,
 ) -> Halt
     requires { C.answers calls.now c.now.depth }
-    ensures scope { (m : Outcome FlowMeant) → Halts m halt (world_of G.rests c.now.depth w.old) → Halts (rules.after_scope (always (checked_of c.now.program.now)) (context_of c.now) (leaving_of (always (checked_of c.now.program.now)) what.now) m) result (world_of G.rests c.now.depth w.new) }
-    ensures part { (m : Outcome FlowMeant) → Halts m halt (world_of G.rests c.now.depth w.old) → Halts (rules.after_part (always (checked_of c.now.program.now)) (context_of c.now) (leaving_of (always (checked_of c.now.program.now)) what.now) m) result (world_of G.rests c.now.depth w.new) }
+    ensures scope { (m : Outcome FlowMeant) → Halts m halt (world_of G.told c.now.depth w.old) → Halts (rules.after_scope (always (checked_of c.now.program.now)) (context_of c.now) (leaving_of (always (checked_of c.now.program.now)) what.now) m) result (world_of G.told c.now.depth w.new) }
+    ensures part { (m : Outcome FlowMeant) → Halts m halt (world_of G.told c.now.depth w.old) → Halts (rules.after_part (always (checked_of c.now.program.now)) (context_of c.now) (leaving_of (always (checked_of c.now.program.now)) what.now) m) result (world_of G.told c.now.depth w.new) }
 {
     match halt {
         Halt::Thrown(number) => {
@@ -140,7 +140,7 @@ fn unwound<G: Guests, C: Calls<G>>(
 
 /// In a normal exit the leaving runs under the scope's own guards, and where it throws or unwinds, that replaces the exit.
 #[tactic(auto, using(crate::proofs::Passing::passing, crate::proofs::Left::scope_done, crate::proofs::Left::scope_halted))]
-pub fn after_scope<G: Guests, C: Calls<G>>(
+pub fn after_scope<G: Outside, C: Calls<G>>(
     calls: &C,
     c: &Context<'_>,
     w: &mut World<G>,
@@ -148,7 +148,7 @@ pub fn after_scope<G: Guests, C: Calls<G>>(
     outcome: Result<Flow, Halt>,
 ) -> Result<Flow, Halt>
     requires { C.answers calls.now c.now.depth }
-    ensures { (m : Outcome FlowMeant) → GivesBy flow_of m outcome (world_of G.rests c.now.depth w.old) → GivesBy flow_of (rules.after_scope (always (checked_of c.now.program.now)) (context_of c.now) (leaving_of (always (checked_of c.now.program.now)) what.now) m) result (world_of G.rests c.now.depth w.new) }
+    ensures { (m : Outcome FlowMeant) → GivesBy flow_of m outcome (world_of G.told c.now.depth w.old) → GivesBy flow_of (rules.after_scope (always (checked_of c.now.program.now)) (context_of c.now) (leaving_of (always (checked_of c.now.program.now)) what.now) m) result (world_of G.told c.now.depth w.new) }
 {
     match outcome {
         Ok(flow) => {
@@ -160,7 +160,7 @@ pub fn after_scope<G: Guests, C: Calls<G>>(
 }
 
 /// A complete part of an object that is not complete is destroyed in an exceptional exit alone.
-pub fn after_part<G: Guests, C: Calls<G>>(
+pub fn after_part<G: Outside, C: Calls<G>>(
     calls: &C,
     c: &Context<'_>,
     w: &mut World<G>,
@@ -168,7 +168,7 @@ pub fn after_part<G: Guests, C: Calls<G>>(
     outcome: Result<Flow, Halt>,
 ) -> Result<Flow, Halt>
     requires { C.answers calls.now c.now.depth }
-    ensures { (m : Outcome FlowMeant) → GivesBy flow_of m outcome (world_of G.rests c.now.depth w.old) → GivesBy flow_of (rules.after_part (always (checked_of c.now.program.now)) (context_of c.now) (leaving_of (always (checked_of c.now.program.now)) what.now) m) result (world_of G.rests c.now.depth w.new) }
+    ensures { (m : Outcome FlowMeant) → GivesBy flow_of m outcome (world_of G.told c.now.depth w.old) → GivesBy flow_of (rules.after_part (always (checked_of c.now.program.now)) (context_of c.now) (leaving_of (always (checked_of c.now.program.now)) what.now) m) result (world_of G.told c.now.depth w.new) }
 {
     match outcome {
         Ok(flow) => Ok(flow),

@@ -25,29 +25,29 @@ use crate::terminating::terminate;
 use cxx_ast::program::Checked;
 use cxx_ast::statement::Handler;
 use cxx_ast::types::Ty;
-use scope_rules::item::Item;
+use run_items::Item;
 use scope_world::{
-    Context, Exception, Flow, Guard, Guards, Guests, Halt, Numbers, ObjectType, Part, Reference,
+    Context, Exception, Flow, Guard, Guards, Halt, Numbers, ObjectType, Outside, Part, Reference,
     World, bound_as, class_named, matches, unset,
 };
 
 // Whether an exception is foreign, and another is handled.
-fn is_refused<G: Guests>(c: &Context<'_>, w: &World<G>, number: u64) -> bool
-    ensures { (d : ℕ) → result ≡ (rules.is_foreign (exception_at (world_of G.rests d w.now) number) && some_of (λ f. not (f == number)) (context_of c.now).handled) }
+fn is_refused<G: Outside>(c: &Context<'_>, w: &World<G>, number: u64) -> bool
+    ensures { (d : ℕ) → result ≡ (rules.is_foreign (exception_at (world_of G.told d w.now) number) && some_of (λ f. not (f == number)) (context_of c.now).handled) }
 {
     w.exception(number).is_foreign() && c.handled.contains_other(number)
 }
 
 /// An exception is entered, but entering a foreign one while another is handled calls terminate.
 #[tactic(auto, using(crate::proofs::Passing::passing, crate::proofs::Entering::enter_refused, crate::proofs::Entering::enter_done))]
-pub fn enter<G: Guests, C: Calls<G>>(
+pub fn enter<G: Outside, C: Calls<G>>(
     calls: &C,
     c: &Context<'_>,
     w: &mut World<G>,
     number: u64,
 ) -> Result<(), Halt>
     requires { C.answers calls.now c.now.depth }
-    ensures { Gives (rules.enter (always (checked_of c.now.program.now)) number (context_of c.now) (world_of G.rests c.now.depth w.old)) result (world_of G.rests c.now.depth w.new) }
+    ensures { Gives (rules.enter (always (checked_of c.now.program.now)) number (context_of c.now) (world_of G.told c.now.depth w.old)) result (world_of G.told c.now.depth w.new) }
 {
     if is_refused(c, w, number) {
         let travelling = Numbers::More(number, c.travelling);
@@ -63,12 +63,12 @@ pub fn enter<G: Guests, C: Calls<G>>(
 
 // An exception object is freed after its destructor, also where that gave an exception or a forced unwind.
 #[tactic(auto, using(crate::proofs::Passing::destroyed, crate::proofs::Passing::destroyed_halts, crate::proofs::Passing::not_destroyed))]
-fn after_destructor<G: Guests>(
+fn after_destructor<G: Outside>(
     w: &mut World<G>,
     number: u64,
     outcome: Result<(), Halt>,
 ) -> Result<(), Halt>
-    ensures { (d : ℕ) (m : Outcome (Unit {0})) → Gives m outcome (world_of G.rests d w.old) → Gives (rules.after_destructor number m) result (world_of G.rests d w.new) }
+    ensures { (d : ℕ) (m : Outcome (Unit {0})) → Gives m outcome (world_of G.told d w.old) → Gives (rules.after_destructor number m) result (world_of G.told d w.new) }
 {
     match outcome {
         Ok(()) => {
@@ -87,14 +87,14 @@ fn after_destructor<G: Guests>(
 
 // An exception is destroyed and freed; for a foreign one its module's cleanup is called in place of that.
 #[tactic(auto, using(crate::proofs::Passing::passing, crate::proofs::Entering::given_building, crate::proofs::Entering::given_native, crate::proofs::Entering::given_foreign))]
-fn give_back<G: Guests, C: Calls<G>>(
+fn give_back<G: Outside, C: Calls<G>>(
     calls: &C,
     c: &Context<'_>,
     w: &mut World<G>,
     number: u64,
 ) -> Result<(), Halt>
     requires { C.answers calls.now c.now.depth }
-    ensures { Gives (rules.give_back (always (checked_of c.now.program.now)) number (exception_at (world_of G.rests c.now.depth w.old) number) (context_of c.now) (world_of G.rests c.now.depth w.old)) result (world_of G.rests c.now.depth w.new) }
+    ensures { Gives (rules.give_back (always (checked_of c.now.program.now)) number (exception_at (world_of G.told c.now.depth w.old) number) (context_of c.now) (world_of G.told c.now.depth w.old)) result (world_of G.told c.now.depth w.new) }
 {
     match w.exception(number) {
         Exception::Building => Ok(()),
@@ -112,7 +112,7 @@ fn give_back<G: Guests, C: Calls<G>>(
 
 /// An exception is left, and given back unless it is kept.
 #[tactic(auto, using(crate::proofs::Passing::passing, crate::proofs::Entering::left_alone, crate::proofs::Entering::left_given))]
-pub fn let_go<G: Guests, C: Calls<G>>(
+pub fn let_go<G: Outside, C: Calls<G>>(
     calls: &C,
     c: &Context<'_>,
     w: &mut World<G>,
@@ -120,7 +120,7 @@ pub fn let_go<G: Guests, C: Calls<G>>(
     kept: bool,
 ) -> Result<(), Halt>
     requires { C.answers calls.now c.now.depth }
-    ensures { Gives (rules.let_go (always (checked_of c.now.program.now)) number kept (context_of c.now) (world_of G.rests c.now.depth w.old)) result (world_of G.rests c.now.depth w.new) }
+    ensures { Gives (rules.let_go (always (checked_of c.now.program.now)) number kept (context_of c.now) (world_of G.told c.now.depth w.old)) result (world_of G.told c.now.depth w.new) }
 {
     w.emit(Item::Leave(number))?;
     if kept {
@@ -149,7 +149,7 @@ fn goes_on(c: &Context<'_>, number: u64, outcome: &Result<Flow, Halt>) -> Option
 
 /// Leaving an exception is like leaving a scope in which it was built; the context is the one outside.
 #[tactic(auto, using(crate::proofs::Passing::passing, crate::proofs::Entering::left_knowing))]
-pub fn after_handler<G: Guests, C: Calls<G>>(
+pub fn after_handler<G: Outside, C: Calls<G>>(
     calls: &C,
     c: &Context<'_>,
     w: &mut World<G>,
@@ -157,7 +157,7 @@ pub fn after_handler<G: Guests, C: Calls<G>>(
     outcome: Result<Flow, Halt>,
 ) -> Result<Flow, Halt>
     requires { C.answers calls.now c.now.depth }
-    ensures { (m : Outcome FlowMeant) → GivesBy flow_of m outcome (world_of G.rests c.now.depth w.old) → GivesBy flow_of (rules.after_handler (always (checked_of c.now.program.now)) number (context_of c.now) m) result (world_of G.rests c.now.depth w.new) }
+    ensures { (m : Outcome FlowMeant) → GivesBy flow_of m outcome (world_of G.told c.now.depth w.old) → GivesBy flow_of (rules.after_handler (always (checked_of c.now.program.now)) number (context_of c.now) m) result (world_of G.told c.now.depth w.new) }
 {
     match goes_on(c, number, &outcome) {
         Some(kept) => {
@@ -170,7 +170,7 @@ pub fn after_handler<G: Guests, C: Calls<G>>(
 
 /// A new object of a class, copied behind a barrier.
 #[tactic(auto, using(crate::proofs::Passing::passing, crate::proofs::Entering::copied, crate::proofs::Entering::copy_halted))]
-pub fn new_copy<G: Guests, C: Calls<G>>(
+pub fn new_copy<G: Outside, C: Calls<G>>(
     calls: &C,
     c: &Context<'_>,
     w: &mut World<G>,
@@ -178,7 +178,7 @@ pub fn new_copy<G: Guests, C: Calls<G>>(
     source: &Reference,
 ) -> Result<usize, Halt>
     requires { C.answers calls.now c.now.depth }
-    ensures { Gives (rules.new_copy (always (checked_of c.now.program.now)) class (reference_of source.now) (context_of c.now) (world_of G.rests c.now.depth w.old)) result (world_of G.rests c.now.depth w.new) }
+    ensures { Gives (rules.new_copy (always (checked_of c.now.program.now)) class (reference_of source.now) (context_of c.now) (world_of G.told c.now.depth w.old)) result (world_of G.told c.now.depth w.new) }
 {
     let part = unset(c.alloc, c.program, ObjectType::Class(class))?;
     let object = w.new_object(part)?;
@@ -194,7 +194,7 @@ pub fn new_copy<G: Guests, C: Calls<G>>(
 }
 
 // A parameter of a type: by value it is a copy, and by reference it names the exception object or its base.
-fn parameter_of<G: Guests, C: Calls<G>>(
+fn parameter_of<G: Outside, C: Calls<G>>(
     calls: &C,
     c: &Context<'_>,
     w: &mut World<G>,
@@ -202,7 +202,7 @@ fn parameter_of<G: Guests, C: Calls<G>>(
     source: Reference,
 ) -> Result<Reference, Halt>
     requires { C.answers calls.now c.now.depth }
-    ensures { GivesBy reference_of (rules.catch_parameter (always (checked_of c.now.program.now)) (Some ty.now) (reference_of source) (context_of c.now) (world_of G.rests c.now.depth w.old)) result (world_of G.rests c.now.depth w.new) }
+    ensures { GivesBy reference_of (rules.catch_parameter (always (checked_of c.now.program.now)) (Some ty.now) (reference_of source) (context_of c.now) (world_of G.told c.now.depth w.old)) result (world_of G.told c.now.depth w.new) }
 {
     match ty {
         Ty::Int => {
@@ -221,7 +221,7 @@ fn parameter_of<G: Guests, C: Calls<G>>(
 }
 
 // A parameter is made also where it has no name.
-fn catch_parameter<G: Guests, C: Calls<G>>(
+fn catch_parameter<G: Outside, C: Calls<G>>(
     calls: &C,
     c: &Context<'_>,
     w: &mut World<G>,
@@ -229,7 +229,7 @@ fn catch_parameter<G: Guests, C: Calls<G>>(
     source: Reference,
 ) -> Result<Reference, Halt>
     requires { C.answers calls.now c.now.depth }
-    ensures { GivesBy reference_of (rules.catch_parameter (always (checked_of c.now.program.now)) ty.now (reference_of source) (context_of c.now) (world_of G.rests c.now.depth w.old)) result (world_of G.rests c.now.depth w.new) }
+    ensures { GivesBy reference_of (rules.catch_parameter (always (checked_of c.now.program.now)) ty.now (reference_of source) (context_of c.now) (world_of G.told c.now.depth w.old)) result (world_of G.told c.now.depth w.new) }
 {
     match ty {
         None => Ok(Reference::whole(c.alloc, 0)),
@@ -250,7 +250,7 @@ pub fn own_type(ty: &Option<Ty>) -> ObjectType
 
 /// The parameter of a handler, made while the exception travels, and the entry.
 #[tactic(auto, using(crate::proofs::Passing::passing, crate::proofs::Entering::entered_done, crate::proofs::Entering::entry_halted, crate::proofs::Entering::parameter_halted))]
-pub fn entered<G: Guests, C: Calls<G>>(
+pub fn entered<G: Outside, C: Calls<G>>(
     calls: &C,
     c: &Context<'_>,
     w: &mut World<G>,
@@ -258,7 +258,7 @@ pub fn entered<G: Guests, C: Calls<G>>(
     number: u64,
 ) -> Result<Reference, Halt>
     requires { C.answers calls.now c.now.depth }
-    ensures { GivesBy reference_of (entered (always (checked_of c.now.program.now)) ty.now number (context_of c.now) (world_of G.rests c.now.depth w.old)) result (world_of G.rests c.now.depth w.new) }
+    ensures { GivesBy reference_of (entered (always (checked_of c.now.program.now)) ty.now number (context_of c.now) (world_of G.told c.now.depth w.old)) result (world_of G.told c.now.depth w.new) }
 {
     let source = w.exception(number).object(c.alloc);
     let travelling = Numbers::More(number, c.travelling);

@@ -21,19 +21,19 @@ use crate::terminating::{terminate, terminate_with};
 use crate::throw::{raise_exception, throw_built};
 use cxx_ast::types::Ty;
 use scope_world::{
-    Context, Flow, Guard, Guards, Guests, Halt, Installed, Numbers, ObjectType, Reference, World,
+    Context, Flow, Guard, Guards, Halt, Installed, Numbers, ObjectType, Outside, Reference, World,
     allows, object_type, unset,
 };
 
 // The object of `throw std::bad_exception()`.
 #[tactic(auto, using(crate::proofs::Passing::passing, crate::proofs::Unexpected::bad_made, crate::proofs::Unexpected::bad_halted))]
-fn new_bad_exception<G: Guests, C: Calls<G>>(
+fn new_bad_exception<G: Outside, C: Calls<G>>(
     calls: &C,
     c: &Context<'_>,
     w: &mut World<G>,
 ) -> Result<usize, Halt>
     requires { C.answers calls.now c.now.depth }
-    ensures { Gives (rules.new_bad_exception (always (checked_of c.now.program.now)) (context_of c.now) (world_of G.rests c.now.depth w.old)) result (world_of G.rests c.now.depth w.new) }
+    ensures { Gives (rules.new_bad_exception (always (checked_of c.now.program.now)) (context_of c.now) (world_of G.told c.now.depth w.old)) result (world_of G.told c.now.depth w.new) }
 {
     let part = unset(c.alloc, c.program, ObjectType::Class(0))?;
     let object = w.new_object(part)?;
@@ -42,9 +42,13 @@ fn new_bad_exception<G: Guests, C: Calls<G>>(
 }
 
 #[tactic(auto, using(crate::proofs::Passing::passing, crate::proofs::Raising::new_full, crate::proofs::Raising::new_built))]
-fn throw_bad_exception<G: Guests, C: Calls<G>>(calls: &C, c: &Context<'_>, w: &mut World<G>) -> Halt
+fn throw_bad_exception<G: Outside, C: Calls<G>>(
+    calls: &C,
+    c: &Context<'_>,
+    w: &mut World<G>,
+) -> Halt
     requires { C.answers calls.now c.now.depth }
-    ensures { Halts (throw_new {A = FlowMeant} (always (checked_of c.now.program.now)) (context_of c.now) (rules.new_bad_exception (always (checked_of c.now.program.now)) (context_of c.now)) (world_of G.rests c.now.depth w.old)) result (world_of G.rests c.now.depth w.new) }
+    ensures { Halts (throw_new {A = FlowMeant} (always (checked_of c.now.program.now)) (context_of c.now) (rules.new_bad_exception (always (checked_of c.now.program.now)) (context_of c.now)) (world_of G.told c.now.depth w.old)) result (world_of G.told c.now.depth w.new) }
 {
     if w.is_full() {
         return terminate(calls, c, w);
@@ -74,8 +78,8 @@ fn lists_bad_exception(types: &[Ty]) -> bool
 
 // Whether a specification allows an exception.
 #[tactic(auto, using(crate::proofs::Unexpected::allowed_as))]
-fn is_allowed<G: Guests>(c: &Context<'_>, w: &World<G>, types: &[Ty], number: u64) -> bool
-    ensures { (d : ℕ) → result ≡ allows_rule (checked_of c.now.program.now) (map object_type types.now) (type_at (world_of G.rests d w.now) number) }
+fn is_allowed<G: Outside>(c: &Context<'_>, w: &World<G>, types: &[Ty], number: u64) -> bool
+    ensures { (d : ℕ) → result ≡ allows_rule (checked_of c.now.program.now) (map object_type types.now) (type_at (world_of G.told d w.now) number) }
 {
     allows(c.program, types, w.exception(number).ty())
 }
@@ -83,7 +87,7 @@ fn is_allowed<G: Guests>(c: &Context<'_>, w: &World<G>, types: &[Ty], number: u6
 // An exception out of the unexpected handler is thrown again if it is allowed; else a bad_exception is thrown in its place if that is
 // listed, and else terminate is called.
 #[tactic(auto, using(crate::proofs::Passing::passing, crate::proofs::Unexpected::passed_again, crate::proofs::Unexpected::passed_bad, crate::proofs::Unexpected::passed_ended))]
-fn pass_on<G: Guests, C: Calls<G>>(
+fn pass_on<G: Outside, C: Calls<G>>(
     calls: &C,
     c: &Context<'_>,
     w: &mut World<G>,
@@ -92,7 +96,7 @@ fn pass_on<G: Guests, C: Calls<G>>(
     number: u64,
 ) -> Halt
     requires { C.answers calls.now c.now.depth }
-    ensures { Halts (rules.pass_on {A = FlowMeant} (always (checked_of c.now.program.now)) (map object_type types.now) (installed_of kept) number (context_of c.now) (world_of G.rests c.now.depth w.old)) result (world_of G.rests c.now.depth w.new) }
+    ensures { Halts (rules.pass_on {A = FlowMeant} (always (checked_of c.now.program.now)) (map object_type types.now) (installed_of kept) number (context_of c.now) (world_of G.told c.now.depth w.old)) result (world_of G.told c.now.depth w.new) }
 {
     if is_allowed(c, w, types, number) {
         raise_exception(calls, c, w, number)
@@ -104,7 +108,7 @@ fn pass_on<G: Guests, C: Calls<G>>(
 }
 
 // What comes out of the unexpected handler is entered, passed on, and left.
-fn pass_on_entered<G: Guests, C: Calls<G>>(
+fn pass_on_entered<G: Outside, C: Calls<G>>(
     calls: &C,
     c: &Context<'_>,
     w: &mut World<G>,
@@ -113,7 +117,7 @@ fn pass_on_entered<G: Guests, C: Calls<G>>(
     number: u64,
 ) -> Result<Flow, Halt>
     requires { C.answers calls.now c.now.depth }
-    ensures { GivesBy flow_of (passing_on (always (checked_of c.now.program.now)) (map object_type types.now) (installed_of kept) number (context_of c.now) (world_of G.rests c.now.depth w.old)) result (world_of G.rests c.now.depth w.new) }
+    ensures { GivesBy flow_of (passing_on (always (checked_of c.now.program.now)) (map object_type types.now) (installed_of kept) number (context_of c.now) (world_of G.told c.now.depth w.old)) result (world_of G.told c.now.depth w.new) }
 {
     enter(calls, c, w, number)?;
     let handled = Numbers::More(number, c.handled);
@@ -127,7 +131,7 @@ fn pass_on_entered<G: Guests, C: Calls<G>>(
 
 // The unexpected handler runs under a guard that stops every exception; without one, or where it returns, terminate is called.
 #[tactic(auto, using(crate::proofs::Passing::passing, crate::proofs::Outward::unexpected_passed))]
-fn run_unexpected_handler<G: Guests, C: Calls<G>>(
+fn run_unexpected_handler<G: Outside, C: Calls<G>>(
     calls: &C,
     c: &Context<'_>,
     w: &mut World<G>,
@@ -135,7 +139,7 @@ fn run_unexpected_handler<G: Guests, C: Calls<G>>(
     kept: Installed,
 ) -> Result<Flow, Halt>
     requires { C.answers calls.now c.now.depth }
-    ensures { GivesBy flow_of (rules.run_unexpected_handler (always (checked_of c.now.program.now)) (map object_type types.now) (installed_of kept) kept.unexpected (context_of c.now) (world_of G.rests c.now.depth w.old)) result (world_of G.rests c.now.depth w.new) }
+    ensures { GivesBy flow_of (rules.run_unexpected_handler (always (checked_of c.now.program.now)) (map object_type types.now) (installed_of kept) kept.unexpected (context_of c.now) (world_of G.told c.now.depth w.old)) result (world_of G.told c.now.depth w.new) }
 {
     let Some(handler) = kept.unexpected else {
         return Err(terminate_with(calls, c, w, kept.terminate));
@@ -157,7 +161,7 @@ fn run_unexpected_handler<G: Guests, C: Calls<G>>(
 
 // An exception that a specification stops is entered, the unexpected handler kept with it is called, and the exception is left.
 #[tactic(auto, using(crate::proofs::Passing::passing, crate::proofs::Unexpected::unexpected_left))]
-fn unexpected<G: Guests, C: Calls<G>>(
+fn unexpected<G: Outside, C: Calls<G>>(
     calls: &C,
     c: &Context<'_>,
     w: &mut World<G>,
@@ -165,7 +169,7 @@ fn unexpected<G: Guests, C: Calls<G>>(
     number: u64,
 ) -> Result<Flow, Halt>
     requires { C.answers calls.now c.now.depth }
-    ensures { GivesBy flow_of (rules.unexpected (always (checked_of c.now.program.now)) (map object_type types.now) number (context_of c.now) (world_of G.rests c.now.depth w.old)) result (world_of G.rests c.now.depth w.new) }
+    ensures { GivesBy flow_of (rules.unexpected (always (checked_of c.now.program.now)) (map object_type types.now) number (context_of c.now) (world_of G.told c.now.depth w.old)) result (world_of G.told c.now.depth w.new) }
 {
     enter(calls, c, w, number)?;
     let kept = w.exception(number).kept();
@@ -180,7 +184,7 @@ fn unexpected<G: Guests, C: Calls<G>>(
 
 /// What a specification does not allow is unexpected; a foreign exception was doomed and does not come so far.
 #[tactic(auto, using(crate::proofs::Passing::passing, crate::proofs::Outward::extent_passed, crate::proofs::Outward::extent_allowed, crate::proofs::Outward::extent_stops))]
-pub fn after_extent<G: Guests, C: Calls<G>>(
+pub fn after_extent<G: Outside, C: Calls<G>>(
     calls: &C,
     c: &Context<'_>,
     w: &mut World<G>,
@@ -188,7 +192,7 @@ pub fn after_extent<G: Guests, C: Calls<G>>(
     outcome: Result<Flow, Halt>,
 ) -> Result<Flow, Halt>
     requires { C.answers calls.now c.now.depth }
-    ensures { (m : Outcome FlowMeant) → GivesBy flow_of m outcome (world_of G.rests c.now.depth w.old) → GivesBy flow_of (rules.after_extent (always (checked_of c.now.program.now)) (map object_type types.now) (context_of c.now) m) result (world_of G.rests c.now.depth w.new) }
+    ensures { (m : Outcome FlowMeant) → GivesBy flow_of m outcome (world_of G.told c.now.depth w.old) → GivesBy flow_of (rules.after_extent (always (checked_of c.now.program.now)) (map object_type types.now) (context_of c.now) m) result (world_of G.told c.now.depth w.new) }
 {
     match outcome {
         Ok(flow) => Ok(flow),

@@ -11,8 +11,8 @@ ghost use Rattle.scope_world.specs.Seen.{world_of};
 ghost use Rattle.scope_rules.specs.Terminate as rules;
 
 use crate::callee::{Callee, Calls};
-use scope_rules::item::Item;
-use scope_world::{Context, Exception, Guard, Guards, Guests, Halt, Numbers, Reference, World};
+use run_items::Item;
+use scope_world::{Context, Exception, Guard, Guards, Halt, Numbers, Outside, Reference, World};
 
 // Where a terminate handler comes back, the program ends as aborted.
 fn after_terminate_handler(outcome: Result<i32, Halt>) -> Halt
@@ -27,16 +27,16 @@ fn after_terminate_handler(outcome: Result<i32, Halt>) -> Halt
 }
 
 /// Terminate with a given handler, which runs behind a barrier; while one runs, or without one, the program ends as aborted.
-pub fn terminate_with<G: Guests, C: Calls<G>>(
+pub fn terminate_with<G: Outside, C: Calls<G>>(
     calls: &C,
     c: &Context<'_>,
     w: &mut World<G>,
     handler: Option<u32>,
 ) -> Halt
     requires { C.answers calls.now c.now.depth }
-    ensures int { Halts (rules.terminate_with {A = ℤ} (always (checked_of c.now.program.now)) handler (context_of c.now) (world_of G.rests c.now.depth w.old)) result (world_of G.rests c.now.depth w.new) }
-    ensures flow { Halts (rules.terminate_with {A = FlowMeant} (always (checked_of c.now.program.now)) handler (context_of c.now) (world_of G.rests c.now.depth w.old)) result (world_of G.rests c.now.depth w.new) }
-    ensures none { Halts (rules.terminate_with {A = Unit {0}} (always (checked_of c.now.program.now)) handler (context_of c.now) (world_of G.rests c.now.depth w.old)) result (world_of G.rests c.now.depth w.new) }
+    ensures int { Halts (rules.terminate_with {A = ℤ} (always (checked_of c.now.program.now)) handler (context_of c.now) (world_of G.told c.now.depth w.old)) result (world_of G.told c.now.depth w.new) }
+    ensures flow { Halts (rules.terminate_with {A = FlowMeant} (always (checked_of c.now.program.now)) handler (context_of c.now) (world_of G.told c.now.depth w.old)) result (world_of G.told c.now.depth w.new) }
+    ensures none { Halts (rules.terminate_with {A = Unit {0}} (always (checked_of c.now.program.now)) handler (context_of c.now) (world_of G.told c.now.depth w.old)) result (world_of G.told c.now.depth w.new) }
 {
     if c.ending {
         return Halt::Aborted;
@@ -56,11 +56,11 @@ pub fn terminate_with<G: Guests, C: Calls<G>>(
 }
 
 /// Terminate with the handler in effect.
-pub fn terminate<G: Guests, C: Calls<G>>(calls: &C, c: &Context<'_>, w: &mut World<G>) -> Halt
+pub fn terminate<G: Outside, C: Calls<G>>(calls: &C, c: &Context<'_>, w: &mut World<G>) -> Halt
     requires { C.answers calls.now c.now.depth }
-    ensures int { Halts (rules.terminate {A = ℤ} (always (checked_of c.now.program.now)) (context_of c.now) (world_of G.rests c.now.depth w.old)) result (world_of G.rests c.now.depth w.new) }
-    ensures flow { Halts (rules.terminate {A = FlowMeant} (always (checked_of c.now.program.now)) (context_of c.now) (world_of G.rests c.now.depth w.old)) result (world_of G.rests c.now.depth w.new) }
-    ensures none { Halts (rules.terminate {A = Unit {0}} (always (checked_of c.now.program.now)) (context_of c.now) (world_of G.rests c.now.depth w.old)) result (world_of G.rests c.now.depth w.new) }
+    ensures int { Halts (rules.terminate {A = ℤ} (always (checked_of c.now.program.now)) (context_of c.now) (world_of G.told c.now.depth w.old)) result (world_of G.told c.now.depth w.new) }
+    ensures flow { Halts (rules.terminate {A = FlowMeant} (always (checked_of c.now.program.now)) (context_of c.now) (world_of G.told c.now.depth w.old)) result (world_of G.told c.now.depth w.new) }
+    ensures none { Halts (rules.terminate {A = Unit {0}} (always (checked_of c.now.program.now)) (context_of c.now) (world_of G.told c.now.depth w.old)) result (world_of G.told c.now.depth w.new) }
 {
     let handler = w.installed.terminate;
     terminate_with(calls, c, w, handler)
@@ -68,16 +68,16 @@ pub fn terminate<G: Guests, C: Calls<G>>(calls: &C, c: &Context<'_>, w: &mut Wor
 
 /// Terminate because of a doomed exception: a native one is entered, and the handler kept with it is used. While a terminate handler
 /// runs, nothing is entered.
-pub fn terminate_because<G: Guests, C: Calls<G>>(
+pub fn terminate_because<G: Outside, C: Calls<G>>(
     calls: &C,
     c: &Context<'_>,
     w: &mut World<G>,
     number: u64,
 ) -> Halt
     requires { C.answers calls.now c.now.depth }
-    ensures int { Halts (rules.terminate_because {A = ℤ} (always (checked_of c.now.program.now)) number (context_of c.now) (world_of G.rests c.now.depth w.old)) result (world_of G.rests c.now.depth w.new) }
-    ensures flow { Halts (rules.terminate_because {A = FlowMeant} (always (checked_of c.now.program.now)) number (context_of c.now) (world_of G.rests c.now.depth w.old)) result (world_of G.rests c.now.depth w.new) }
-    ensures none { Halts (rules.terminate_because {A = Unit {0}} (always (checked_of c.now.program.now)) number (context_of c.now) (world_of G.rests c.now.depth w.old)) result (world_of G.rests c.now.depth w.new) }
+    ensures int { Halts (rules.terminate_because {A = ℤ} (always (checked_of c.now.program.now)) number (context_of c.now) (world_of G.told c.now.depth w.old)) result (world_of G.told c.now.depth w.new) }
+    ensures flow { Halts (rules.terminate_because {A = FlowMeant} (always (checked_of c.now.program.now)) number (context_of c.now) (world_of G.told c.now.depth w.old)) result (world_of G.told c.now.depth w.new) }
+    ensures none { Halts (rules.terminate_because {A = Unit {0}} (always (checked_of c.now.program.now)) number (context_of c.now) (world_of G.told c.now.depth w.old)) result (world_of G.told c.now.depth w.new) }
 {
     if c.ending {
         return Halt::Aborted;

@@ -5,10 +5,10 @@ use crate::{Callee, Calls, after_handler, entered, rethrow, throw_built};
 use cxx_ast::program::{Checked, Program};
 use cxx_ast::types::Ty;
 use eh_outer::Reply;
-use scope_rules::item::Item;
+use run_items::Item;
 use scope_world::{
-    Argument, Context, Flow, Guard, Guards, Guests, Halt, Installed, Numbers, Part, Reference,
-    World,
+    Argument, Context, Flow, Guard, Guards, Halt, Installed, NoMemory, Numbers, Outside, Part,
+    Reference, World,
 };
 use std::alloc::Global;
 use std::test::Fail;
@@ -17,7 +17,7 @@ use std::test::Fail;
 #[derive(Drop)]
 struct NoCalls;
 
-impl<G: Guests> Calls<G> for NoCalls {
+impl<G: Outside> Calls<G> for NoCalls {
     ghost answers = { λ _ _. ⊤ };
 
     fn call(
@@ -32,15 +32,22 @@ impl<G: Guests> Calls<G> for NoCalls {
     }
 }
 
-// A program without modules.
+// Notes what is written, and has no modules.
 #[derive(Drop)]
-struct Nobody;
+struct Noted {
+    items: Vec<Item>,
+}
 
-impl Guests for Nobody {
-    ghost rests = { λ _. [] };
+impl Outside for Noted {
+    ghost told = { λ it. record { written = it.items.items; replies = [] } };
 
-    fn reply(&mut self, _guest: u32, _argument: i32) -> Reply {
+    fn reply(&mut self, _module: u32, _argument: i32) -> Reply {
         Reply::Value(0)
+    }
+
+    fn emit(&mut self, item: Item) -> Result<(), NoMemory> {
+        self.items.push(item)?;
+        Ok(())
     }
 }
 
@@ -58,15 +65,14 @@ fn empty_program(a: Global) -> Checked {
     }
 }
 
-fn world(a: Global) -> World<Nobody> {
+fn world(a: Global) -> World<Noted> {
     World {
         objects: Vec::new(a),
         input: Vec::new(a),
         read: 0,
-        items: Vec::new(a),
         live: Vec::new(a),
         last_number: 0,
-        guests: Nobody,
+        outside: Noted { items: Vec::new(a) },
         installed: Installed {
             terminate: None,
             unexpected: None,
@@ -94,7 +100,7 @@ fn context<'a>(
 }
 
 // `throw 7;`
-fn seven_thrown(c: &Context<'_>, w: &mut World<Nobody>) -> Result<Halt, Halt> {
+fn seven_thrown(c: &Context<'_>, w: &mut World<Noted>) -> Result<Halt, Halt> {
     let number = w.make()?;
     let object = w.new_object(Part::Cell(Some(7)))?;
     Ok(throw_built(&NoCalls, c, w, number, Ok(object)))
@@ -103,7 +109,7 @@ fn seven_thrown(c: &Context<'_>, w: &mut World<Nobody>) -> Result<Halt, Halt> {
 // An int that is caught by value, and a foreign exception that is caught and left by a forced unwind.
 fn caught_and_left(
     c: &Context<'_>,
-    w: &mut World<Nobody>,
+    w: &mut World<Noted>,
 ) -> Result<(Halt, Result<Flow, Halt>, Result<Flow, Halt>), Halt> {
     let thrown = seven_thrown(c, w)?;
     let _parameter = entered(&NoCalls, c, w, &Some(Ty::Int), 1)?;
@@ -117,7 +123,7 @@ fn caught_and_left(
 // A rethrow with nothing handled, one inside a handler, and the leaving of an inner handler of the same exception.
 fn thrown_again(
     outside: &Context<'_>,
-    w: &mut World<Nobody>,
+    w: &mut World<Noted>,
 ) -> Result<(Halt, Halt, Result<Flow, Halt>), Halt> {
     let nothing = rethrow(&NoCalls, outside, w);
     let _thrown = seven_thrown(outside, w)?;
@@ -135,8 +141,8 @@ fn thrown_again(
 fn thrown_inside(a: Global, program: &Checked, guards: &Guards<'_>) -> (Result<Halt, Halt>, usize) {
     let mut w = world(a);
     let halt = seven_thrown(&context(a, program, &Numbers::None, guards), &mut w);
-    let (items, _deepest, _guests) = w.into_parts();
-    (halt, items.len())
+    let (_deepest, outside) = w.into_parts();
+    (halt, outside.items.len())
 }
 
 #[test]
@@ -163,7 +169,7 @@ fn a_caught_exception_is_entered_left_and_given_back(rt: HostRuntime) -> Result<
     let mut w = world(a);
     let outcomes = caught_and_left(&context(a, &program, &Numbers::None, &caught), &mut w);
     let live = w.live.len();
-    let (items, _deepest, _guests) = w.into_parts();
+    let (_deepest, outside) = w.into_parts();
     let left = (Halt::Thrown(1), Ok(Flow::Breaks), Err(Halt::Cancelled(4)));
     assert_eq!(rt; outcomes, Ok(left));
     let expected = [
@@ -177,7 +183,7 @@ fn a_caught_exception_is_entered_left_and_given_back(rt: HostRuntime) -> Result<
         Item::Leave(2),
         Item::Clean(3, 9),
     ];
-    assert_eq!(rt; items.as_slice(), expected.as_slice());
+    assert_eq!(rt; outside.items.as_slice(), expected.as_slice());
     assert_eq!(rt; live, 0);
     Ok(())
 }
@@ -190,7 +196,7 @@ fn an_exception_stays_while_another_handler_has_it(rt: HostRuntime) -> Result<()
     let mut w = world(a);
     let outcomes = thrown_again(&context(a, &program, &Numbers::None, &caught), &mut w);
     let live = w.live.len();
-    let (_items, _deepest, _guests) = w.into_parts();
+    let (_deepest, _outside) = w.into_parts();
     let left = (Halt::Aborted, Halt::Thrown(1), Ok(Flow::Normal));
     assert_eq!(rt; outcomes, Ok(left));
     assert_eq!(rt; live, 1);

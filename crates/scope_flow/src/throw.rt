@@ -13,20 +13,20 @@ ghost use Rattle.scope_flow.specs.Steps.{built, newest};
 use crate::callee::Calls;
 use crate::terminating::{terminate, terminate_because};
 use eh_outer::Reply;
-use scope_world::{Context, Guests, Halt, Numbers, World, is_doomed};
+use scope_world::{Context, Halt, Numbers, Outside, World, is_doomed};
 
 /// A doomed exception calls terminate before any cleanup runs; any other travels to the guard that stops it.
 #[tactic(auto, using(crate::proofs::Passing::passing, crate::proofs::Raising::raised_doomed, crate::proofs::Raising::raised_thrown))]
-pub fn raise_exception<G: Guests, C: Calls<G>>(
+pub fn raise_exception<G: Outside, C: Calls<G>>(
     calls: &C,
     c: &Context<'_>,
     w: &mut World<G>,
     number: u64,
 ) -> Halt
     requires { C.answers calls.now c.now.depth }
-    ensures int { Halts (rules.raise_exception {A = ℤ} (always (checked_of c.now.program.now)) number (context_of c.now) (world_of G.rests c.now.depth w.old)) result (world_of G.rests c.now.depth w.new) }
-    ensures flow { Halts (rules.raise_exception {A = FlowMeant} (always (checked_of c.now.program.now)) number (context_of c.now) (world_of G.rests c.now.depth w.old)) result (world_of G.rests c.now.depth w.new) }
-    ensures none { Halts (rules.raise_exception {A = Unit {0}} (always (checked_of c.now.program.now)) number (context_of c.now) (world_of G.rests c.now.depth w.old)) result (world_of G.rests c.now.depth w.new) }
+    ensures int { Halts (rules.raise_exception {A = ℤ} (always (checked_of c.now.program.now)) number (context_of c.now) (world_of G.told c.now.depth w.old)) result (world_of G.told c.now.depth w.new) }
+    ensures flow { Halts (rules.raise_exception {A = FlowMeant} (always (checked_of c.now.program.now)) number (context_of c.now) (world_of G.told c.now.depth w.old)) result (world_of G.told c.now.depth w.new) }
+    ensures none { Halts (rules.raise_exception {A = Unit {0}} (always (checked_of c.now.program.now)) number (context_of c.now) (world_of G.told c.now.depth w.old)) result (world_of G.told c.now.depth w.new) }
 {
     if is_doomed(c.program, c.guards, w.exception(number).ty()) {
         terminate_because(calls, c, w, number)
@@ -37,12 +37,12 @@ pub fn raise_exception<G: Guests, C: Calls<G>>(
 
 // Where building exits by an exception or a forced unwind, the object is freed without being destroyed.
 #[tactic(auto, using(crate::proofs::Passing::freed, crate::proofs::Passing::not_freed))]
-fn after_building<G: Guests>(
+fn after_building<G: Outside>(
     w: &mut World<G>,
     number: u64,
     outcome: Result<usize, Halt>,
 ) -> Result<usize, Halt>
-    ensures { (d : ℕ) (m : Outcome ℕ) → Gives m outcome (world_of G.rests d w.old) → Gives (rules.after_building number m) result (world_of G.rests d w.new) }
+    ensures { (d : ℕ) (m : Outcome ℕ) → Gives m outcome (world_of G.told d w.old) → Gives (rules.after_building number m) result (world_of G.told d w.new) }
 {
     match outcome {
         Ok(object) => Ok(object),
@@ -58,7 +58,7 @@ fn after_building<G: Guests>(
 
 /// After its object is built, an exception is thrown.
 #[tactic(auto, using(crate::proofs::Passing::passing, crate::proofs::Raising::built_raised))]
-pub fn throw_built<G: Guests, C: Calls<G>>(
+pub fn throw_built<G: Outside, C: Calls<G>>(
     calls: &C,
     c: &Context<'_>,
     w: &mut World<G>,
@@ -66,7 +66,7 @@ pub fn throw_built<G: Guests, C: Calls<G>>(
     outcome: Result<usize, Halt>,
 ) -> Halt
     requires { C.answers calls.now c.now.depth }
-    ensures { (m : Outcome ℕ) → Gives m outcome (world_of G.rests c.now.depth w.old) → Halts (built (always (checked_of c.now.program.now)) number (context_of c.now) m) result (world_of G.rests c.now.depth w.new) }
+    ensures { (m : Outcome ℕ) → Gives m outcome (world_of G.told c.now.depth w.old) → Halts (built (always (checked_of c.now.program.now)) number (context_of c.now) m) result (world_of G.told c.now.depth w.new) }
 {
     match after_building(w, number, outcome) {
         Ok(object) => match w.keep(number, object) {
@@ -87,9 +87,9 @@ fn newest(handled: &Numbers<'_>) -> Option<u64>
 }
 
 /// `throw;`: the newest handled exception is thrown again; with none, or while it travels, terminate is called.
-pub fn rethrow<G: Guests, C: Calls<G>>(calls: &C, c: &Context<'_>, w: &mut World<G>) -> Halt
+pub fn rethrow<G: Outside, C: Calls<G>>(calls: &C, c: &Context<'_>, w: &mut World<G>) -> Halt
     requires { C.answers calls.now c.now.depth }
-    ensures { Halts (rules.rethrow {A = FlowMeant} (always (checked_of c.now.program.now)) (context_of c.now) (world_of G.rests c.now.depth w.old)) result (world_of G.rests c.now.depth w.new) }
+    ensures { Halts (rules.rethrow {A = FlowMeant} (always (checked_of c.now.program.now)) (context_of c.now) (world_of G.told c.now.depth w.old)) result (world_of G.told c.now.depth w.new) }
 {
     match newest(c.handled) {
         None => terminate(calls, c, w),
@@ -104,7 +104,7 @@ pub fn rethrow<G: Guests, C: Calls<G>>(calls: &C, c: &Context<'_>, w: &mut World
 }
 
 #[tactic(auto, using(crate::proofs::Passing::passing, crate::proofs::Raising::foreign_full, crate::proofs::Raising::foreign_raised))]
-fn raise_foreign<G: Guests, C: Calls<G>>(
+fn raise_foreign<G: Outside, C: Calls<G>>(
     calls: &C,
     c: &Context<'_>,
     w: &mut World<G>,
@@ -112,7 +112,7 @@ fn raise_foreign<G: Guests, C: Calls<G>>(
     token: u32,
 ) -> Halt
     requires { C.answers calls.now c.now.depth }
-    ensures { Halts (rules.raise_foreign {A = ℤ} (always (checked_of c.now.program.now)) guest token (context_of c.now) (world_of G.rests c.now.depth w.old)) result (world_of G.rests c.now.depth w.new) }
+    ensures { Halts (rules.raise_foreign {A = ℤ} (always (checked_of c.now.program.now)) guest token (context_of c.now) (world_of G.told c.now.depth w.old)) result (world_of G.told c.now.depth w.new) }
 {
     if w.is_full() {
         return terminate(calls, c, w);
@@ -124,7 +124,7 @@ fn raise_foreign<G: Guests, C: Calls<G>>(
 }
 
 /// `__module(k, a)`: the next reply of module k is the value, or raises an exception; without such a module the value is 0.
-pub fn call_module<G: Guests, C: Calls<G>>(
+pub fn call_module<G: Outside, C: Calls<G>>(
     calls: &C,
     c: &Context<'_>,
     w: &mut World<G>,
@@ -132,7 +132,7 @@ pub fn call_module<G: Guests, C: Calls<G>>(
     argument: i32,
 ) -> Result<i32, Halt>
     requires { C.answers calls.now c.now.depth }
-    ensures { Gives (rules.call_module (always (checked_of c.now.program.now)) guest (context_of c.now) (world_of G.rests c.now.depth w.old)) result (world_of G.rests c.now.depth w.new) }
+    ensures { Gives (rules.call_module (always (checked_of c.now.program.now)) guest (context_of c.now) (world_of G.told c.now.depth w.old)) result (world_of G.told c.now.depth w.new) }
 {
     let Ok(guest) = u32::try_from(guest) else {
         return Ok(0);

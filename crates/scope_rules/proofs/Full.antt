@@ -5,8 +5,8 @@ use Rattle.cxx_ast.specs.declared.name.Builtin.TheVariants.{Module}
 use Rattle.cxx_ast.specs.declared.types.Ty.TheVariants.{Int}
 use Rattle.cxx_ast.specs.declared.declaration.FuncKind.TheVariants.{Plain}
 use Rattle.cxx_ast.specs.Plain.{number, call, no_expressions, expression_then, throw, try, evaluate, Statement, no_statements, statement_then, no_handlers, handler_then, Checked}
-use Rattle.scope_rules.specs.declared.item.Item.TheVariants.{Make, Foreign, Enter, Leave, Destroy, Free, Clean}
-use Rattle.scope_rules.specs.declared.item.MeanEnd.TheVariants.{Aborted}
+use Rattle.run_items.specs.declared.item.Item.TheVariants.{Make, Foreign, Enter, Leave, Destroy, Free, Clean}
+use Rattle.scope_rules.specs.declared.ending.MeanEnd.TheVariants.{Aborted}
 use Rattle.eh_outer.specs.declared.module.Reply.TheVariants.{Raise}
 use Rattle.scope_rules.specs.World.{building, nowhere}
 use Rattle.scope_rules.specs.Context.{no_context}

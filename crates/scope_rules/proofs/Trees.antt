@@ -7,8 +7,8 @@ use Rattle.cxx_ast.specs.declared.types.Ty.{Ty}
 use Rattle.cxx_ast.specs.declared.types.Param.{Param}
 use Rattle.cxx_ast.specs.declared.declaration.FuncKind.{FuncKind}
 use Rattle.cxx_ast.specs.Plain.{Expressions, Statements, Initialiser, Function, Class, Checked}
-use Rattle.scope_rules.specs.declared.item.Item.{Item}
-use Rattle.scope_rules.specs.declared.item.Item.TheVariants.{Line}
+use Rattle.run_items.specs.declared.item.Item.{Item}
+use Rattle.run_items.specs.declared.item.Item.TheVariants.{Line}
 
 abbrev pub nm : Bound → Name
 nm b = record { text = []; place = 0; bound = b }

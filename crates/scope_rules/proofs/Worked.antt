@@ -8,10 +8,10 @@ use Rattle.cxx_ast.specs.declared.expression.BinaryOp.TheVariants.{Remainder, Ad
 use Rattle.cxx_ast.specs.declared.expression.UnaryOp.TheVariants.{Minus}
 use Rattle.cxx_ast.specs.Plain.{Class as ClassTree, Checked, number, path, unary, binary, call, std_call, no_expressions, expression_then, if_else, return, throw, try, assign, evaluate, local_object, no_else, no_statements, statement_then, no_handlers, handler_then}
 use Rattle.eh_outer.specs.declared.module.Reply.TheVariants.{Value, Raise}
-use Rattle.scope_rules.specs.declared.item.Item.{Item}
-use Rattle.scope_rules.specs.declared.item.Item.TheVariants.{Line, Make, Foreign, Enter, Leave, Destroy, Free, Clean}
-use Rattle.scope_rules.specs.declared.item.MeanEnd.{MeanEnd}
-use Rattle.scope_rules.specs.declared.item.MeanEnd.TheVariants.{Exit, Aborted}
+use Rattle.run_items.specs.declared.item.Item.{Item}
+use Rattle.run_items.specs.declared.item.Item.TheVariants.{Line, Make, Foreign, Enter, Leave, Destroy, Free, Clean}
+use Rattle.scope_rules.specs.declared.ending.MeanEnd.{MeanEnd}
+use Rattle.scope_rules.specs.declared.ending.MeanEnd.TheVariants.{Exit, Aborted}
 use Rattle.scope_rules.specs.Meaning.{Meaning, program_meaning}
 use Rattle.scope_rules.proofs.Trees.{nm, pa, ini, fn, cl, ck, lines_of}
 

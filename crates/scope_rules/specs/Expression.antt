@@ -10,7 +10,7 @@ use Rattle.cxx_ast.specs.declared.types.Ty.TheVariants.{IntRef, ObjectRef}
 use Rattle.cxx_ast.specs.declared.types.Param.{Param}
 use Rattle.cxx_ast.specs.declared.expression.BinaryOp.{BinaryOp}
 use Rattle.cxx_ast.specs.Plain.{Checked, Expression, number, path, paren, unary, binary, call, std_call, Expressions, no_expressions, expression_then}
-use Rattle.scope_rules.specs.declared.item.Item.TheVariants.{Line}
+use Rattle.run_items.specs.declared.item.Item.TheVariants.{Line}
 use Rattle.scope_rules.specs.Class.{class_type, function_at, method_at, derives}
 use Rattle.scope_rules.specs.Part.{part_type}
 use Rattle.scope_rules.specs.World.{World, Reference, nowhere, part_of, as_class}

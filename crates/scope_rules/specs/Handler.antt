@@ -4,7 +4,7 @@ use Rattle.cxx_ast.specs.declared.name.Name.{Name}
 use Rattle.cxx_ast.specs.declared.types.Ty.{Ty}
 use Rattle.cxx_ast.specs.declared.types.Ty.TheVariants.{Int, Object}
 use Rattle.cxx_ast.specs.Plain.{Handlers, no_handlers, handler_then}
-use Rattle.scope_rules.specs.declared.item.Item.TheVariants.{Enter, Leave, Destroy, Clean}
+use Rattle.run_items.specs.declared.item.Item.TheVariants.{Enter, Leave, Destroy, Clean}
 use Rattle.scope_rules.specs.Class.{class_named, class_type, some_of, contains, object_type}
 use Rattle.scope_rules.specs.Part.{cell, unset}
 use Rattle.scope_rules.specs.World.{Exception, building, native, foreign, Reference, whole, nowhere, as_class, exception_at, without_exception}

@@ -2,9 +2,9 @@
 use Rattle.std.specs.Prelude.{ℕ, suc, ℤ, List, [], map, Some, None}
 use Rattle.cxx_ast.specs.Plain.{Checked}
 use Rattle.eh_outer.specs.declared.module.Reply.{Reply}
-use Rattle.scope_rules.specs.declared.item.Item.{Item}
-use Rattle.scope_rules.specs.declared.item.MeanEnd.{MeanEnd}
-use Rattle.scope_rules.specs.declared.item.MeanEnd.TheVariants.{Exit, Aborted, Undefined, OutOfTurns, Deep}
+use Rattle.run_items.specs.declared.item.Item.{Item}
+use Rattle.scope_rules.specs.declared.ending.MeanEnd.{MeanEnd}
+use Rattle.scope_rules.specs.declared.ending.MeanEnd.TheVariants.{Exit, Aborted, Undefined, OutOfTurns, Deep}
 use Rattle.scope_rules.specs.Part.{Part, cell}
 use Rattle.scope_rules.specs.World.{World, nowhere}
 use Rattle.scope_rules.specs.Context.{no_context}

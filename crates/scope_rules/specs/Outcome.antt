@@ -1,6 +1,6 @@
 -- How a computation comes out, and how computations follow one another.
 use Rattle.std.specs.Prelude.{ℕ, ℤ, [], ◌∷◌, ◌++◌, length, Option, Some}
-use Rattle.scope_rules.specs.declared.item.Item.{Item}
+use Rattle.run_items.specs.declared.item.Item.{Item}
 use Rattle.scope_rules.specs.Part.{Part, cell}
 use Rattle.scope_rules.specs.World.{World, Reference, part_of, written}
 

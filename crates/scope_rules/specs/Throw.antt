@@ -2,8 +2,8 @@
 use Rattle.std.specs.Prelude.{ℕ, ◌+◌, ℤ, pos, negsuc, Bool, nat_le, List, [], ◌∷◌, ◌++◌, length, Option, Some, None, slice_get, slice_set, if◌then◌else◌}
 use Rattle.eh_outer.specs.declared.module.Reply.{Reply}
 use Rattle.eh_outer.specs.declared.module.Reply.TheVariants.{Value, Raise}
-use Rattle.scope_rules.specs.declared.item.Item.{Item}
-use Rattle.scope_rules.specs.declared.item.Item.TheVariants.{Make, Foreign, Free}
+use Rattle.run_items.specs.declared.item.Item.{Item}
+use Rattle.run_items.specs.declared.item.Item.TheVariants.{Make, Foreign, Free}
 use Rattle.scope_rules.specs.Class.{contains}
 use Rattle.scope_rules.specs.Part.{part_type}
 use Rattle.scope_rules.specs.World.{World, Exception, building, native, foreign, object_at, type_at, with_exception, without_exception}

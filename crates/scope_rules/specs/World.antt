@@ -2,7 +2,7 @@
 use Rattle.std.specs.Prelude.{ℕ, ℤ, ◌==◌, List, [], ◌∷◌, ◌++◌, map, filter, not, Option, Some, None, slice_get, slice_set, unwrap_or, if◌then◌else◌}
 use Rattle.cxx_ast.specs.Plain.{Checked}
 use Rattle.eh_outer.specs.declared.module.Reply.{Reply}
-use Rattle.scope_rules.specs.declared.item.Item.{Item}
+use Rattle.run_items.specs.declared.item.Item.{Item}
 use Rattle.scope_rules.specs.Class.{ObjectType, member_place}
 use Rattle.scope_rules.specs.Part.{Part, cell, part_at, with_part_at, path_to_class}
 

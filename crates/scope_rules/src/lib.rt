@@ -1,6 +1,6 @@
 //! What a program means. `specs/` has the definitions, over plain trees: its objects and exceptions, what each expression, statement,
-//! call, throw and handler does, and the program's items and end. The types here are those of the items and the end.
+//! call, throw and handler does, and how the program ends.
 #![tactic(auto)]
 
-pub mod item;
+pub mod ending;
 pub mod laws;

@@ -1,3 +1,4 @@
 pub mod Parted
 pub mod Listed
 pub mod Replied
+pub mod Emitted

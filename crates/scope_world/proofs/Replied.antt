@@ -5,10 +5,9 @@ use Rattle.eh_outer.specs.declared.module.Reply.{Reply}
 use Rattle.eh_outer.specs.declared.module.Reply.TheVariants.{Value}
 use Rattle.scope_rules.specs.World.{World}
 use Rattle.scope_rules.specs.Context.{Context}
-use Rattle.scope_rules.specs.Outcome.{done}
 use Rattle.scope_rules.specs.Running.{Running}
 use Rattle.scope_rules.specs.Throw.{take_reply, answered}
-use Rattle.scope_world.specs.Guests.{reply_from, rests_after}
+use Rattle.scope_world.specs.Outside.{reply_from, rests_after}
 
 -- a module that gives the value 0 and stays as it is
 abbrev Silent : ℕ → List (List Reply) → Type 0

@@ -1,6 +1,6 @@
 -- What the cleanup of a foreign exception does.
 use Rattle.std.specs.Prelude.{ℕ}
-use Rattle.scope_rules.specs.declared.item.Item.TheVariants.{Clean}
+use Rattle.run_items.specs.declared.item.Item.TheVariants.{Clean}
 use Rattle.scope_rules.specs.World.{without_exception}
 use Rattle.scope_rules.specs.Outcome.{Action, change, emit, ◌>>◌}
 

@@ -1,11 +1,11 @@
 -- How what the evaluator answers is the outcome of a computation.
-use Rattle.std.specs.Prelude.{◌≡◌, ⊤, Bool, true, false, ℕ, ℤ, Option, Ok, Err, Result as CodeResult}
+use Rattle.std.specs.Prelude.{◌≡◌, ⊤, Bool, true, false, Ok, Err, Result as CodeResult}
 use Rattle.scope_world.specs.declared.outcome.Halt.{Halt}
 use Rattle.scope_world.specs.declared.outcome.Halt.TheVariants as halts
 use Rattle.scope_world.specs.declared.outcome.Flow.{Flow as CodeFlow}
 use Rattle.scope_world.specs.declared.outcome.Flow.TheVariants as flows
 use Rattle.scope_rules.specs.World.{World}
-use Rattle.scope_rules.specs.Outcome.{Result, done, stopped, Stop, thrown, cancelled, ended, exit, aborted, undefined, out_of_turns, deep, Flow, normal, breaks, continues, returns}
+use Rattle.scope_rules.specs.Outcome.{Result, done, stopped, thrown, cancelled, ended, exit, aborted, undefined, out_of_turns, deep, Flow, normal, breaks, continues, returns}
 
 -- how a statement goes on
 abbrev pub flow_of : CodeFlow → Flow

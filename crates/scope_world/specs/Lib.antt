@@ -4,4 +4,4 @@ pub mod Seen
 pub mod Gives
 pub mod Program
 pub mod Cleaned
-pub mod Guests
+pub mod Outside

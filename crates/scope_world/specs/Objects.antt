@@ -1,5 +1,5 @@
 -- The objects that the evaluator's stand for.
-use Rattle.std.specs.Prelude.{Option, Some, None, unwrap_or, option_map, map}
+use Rattle.std.specs.Prelude.{Option, None, unwrap_or}
 use Rattle.cxx_ast.specs.View.{option_of}
 use Rattle.scope_world.specs.declared.object.ObjectType.{ObjectType as CodeType}
 use Rattle.scope_world.specs.declared.object.ObjectType.TheVariants.{Int, Class}

@@ -1,5 +1,5 @@
 -- The functions and classes that the evaluator finds, where one may be missing.
-use Rattle.std.specs.Prelude.{Option, Some, None, unwrap_or, option_map}
+use Rattle.std.specs.Prelude.{Option, unwrap_or}
 use Rattle.cxx_ast.specs.View.{option_of, function_of, class_of}
 use Rattle.cxx_ast.specs.Plain.{Function, Class}
 use Rattle.cxx_ast.specs.declared.declaration.Func.{Func}

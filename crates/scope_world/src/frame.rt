@@ -14,8 +14,8 @@ ghost use Rattle.scope_world.specs.Seen.{world_of};
 use crate::NoMemory;
 use crate::class::class_named;
 use crate::context::Context;
-use crate::guests::Guests;
 use crate::object::{Part, Reference};
+use crate::outside::Outside;
 use crate::world::World;
 use cxx_ast::name::{Bound, Name};
 use cxx_ast::types::{Param, Ty};
@@ -100,13 +100,13 @@ fn place_of<'a>(
 }
 
 // What a name names by itself.
-fn named<G: Guests>(
+fn named<G: Outside>(
     c: &Context<'_>,
     w: &World<G>,
     frame: &Frame<'_>,
     bound: Bound,
 ) -> Result<Reference, NoMemory>
-    ensures { (d : ℕ) → IfOk result (λ r. reference_of r ≡ rules.named (checked_of c.now.program.now) (world_of G.rests d w.now) (frame_of frame.now) bound) }
+    ensures { (d : ℕ) → IfOk result (λ r. reference_of r ≡ rules.named (checked_of c.now.program.now) (world_of G.told d w.now) (frame_of frame.now) bound) }
 {
     match bound {
         Bound::Global(number) => Ok(Reference::whole(c.alloc, number as usize)),
@@ -122,13 +122,13 @@ fn named<G: Guests>(
 }
 
 // What a name names after a dot.
-fn member_named<G: Guests>(
+fn member_named<G: Outside>(
     c: &Context<'_>,
     w: &World<G>,
     bound: Bound,
     at: Reference,
 ) -> Result<Reference, NoMemory>
-    ensures { (d : ℕ) → IfOk result (λ r. reference_of r ≡ rules.member_named (checked_of c.now.program.now) (world_of G.rests d w.now) bound (reference_of at)) }
+    ensures { (d : ℕ) → IfOk result (λ r. reference_of r ≡ rules.member_named (checked_of c.now.program.now) (world_of G.told d w.now) bound (reference_of at)) }
 {
     match bound {
         Bound::Field(class, member) => w.member(c.program, class, member, at),
@@ -137,13 +137,13 @@ fn member_named<G: Guests>(
 }
 
 /// What `a.b.c` names; with no name at all, the object that the function works on.
-pub fn lvalue<G: Guests>(
+pub fn lvalue<G: Outside>(
     c: &Context<'_>,
     w: &World<G>,
     frame: &Frame<'_>,
     names: &[Name],
 ) -> Result<Reference, NoMemory>
-    ensures { (d : ℕ) → IfOk result (λ r. reference_of r ≡ rules.lvalue (checked_of c.now.program.now) (world_of G.rests d w.now) (frame_of frame.now) names.now) }
+    ensures { (d : ℕ) → IfOk result (λ r. reference_of r ≡ rules.lvalue (checked_of c.now.program.now) (world_of G.told d w.now) (frame_of frame.now) names.now) }
 {
     let Some((first, more)) = names.split_first() else {
         return frame.this.copied(c.alloc);
@@ -158,8 +158,8 @@ pub fn lvalue<G: Guests>(
 }
 
 /// What a reference of a type names, bound to an lvalue.
-pub fn bound_as<G: Guests>(w: &World<G>, ty: &Ty, at: Reference) -> Result<Reference, NoMemory>
-    ensures { (d : ℕ) → IfOk result (λ r. reference_of r ≡ rules.bound_as (world_of G.rests d w.now) ty.now (reference_of at)) }
+pub fn bound_as<G: Outside>(w: &World<G>, ty: &Ty, at: Reference) -> Result<Reference, NoMemory>
+    ensures { (d : ℕ) → IfOk result (λ r. reference_of r ≡ rules.bound_as (world_of G.told d w.now) ty.now (reference_of at)) }
 {
     match ty {
         Ty::ObjectRef(_, name) => w.as_class(class_named(name), at),
@@ -168,12 +168,12 @@ pub fn bound_as<G: Guests>(w: &World<G>, ty: &Ty, at: Reference) -> Result<Refer
 }
 
 // What a parameter names: by value a new object, and by reference what the argument names.
-fn bind<G: Guests>(
+fn bind<G: Outside>(
     c: &Context<'_>,
     w: &mut World<G>,
     argument: &Argument,
 ) -> Result<Reference, NoMemory>
-    ensures { (d : ℕ) (x : ParamMeant) (f : FrameMeant) → IfOk result (λ r. rules.with_argument x (argument_of argument.now) f (world_of G.rests d w.old) ≡ done (rules.with_parameter x.name (reference_of r) f) (world_of G.rests d w.new)) }
+    ensures { (d : ℕ) (x : ParamMeant) (f : FrameMeant) → IfOk result (λ r. rules.with_argument x (argument_of argument.now) f (world_of G.told d w.old) ≡ done (rules.with_parameter x.name (reference_of r) f) (world_of G.told d w.new)) }
 {
     match argument {
         Argument::Value(value) => {
@@ -201,14 +201,14 @@ fn declare(
     }
 }
 
-fn bind_all<G: Guests>(
+fn bind_all<G: Outside>(
     c: &Context<'_>,
     w: &mut World<G>,
     parameters: &[Param],
     given: &[Argument],
     variables: &mut Vec<Variable>,
 ) -> Result<(), NoMemory>
-    ensures { (d : ℕ) (this : ReferenceMeant) → IfOk result (λ a. rules.with_arguments parameters.now (map argument_of given.now) (first_frame this variables.old.items) (world_of G.rests d w.old) ≡ done (first_frame this variables.new.items) (world_of G.rests d w.new)) }
+    ensures { (d : ℕ) (this : ReferenceMeant) → IfOk result (λ a. rules.with_arguments parameters.now (map argument_of given.now) (first_frame this variables.old.items) (world_of G.told d w.old) ≡ done (first_frame this variables.new.items) (world_of G.told d w.new)) }
 {
     let (Some((parameter, parameters)), Some((argument, given))) = (
         parameters.split_first(),
@@ -222,13 +222,13 @@ fn bind_all<G: Guests>(
 }
 
 /// The parameters of a call, bound to its arguments.
-pub fn parameters_bound<G: Guests>(
+pub fn parameters_bound<G: Outside>(
     c: &Context<'_>,
     w: &mut World<G>,
     parameters: &[Param],
     given: &[Argument],
 ) -> Result<Vec<Variable>, NoMemory>
-    ensures { (d : ℕ) (this : ReferenceMeant) → IfOk result (λ bound. rules.with_arguments parameters.now (map argument_of given.now) (record { this = this; variables = [] }) (world_of G.rests d w.old) ≡ done (first_frame this bound.items) (world_of G.rests d w.new)) }
+    ensures { (d : ℕ) (this : ReferenceMeant) → IfOk result (λ bound. rules.with_arguments parameters.now (map argument_of given.now) (record { this = this; variables = [] }) (world_of G.told d w.old) ≡ done (first_frame this bound.items) (world_of G.told d w.new)) }
 {
     let mut variables = Vec::new(c.alloc);
     bind_all(c, w, parameters, given, &mut variables)?;

@@ -1,4 +1,4 @@
-//! What a running program has: its objects, its exceptions, the replies of its modules, the variables of a call, and what an evaluation is given and answers.
+//! What a running program has: its objects, its exceptions, what is outside it, the variables of a call, and what an evaluation is given and answers.
 #![tactic(auto)]
 
 mod class;
@@ -6,10 +6,10 @@ mod context;
 mod exception;
 mod frame;
 mod guard;
-mod guests;
 mod object;
 mod operators;
 mod outcome;
+mod outside;
 #[cfg(test)]
 mod tests;
 mod world;
@@ -22,9 +22,9 @@ pub use context::{Context, Guard, Guards, Numbers};
 pub use exception::{Exception, Installed, Live};
 pub use frame::{Argument, Frame, Locals, Variable, bound_as, lvalue, parameters_bound};
 pub use guard::{allows, is_doomed, matches};
-pub use guests::Guests;
 pub use object::{ObjectType, Part, Parts, Reference};
 pub use operators::{binary_value, decided, truth, unary_value};
 pub use outcome::{Flow, Halt};
+pub use outside::Outside;
 pub use std::alloc::AllocError as NoMemory;
 pub use world::World;

@@ -2,8 +2,8 @@
 ghost use Rattle.std.specs.Prelude.{[]};
 
 use crate::{
-    Guard, Guards, Guests, Halt, Installed, ObjectType, Part, Reference, World, binary_value,
-    decided, derives, is_doomed, member_place, parts_of, unary_value, unset,
+    Guard, Guards, Halt, Installed, NoMemory, ObjectType, Outside, Part, Reference, World,
+    binary_value, decided, derives, is_doomed, member_place, parts_of, unary_value, unset,
 };
 use cxx_ast::declaration::ClassDecl;
 use cxx_ast::expression::{BinaryOp, UnaryOp};
@@ -13,7 +13,7 @@ use cxx_ast::statement::Handler;
 use cxx_ast::text::Text;
 use cxx_ast::types::{Param, Ty};
 use eh_outer::Reply;
-use scope_rules::item::Item;
+use run_items::Item;
 use std::alloc::{AllocError, Global};
 use std::test::Fail;
 
@@ -68,27 +68,33 @@ fn program(a: Global) -> Result<Checked, AllocError> {
     })
 }
 
-// A program's world without modules.
+// Notes what is written, and has no modules.
 #[derive(Drop)]
-struct Nobody;
+struct Noted {
+    items: Vec<Item>,
+}
 
-impl Guests for Nobody {
-    ghost rests = { λ _. [] };
+impl Outside for Noted {
+    ghost told = { λ it. record { written = it.items.items; replies = [] } };
 
-    fn reply(&mut self, _guest: u32, _argument: i32) -> Reply {
+    fn reply(&mut self, _module: u32, _argument: i32) -> Reply {
         Reply::Value(0)
+    }
+
+    fn emit(&mut self, item: Item) -> Result<(), NoMemory> {
+        self.items.push(item)?;
+        Ok(())
     }
 }
 
-fn world(a: Global, input: Vec<u8>) -> World<Nobody> {
+fn world(a: Global, input: Vec<u8>) -> World<Noted> {
     World {
         objects: Vec::new(a),
         input,
         read: 0,
-        items: Vec::new(a),
         live: Vec::new(a),
         last_number: 0,
-        guests: Nobody,
+        outside: Noted { items: Vec::new(a) },
         installed: Installed {
             terminate: None,
             unexpected: None,
@@ -142,14 +148,17 @@ fn objects_and_exceptions(rt: HostRuntime) -> Result<(), Fail> {
     let reply = w.reply(0, 1);
     let ty = w.exception(1).ty();
     let freed = w.free(1).is_ok();
-    let (items, _deepest, _guests) = w.into_parts();
+    let (_deepest, outside) = w.into_parts();
     assert!(rt; made && freed);
     assert_eq!(rt; (unset, set), (Err(Halt::Undefined), Ok(7)));
     assert_eq!(rt; bytes, (65, -1));
     assert_eq!(rt; turns, (Ok(()), Err(Halt::OutOfTurns)));
     assert_eq!(rt; reply, Reply::Value(0));
     assert_eq!(rt; ty, Some(ObjectType::Class(2)));
-    assert_eq!(rt; items.as_slice(), [Item::Make(1), Item::Free(1)].as_slice());
+    assert_eq!(rt;
+        outside.items.as_slice(),
+        [Item::Make(1), Item::Free(1)].as_slice()
+    );
     Ok(())
 }
 

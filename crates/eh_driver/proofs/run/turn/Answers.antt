@@ -5,7 +5,7 @@ use Rattle.rv64_isa.specs.State.{reg_of}
 use Rattle.eh_driver.specs.Output.{line_of}
 use Rattle.eh_driver.specs.Run.{as_int, run_of}
 use Rattle.eh_driver.proofs.Main.{failed_put}
-use Rattle.eh_driver.proofs.Puts.{takes_none, takes_one}
+use Rattle.run_items.proofs.Puts.{takes_none, takes_one}
 use Rattle.eh_driver.proofs.Turns.{run_done, run_fault, run_exit, run_write, run_other, ended, write_failed}
 use Rattle.eh_driver.proofs.run.turn.Goals as goal
 

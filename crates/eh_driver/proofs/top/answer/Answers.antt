@@ -1,25 +1,30 @@
+use Rattle.std.proofs.Common.{subst, map}
 use Rattle.command_line.specs.Command.{command_of}
-use Rattle.eh_driver.specs.Words.{name_in, texts}
+use Rattle.eh_driver.specs.Answer.{Reports}
+use Rattle.eh_driver.specs.File.{refused_name}
+use Rattle.eh_driver.specs.Words.{texts}
+use Rattle.eh_driver.proofs.Named.{text_named}
 use Rattle.eh_driver.proofs.Words.{no_name, unread}
 use Rattle.eh_driver.proofs.top.answer.Goals as goal
 
 pub returns-in-Ok-clause-report : goal.returns-in-Ok-clause-report
 returns-in-Ok-clause-report g c =
-    let report = rw c.file_of-file.ensures at c.report-in-Ok.ensures in
-    rw c.in-Ok.ensures report
+    let ended = c.execute-ended in
+    subst (λ text. Reports text (g.Er.Sink.view c.args.err.now) (g.Er.Sink.view c.report-in-Ok.new.err))
+    (text_named ended.result.status ended.result.file.now (g.St.Store.view ended.new.store) ended.ensures.name) c.report-in-Ok.ensures
 
 pub returns-in-Err-clause-report : goal.returns-in-Err-clause-report
 returns-in-Err-clause-report g c =
-    let name = name_in (command_of (texts c.args.words.now.items)) in
+    let name = refused_name (g.St.Store.view c.args.store.now) in
     let report = rw c.from-status.ensures at c.report.ensures in
     rw c.from-status.ensures (rw (no_name c.in-Err.error name) at report)
 
 pub returns-in-Ok-clause-cause : goal.returns-in-Ok-clause-cause
 returns-in-Ok-clause-cause g c =
-    let cause = rw c.file_of-file.ensures at c.execute-status.ensures.cause in
+    let cause = rw (c.question_of-question.ensures (map g.M.Module.view c.args.modules.now.items)) at c.execute-ended.ensures.cause in
     rw c.in-Ok.ensures cause
 
 pub returns-in-Err-clause-cause : goal.returns-in-Err-clause-cause
 returns-in-Err-clause-cause g c =
     rw c.from-status.ensures
-    (unread (command_of (texts c.args.words.now.items)) c.in-Err.error (g.St.Store.view c.args.store.now) (g.Out.Sink.view c.args.out.now) c.in-Err.ensures)
+    (unread (map g.M.Module.view c.args.modules.now.items) (command_of (texts c.args.words.now.items)) c.in-Err.error (g.St.Store.view c.args.store.now) (g.Out.Sink.view c.args.out.now) c.in-Err.ensures)

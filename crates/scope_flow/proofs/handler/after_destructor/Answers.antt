@@ -9,8 +9,8 @@ returns-then-unwinds g c = λ d m h.
     let halt = c.in-Err.halt in
     let stopped_so = rw c.in-Err.is at h in
     let u : unwinds halt ≡ true = search rules in
-    destroyed_halts c.args.number m halt (world_of g.G.Guests.rests d c.args.w.now) (world_of g.G.Guests.rests d c.free-then-unwinds.new.self) u stopped_so (c.in_ok-free-in-Err.ensures d)
+    destroyed_halts c.args.number m halt (world_of g.G.Outside.told d c.args.w.now) (world_of g.G.Outside.told d c.free-then-unwinds.new.self) u stopped_so (c.in_ok-free-in-Err.ensures d)
 
 pub returns-in_ok-free-in-Ok : goal.returns-in_ok-free-in-Ok
 returns-in_ok-free-in-Ok g c = λ d m h.
-    destroyed c.args.number m (world_of g.G.Guests.rests d c.args.w.now) (world_of g.G.Guests.rests d c.free.new.self) (rw c.in-Ok.is at h) (c.in_ok-free-in-Ok.ensures d)
+    destroyed c.args.number m (world_of g.G.Outside.told d c.args.w.now) (world_of g.G.Outside.told d c.free.new.self) (rw c.in-Ok.is at h) (c.in_ok-free-in-Ok.ensures d)

@@ -10,5 +10,5 @@ returns-in-Some g c = λ m h.
     let d = c.args.c.now.depth in
     let r = always (checked_of c.args.c.now.program.now) in
     let k = context_of c.args.c.now in
-    let w = world_of g.G.Guests.rests d c.args.w.now in
-    left_knowing r c.args.number k m c.in-Some.kept (world_of g.G.Guests.rests d c.after_scope.new.w) c.after_scope.result (c.in-Some.ensures m w h) (c.after_scope.ensures m h)
+    let w = world_of g.G.Outside.told d c.args.w.now in
+    left_knowing r c.args.number k m c.in-Some.kept (world_of g.G.Outside.told d c.after_scope.new.w) c.after_scope.result (c.in-Some.ensures m w h) (c.after_scope.ensures m h)

@@ -10,13 +10,13 @@ returns-then-is_refused g c =
     let d = c.args.c.now.depth in
     let r = always (checked_of c.args.c.now.program.now) in
     let k = context_of c.args.c.now in
-    let w = world_of g.G.Guests.rests d c.args.w.now in
-    enter_refused r c.args.number k w (world_of g.G.Guests.rests d c.terminate.new.w) c.terminate.result c.is_refused.result (c.is_refused.ensures d) c.if-is_refused.true c.terminate.ensures.none
+    let w = world_of g.G.Outside.told d c.args.w.now in
+    enter_refused r c.args.number k w (world_of g.G.Outside.told d c.terminate.new.w) c.terminate.result c.is_refused.result (c.is_refused.ensures d) c.if-is_refused.true c.terminate.ensures.none
 
 pub returns : goal.returns
 returns g c =
     let d = c.args.c.now.depth in
     let r = always (checked_of c.args.c.now.program.now) in
     let k = context_of c.args.c.now in
-    let w = world_of g.G.Guests.rests d c.args.w.now in
-    enter_done r c.args.number k w (world_of g.G.Guests.rests d c.emit.new.self) c.is_refused.result (c.is_refused.ensures d) c.if-is_refused.false (c.in_ok-emit.ensures d)
+    let w = world_of g.G.Outside.told d c.args.w.now in
+    enter_done r c.args.number k w (world_of g.G.Outside.told d c.emit.new.self) c.is_refused.result (c.is_refused.ensures d) c.if-is_refused.false (c.in_ok-emit.ensures d)

@@ -13,20 +13,20 @@ returns g c =
     let d = c.args.c.now.depth in
     let r = always (checked_of c.args.c.now.program.now) in
     let k = context_of c.args.c.now in
-    let w = world_of g.G.Guests.rests d c.args.w.now in
+    let w = world_of g.G.Outside.told d c.args.w.now in
     let x = exception_of c.exception.result in
     let source = reference_of c.object-source.result in
-    entered_done r c.args.ty.now c.args.number k w (world_of g.G.Guests.rests d c.catch_parameter.new.w) (world_of g.G.Guests.rests d c.enter.new.w) source (reference_of c.in_ok-parameter.parameter) x c.object-source.ensures (c.exception.ensures d) c.in_ok-parameter.ensures c.in_ok-enter.ensures
+    entered_done r c.args.ty.now c.args.number k w (world_of g.G.Outside.told d c.catch_parameter.new.w) (world_of g.G.Outside.told d c.enter.new.w) source (reference_of c.in_ok-parameter.parameter) x c.object-source.ensures (c.exception.ensures d) c.in_ok-parameter.ensures c.in_ok-enter.ensures
 
 pub returns-in_err-enter : goal.returns-in_err-enter
 returns-in_err-enter g c =
     let d = c.args.c.now.depth in
     let r = always (checked_of c.args.c.now.program.now) in
     let k = context_of c.args.c.now in
-    let w = world_of g.G.Guests.rests d c.args.w.now in
+    let w = world_of g.G.Outside.told d c.args.w.now in
     let x = exception_of c.exception.result in
     let source = reference_of c.object-source.result in
-    let halted = entry_halted r c.args.ty.now c.args.number k w (world_of g.G.Guests.rests d c.catch_parameter.new.w) (world_of g.G.Guests.rests d c.enter.new.w) source (reference_of c.in_ok-parameter.parameter) x c.in_err-enter.field-0.0 c.object-source.ensures (c.exception.ensures d) c.in_ok-parameter.ensures c.in_err-enter.ensures in
+    let halted = entry_halted r c.args.ty.now c.args.number k w (world_of g.G.Outside.told d c.catch_parameter.new.w) (world_of g.G.Outside.told d c.enter.new.w) source (reference_of c.in_ok-parameter.parameter) x c.in_err-enter.field-0.0 c.object-source.ensures (c.exception.ensures d) c.in_ok-parameter.ensures c.in_err-enter.ensures in
     search (rules, halted)
 
 pub returns-in_err-parameter : goal.returns-in_err-parameter
@@ -34,8 +34,8 @@ returns-in_err-parameter g c =
     let d = c.args.c.now.depth in
     let r = always (checked_of c.args.c.now.program.now) in
     let k = context_of c.args.c.now in
-    let w = world_of g.G.Guests.rests d c.args.w.now in
+    let w = world_of g.G.Outside.told d c.args.w.now in
     let x = exception_of c.exception.result in
     let source = reference_of c.object-source.result in
-    let halted = parameter_halted r c.args.ty.now c.args.number k w (world_of g.G.Guests.rests d c.catch_parameter.new.w) source x c.in_err-parameter.field-0.0 c.object-source.ensures (c.exception.ensures d) c.in_err-parameter.ensures in
+    let halted = parameter_halted r c.args.ty.now c.args.number k w (world_of g.G.Outside.told d c.catch_parameter.new.w) source x c.in_err-parameter.field-0.0 c.object-source.ensures (c.exception.ensures d) c.in_err-parameter.ensures in
     search (rules, halted)

@@ -13,7 +13,7 @@ returns-then-is_allowed g c = λ m h.
     let d = c.args.c.now.depth in
     let r = always (checked_of c.args.c.now.program.now) in
     let k = context_of c.args.c.now in
-    let w = world_of g.G.Guests.rests d c.args.w.now in
+    let w = world_of g.G.Outside.told d c.args.w.now in
     let types = map object_type c.args.types.now in
     let e : m ≡ stopped (thrown c.in-Thrown.number) w = rw c.in-Thrown.is at (rw c.in-Err.is at h) in
     extent_allowed r types k m c.in-Thrown.number w c.is_allowed.result e (c.is_allowed.ensures d) c.if-is_allowed.true
@@ -23,7 +23,7 @@ returns-else-is_allowed g c = λ m h.
     let d = c.args.c.now.depth in
     let r = always (checked_of c.args.c.now.program.now) in
     let k = context_of c.args.c.now in
-    let w = world_of g.G.Guests.rests d c.args.w.now in
+    let w = world_of g.G.Outside.told d c.args.w.now in
     let types = map object_type c.args.types.now in
     let e : m ≡ stopped (thrown c.in-Thrown.number) w = rw c.in-Thrown.is at (rw c.in-Err.is at h) in
-    extent_stops r types k m c.in-Thrown.number w (world_of g.G.Guests.rests d c.unexpected.new.w) c.unexpected.result c.is_allowed.result e (c.is_allowed.ensures d) c.if-is_allowed.false c.unexpected.ensures
+    extent_stops r types k m c.in-Thrown.number w (world_of g.G.Outside.told d c.unexpected.new.w) c.unexpected.result c.is_allowed.result e (c.is_allowed.ensures d) c.if-is_allowed.false c.unexpected.ensures

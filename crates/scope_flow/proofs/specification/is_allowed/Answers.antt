@@ -9,4 +9,4 @@ use Rattle.scope_flow.proofs.specification.is_allowed.Goals as goal
 
 pub returns : goal.returns
 returns g c = λ d.
-    allowed_as (always (checked_of c.args.c.now.program.now)) (map object_type c.args.types.now) (world_of g.G.Guests.rests d c.args.w.now) c.args.number (exception_of c.exception.result) (option_of type_of c.ty.result) c.allows.result (c.exception.ensures d) c.ty.ensures c.allows.ensures
+    allowed_as (always (checked_of c.args.c.now.program.now)) (map object_type c.args.types.now) (world_of g.G.Outside.told d c.args.w.now) c.args.number (exception_of c.exception.result) (option_of type_of c.ty.result) c.allows.result (c.exception.ensures d) c.ty.ensures c.allows.ensures

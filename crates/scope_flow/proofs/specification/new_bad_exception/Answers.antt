@@ -12,14 +12,14 @@ returns g c =
     let d = c.args.c.now.depth in
     let r = always (checked_of c.args.c.now.program.now) in
     let k = context_of c.args.c.now in
-    let w = world_of g.G.Guests.rests d c.args.w.now in
-    bad_made r k w (world_of g.G.Guests.rests d c.new_object.new.self) (world_of g.G.Guests.rests d c.default_object.new.w) c.in_ok-object.object (part_of c.in_ok-part.part) (reference_of c.whole.result) c.in_ok-part.ensures (c.in_ok-object.ensures d) c.whole.ensures c.in_ok-default_object.ensures
+    let w = world_of g.G.Outside.told d c.args.w.now in
+    bad_made r k w (world_of g.G.Outside.told d c.new_object.new.self) (world_of g.G.Outside.told d c.default_object.new.w) c.in_ok-object.object (part_of c.in_ok-part.part) (reference_of c.whole.result) c.in_ok-part.ensures (c.in_ok-object.ensures d) c.whole.ensures c.in_ok-default_object.ensures
 
 pub returns-in_err-default_object : goal.returns-in_err-default_object
 returns-in_err-default_object g c =
     let d = c.args.c.now.depth in
     let r = always (checked_of c.args.c.now.program.now) in
     let k = context_of c.args.c.now in
-    let w = world_of g.G.Guests.rests d c.args.w.now in
-    let halted = bad_halted r k w (world_of g.G.Guests.rests d c.new_object.new.self) (world_of g.G.Guests.rests d c.default_object.new.w) c.in_ok-object.object (part_of c.in_ok-part.part) (reference_of c.whole.result) c.in_err-default_object.field-0.0 c.in_ok-part.ensures (c.in_ok-object.ensures d) c.whole.ensures c.in_err-default_object.ensures in
+    let w = world_of g.G.Outside.told d c.args.w.now in
+    let halted = bad_halted r k w (world_of g.G.Outside.told d c.new_object.new.self) (world_of g.G.Outside.told d c.default_object.new.w) c.in_ok-object.object (part_of c.in_ok-part.part) (reference_of c.whole.result) c.in_err-default_object.field-0.0 c.in_ok-part.ensures (c.in_ok-object.ensures d) c.whole.ensures c.in_err-default_object.ensures in
     search (rules, halted)

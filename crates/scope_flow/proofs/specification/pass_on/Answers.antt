@@ -13,27 +13,27 @@ returns-then-is_allowed g c =
     let d = c.args.c.now.depth in
     let r = always (checked_of c.args.c.now.program.now) in
     let k = context_of c.args.c.now in
-    let w = world_of g.G.Guests.rests d c.args.w.now in
+    let w = world_of g.G.Outside.told d c.args.w.now in
     let types = map object_type c.args.types.now in
     let kept = installed_of c.args.kept in
-    passed_again r types kept c.args.number k w (world_of g.G.Guests.rests d c.raise_exception.new.w) c.raise_exception.result c.is_allowed.result (c.is_allowed.ensures d) c.if-is_allowed.true c.raise_exception.ensures.flow
+    passed_again r types kept c.args.number k w (world_of g.G.Outside.told d c.raise_exception.new.w) c.raise_exception.result c.is_allowed.result (c.is_allowed.ensures d) c.if-is_allowed.true c.raise_exception.ensures.flow
 
 pub returns-then-lists_bad_exception : goal.returns-then-lists_bad_exception
 returns-then-lists_bad_exception g c =
     let d = c.args.c.now.depth in
     let r = always (checked_of c.args.c.now.program.now) in
     let k = context_of c.args.c.now in
-    let w = world_of g.G.Guests.rests d c.args.w.now in
+    let w = world_of g.G.Outside.told d c.args.w.now in
     let types = map object_type c.args.types.now in
     let kept = installed_of c.args.kept in
-    passed_bad r types kept c.args.number k w (world_of g.G.Guests.rests d c.throw_bad_exception.new.w) c.throw_bad_exception.result c.is_allowed.result c.lists_bad_exception.result (c.is_allowed.ensures d) c.if-is_allowed.false c.lists_bad_exception.ensures c.if-lists_bad_exception.true c.throw_bad_exception.ensures
+    passed_bad r types kept c.args.number k w (world_of g.G.Outside.told d c.throw_bad_exception.new.w) c.throw_bad_exception.result c.is_allowed.result c.lists_bad_exception.result (c.is_allowed.ensures d) c.if-is_allowed.false c.lists_bad_exception.ensures c.if-lists_bad_exception.true c.throw_bad_exception.ensures
 
 pub returns-else-lists_bad_exception : goal.returns-else-lists_bad_exception
 returns-else-lists_bad_exception g c =
     let d = c.args.c.now.depth in
     let r = always (checked_of c.args.c.now.program.now) in
     let k = context_of c.args.c.now in
-    let w = world_of g.G.Guests.rests d c.args.w.now in
+    let w = world_of g.G.Outside.told d c.args.w.now in
     let types = map object_type c.args.types.now in
     let kept = installed_of c.args.kept in
-    passed_ended r types kept c.args.number k w (world_of g.G.Guests.rests d c.terminate_with.new.w) c.terminate_with.result c.is_allowed.result c.lists_bad_exception.result (c.is_allowed.ensures d) c.if-is_allowed.false c.lists_bad_exception.ensures c.if-lists_bad_exception.false c.terminate_with.ensures.flow
+    passed_ended r types kept c.args.number k w (world_of g.G.Outside.told d c.terminate_with.new.w) c.terminate_with.result c.is_allowed.result c.lists_bad_exception.result (c.is_allowed.ensures d) c.if-is_allowed.false c.lists_bad_exception.ensures c.if-lists_bad_exception.false c.terminate_with.ensures.flow

@@ -12,14 +12,14 @@ returns-then-is_full g c =
     let d = c.args.c.now.depth in
     let r = always (checked_of c.args.c.now.program.now) in
     let k = context_of c.args.c.now in
-    let w = world_of g.G.Guests.rests d c.args.w.now in
-    new_full Flow r k (new_bad_exception r k) w (world_of g.G.Guests.rests d c.terminate.new.w) c.terminate.result c.is_full.result (c.is_full.ensures d) c.if-is_full.true c.terminate.ensures.flow
+    let w = world_of g.G.Outside.told d c.args.w.now in
+    new_full Flow r k (new_bad_exception r k) w (world_of g.G.Outside.told d c.terminate.new.w) c.terminate.result c.is_full.result (c.is_full.ensures d) c.if-is_full.true c.terminate.ensures.flow
 
 pub returns-in-Ok : goal.returns-in-Ok
 returns-in-Ok g c =
     let d = c.args.c.now.depth in
     let r = always (checked_of c.args.c.now.program.now) in
     let k = context_of c.args.c.now in
-    let w = world_of g.G.Guests.rests d c.args.w.now in
-    let u = world_of g.G.Guests.rests d c.make.new.self in
-    new_built r k (new_bad_exception r k) c.in-Ok.number w u (world_of g.G.Guests.rests d c.throw_built.new.w) c.throw_built.result c.is_full.result (c.is_full.ensures d) c.if-is_full.false (c.in-Ok.ensures d) (c.throw_built.ensures (new_bad_exception r k u) c.new_bad_exception-outcome.ensures)
+    let w = world_of g.G.Outside.told d c.args.w.now in
+    let u = world_of g.G.Outside.told d c.make.new.self in
+    new_built r k (new_bad_exception r k) c.in-Ok.number w u (world_of g.G.Outside.told d c.throw_built.new.w) c.throw_built.result c.is_full.result (c.is_full.ensures d) c.if-is_full.false (c.in-Ok.ensures d) (c.throw_built.ensures (new_bad_exception r k u) c.new_bad_exception-outcome.ensures)

@@ -9,4 +9,4 @@ returns-then-unwinds g c = λ d m h.
     let halt = c.in-Err.halt in
     let stopped_so = rw c.in-Err.is at h in
     let u : unwinds halt ≡ true = search rules in
-    freed c.args.number m halt (world_of g.G.Guests.rests d c.args.w.now) (world_of g.G.Guests.rests d c.free.new.self) u stopped_so (c.in_ok-free-in-Err.ensures d)
+    freed c.args.number m halt (world_of g.G.Outside.told d c.args.w.now) (world_of g.G.Outside.told d c.free.new.self) u stopped_so (c.in_ok-free-in-Err.ensures d)

@@ -14,17 +14,17 @@ pub returns-then-is_doomed-clause-int : goal.returns-then-is_doomed-clause-int
 returns-then-is_doomed-clause-int g c =
     let d = c.args.c.now.depth in
     let p = checked_of c.args.c.now.program.now in
-    let w = world_of g.G.Guests.rests d c.args.w.now in
+    let w = world_of g.G.Outside.told d c.args.w.now in
     let guards = guards_of c.args.c.now.guards.now in
     let ty : option_of type_of c.ty.result ≡ type_at w c.args.number = c.ty.ensures ∙ ap exception_type (c.exception.ensures d) in
     let doomed : is_doomed p guards (type_at w c.args.number) ≡ true = ap (is_doomed p guards) (sym ty) ∙ sym c.is_doomed.ensures ∙ c.if-is_doomed.true in
-    raised_doomed ℤ (always p) c.args.number (context_of c.args.c.now) w (world_of g.G.Guests.rests d c.terminate_because.new.w) c.terminate_because.result doomed c.terminate_because.ensures.int
+    raised_doomed ℤ (always p) c.args.number (context_of c.args.c.now) w (world_of g.G.Outside.told d c.terminate_because.new.w) c.terminate_because.result doomed c.terminate_because.ensures.int
 
 pub returns-else-is_doomed-clause-int : goal.returns-else-is_doomed-clause-int
 returns-else-is_doomed-clause-int g c =
     let d = c.args.c.now.depth in
     let p = checked_of c.args.c.now.program.now in
-    let w = world_of g.G.Guests.rests d c.args.w.now in
+    let w = world_of g.G.Outside.told d c.args.w.now in
     let guards = guards_of c.args.c.now.guards.now in
     let ty : option_of type_of c.ty.result ≡ type_at w c.args.number = c.ty.ensures ∙ ap exception_type (c.exception.ensures d) in
     let doomed : is_doomed p guards (type_at w c.args.number) ≡ false = ap (is_doomed p guards) (sym ty) ∙ sym c.is_doomed.ensures ∙ c.if-is_doomed.false in
@@ -34,17 +34,17 @@ pub returns-then-is_doomed-clause-flow : goal.returns-then-is_doomed-clause-flow
 returns-then-is_doomed-clause-flow g c =
     let d = c.args.c.now.depth in
     let p = checked_of c.args.c.now.program.now in
-    let w = world_of g.G.Guests.rests d c.args.w.now in
+    let w = world_of g.G.Outside.told d c.args.w.now in
     let guards = guards_of c.args.c.now.guards.now in
     let ty : option_of type_of c.ty.result ≡ type_at w c.args.number = c.ty.ensures ∙ ap exception_type (c.exception.ensures d) in
     let doomed : is_doomed p guards (type_at w c.args.number) ≡ true = ap (is_doomed p guards) (sym ty) ∙ sym c.is_doomed.ensures ∙ c.if-is_doomed.true in
-    raised_doomed Flow (always p) c.args.number (context_of c.args.c.now) w (world_of g.G.Guests.rests d c.terminate_because.new.w) c.terminate_because.result doomed c.terminate_because.ensures.flow
+    raised_doomed Flow (always p) c.args.number (context_of c.args.c.now) w (world_of g.G.Outside.told d c.terminate_because.new.w) c.terminate_because.result doomed c.terminate_because.ensures.flow
 
 pub returns-else-is_doomed-clause-flow : goal.returns-else-is_doomed-clause-flow
 returns-else-is_doomed-clause-flow g c =
     let d = c.args.c.now.depth in
     let p = checked_of c.args.c.now.program.now in
-    let w = world_of g.G.Guests.rests d c.args.w.now in
+    let w = world_of g.G.Outside.told d c.args.w.now in
     let guards = guards_of c.args.c.now.guards.now in
     let ty : option_of type_of c.ty.result ≡ type_at w c.args.number = c.ty.ensures ∙ ap exception_type (c.exception.ensures d) in
     let doomed : is_doomed p guards (type_at w c.args.number) ≡ false = ap (is_doomed p guards) (sym ty) ∙ sym c.is_doomed.ensures ∙ c.if-is_doomed.false in
@@ -54,17 +54,17 @@ pub returns-then-is_doomed-clause-none : goal.returns-then-is_doomed-clause-none
 returns-then-is_doomed-clause-none g c =
     let d = c.args.c.now.depth in
     let p = checked_of c.args.c.now.program.now in
-    let w = world_of g.G.Guests.rests d c.args.w.now in
+    let w = world_of g.G.Outside.told d c.args.w.now in
     let guards = guards_of c.args.c.now.guards.now in
     let ty : option_of type_of c.ty.result ≡ type_at w c.args.number = c.ty.ensures ∙ ap exception_type (c.exception.ensures d) in
     let doomed : is_doomed p guards (type_at w c.args.number) ≡ true = ap (is_doomed p guards) (sym ty) ∙ sym c.is_doomed.ensures ∙ c.if-is_doomed.true in
-    raised_doomed (Unit {0}) (always p) c.args.number (context_of c.args.c.now) w (world_of g.G.Guests.rests d c.terminate_because.new.w) c.terminate_because.result doomed c.terminate_because.ensures.none
+    raised_doomed (Unit {0}) (always p) c.args.number (context_of c.args.c.now) w (world_of g.G.Outside.told d c.terminate_because.new.w) c.terminate_because.result doomed c.terminate_because.ensures.none
 
 pub returns-else-is_doomed-clause-none : goal.returns-else-is_doomed-clause-none
 returns-else-is_doomed-clause-none g c =
     let d = c.args.c.now.depth in
     let p = checked_of c.args.c.now.program.now in
-    let w = world_of g.G.Guests.rests d c.args.w.now in
+    let w = world_of g.G.Outside.told d c.args.w.now in
     let guards = guards_of c.args.c.now.guards.now in
     let ty : option_of type_of c.ty.result ≡ type_at w c.args.number = c.ty.ensures ∙ ap exception_type (c.exception.ensures d) in
     let doomed : is_doomed p guards (type_at w c.args.number) ≡ false = ap (is_doomed p guards) (sym ty) ∙ sym c.is_doomed.ensures ∙ c.if-is_doomed.false in

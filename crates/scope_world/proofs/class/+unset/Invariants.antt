@@ -1,4 +1,4 @@
-use Rattle.std.proofs.Common.{◌+◌, ◌*◌, ◌^◌, length}
+use Rattle.std.proofs.Common.{◌+◌, ◌*◌, length}
 use Rattle.scope_world.proofs.class.+unset.Given as goal
 
 abbrev pub decreases-unset_within : goal.decreases-unset_within

@@ -10,6 +10,6 @@ returns g c = λ d.
     let self = c.args.self.now in
     let built = Native c.type_of_object-ty.result c.args.object self.installed in
     let h : c.in_ok-self.field-0.items ≡ map (with_live c.args.number built) self.live.items = search rules in
-    ap (λ xs. record (world_of g.G.Guests.rests d self) { live = xs })
+    ap (λ xs. record (world_of g.G.Outside.told d self) { live = xs })
     (ap (map live_of) h ∙ all_replaced c.args.number built self.live.items
     ∙ ap (λ t. map (replaced c.args.number (native t c.args.object (installed_of self.installed))) (map live_of self.live.items)) (c.type_of_object-ty.ensures d))

@@ -1,5 +1,4 @@
-use Rattle.std.proofs.Common.{◌≡◌, ◌∙◌, ap}
-use Rattle.cxx_ast.specs.View.{checked_of}
+use Rattle.std.proofs.Common.{◌∙◌, ap}
 use Rattle.scope_rules.specs.World.{part, as_class}
 use Rattle.scope_world.specs.Objects.{reference_of}
 use Rattle.scope_world.specs.Seen.{world_of}
@@ -10,4 +9,4 @@ returns g c = λ d.
     let place = c.member_place.result in
     ap (λ p. record { object = c.in_ok-at.at.object; path = p }) c.in_ok-push.ensures.items
     ∙ ap (part place) (c.in_ok-at.ensures d)
-    ∙ ap (λ n. part n (as_class (world_of g.G.Guests.rests d c.args.self.now) c.args.class (reference_of c.args.at))) c.member_place.ensures
+    ∙ ap (λ n. part n (as_class (world_of g.G.Outside.told d c.args.self.now) c.args.class (reference_of c.args.at))) c.member_place.ensures

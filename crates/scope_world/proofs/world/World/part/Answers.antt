@@ -1,4 +1,4 @@
-use Rattle.std.proofs.Common.{◌≡◌, ◌∙◌, sym, rules, ap, None}
+use Rattle.std.proofs.Common.{◌≡◌, ◌∙◌, sym, ap, None}
 use Rattle.scope_rules.specs.Part.{cell, part_at}
 use Rattle.scope_rules.specs.World.{object_at}
 use Rattle.scope_world.specs.Objects.{part_of}
@@ -8,10 +8,10 @@ use Rattle.scope_world.proofs.world.World.part.Goals as goal
 
 pub returns-in-Some : goal.returns-in-Some
 returns-in-Some g c = λ d.
-    let h : part_of c.in-Some.object.now ≡ object_at (world_of g.G.Guests.rests d c.args.self.now) c.args.at.now.object = c.in-Some.ensures d in
+    let h : part_of c.in-Some.object.now ≡ object_at (world_of g.G.Outside.told d c.args.self.now) c.args.at.now.object = c.in-Some.ensures d in
     c.part_at.ensures ∙ ap (part_at (part_of c.in-Some.object.now)) c.as_slice.ensures.value ∙ ap (λ a. part_at a c.args.at.now.path.items) h
 
 pub returns-in-None : goal.returns-in-None
 returns-in-None g c = λ d.
-    let h : cell None ≡ object_at (world_of g.G.Guests.rests d c.args.self.now) c.args.at.now.object = c.in-None.ensures d in
+    let h : cell None ≡ object_at (world_of g.G.Outside.told d c.args.self.now) c.args.at.now.object = c.in-None.ensures d in
     sym (unset_stays c.args.at.now.path.items) ∙ ap (λ a. part_at a c.args.at.now.path.items) h

@@ -1,4 +1,4 @@
-use Rattle.std.proofs.Common.{◌≡◌, ◌∙◌, ap}
+use Rattle.std.proofs.Common.{◌∙◌, ap}
 use Rattle.scope_rules.specs.Part.{part_type}
 use Rattle.scope_world.proofs.world.World.type_of_object.Goals as goal
 

@@ -1,4 +1,4 @@
-use Rattle.std.proofs.Common.{◌≡◌, ◌∙◌, ◌<◌, ap, map, rules, Some, set, get_or, length, arith, FitsSigned, w32}
+use Rattle.std.proofs.Common.{◌≡◌, ◌∙◌, ◌<◌, ap, rules, Some, set, get_or, length, arith, FitsSigned, w32}
 use Rattle.std.proofs.lemmas.Int.{ints, to_z-of_z}
 use Rattle.std.proofs.lemmas.List.{map-set}
 use Rattle.scope_rules.specs.Part.{cell, with_part_at}
@@ -11,7 +11,7 @@ use Rattle.scope_world.proofs.world.World.write.Goals as goal
 pub returns-in-Some : goal.returns-in-Some
 returns-in-Some g c = λ d.
     let objects = c.args.self.now.objects.items in
-    let w = world_of g.G.Guests.rests d c.args.self.now in
+    let w = world_of g.G.Outside.told d c.args.self.now in
     let o = c.args.at.now.object in
     let low : o < length objects = search rules in
     let is : c.in-Some.object.now ≡ get_or objects o c.in-Some.object.now = search rules in

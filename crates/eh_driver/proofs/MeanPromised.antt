@@ -1,0 +1,111 @@
+-- What the causes of `mean` promise.
+use Rattle.std.proofs.Common.{◌≡◌, ◌⊎◌, ◌∙◌, inl, inr, ℕ, List, Option, Some, None, refl, sym, ap, subst}
+use Rattle.eh_outer.specs.Store.{Files, StoreView, Rose}
+use Rattle.eh_outer.specs.Sink.{SinkView}
+use Rattle.cxx_ast.specs.Plain.{Program}
+use Rattle.cxx_ast.specs.Broken.{Valid}
+use Rattle.cxx_ast.specs.Checked.{checked}
+use Rattle.cxx_front.specs.Source.{IsProgram, IsRefused}
+use Rattle.cxx_front.specs.Fate.{HasOnly, refused, valid}
+use Rattle.run_items.specs.Output.{TakesAll}
+use Rattle.scope_rules.specs.Meaning.{Meaning}
+use Rattle.scope_meaning.specs.Mean.{meant}
+use Rattle.eh_driver.specs.declared.status.Status.{Status}
+use Rattle.eh_driver.specs.declared.status.Status.TheVariants.{Done, Usage, SourceRefused, ImageRefused, ReadFault, TooLong, WriteFault, NoMemory, Aborted, Budget, Stack, MachineFault, Undefined}
+use Rattle.eh_driver.specs.File.{Told, source_limit}
+use Rattle.eh_driver.specs.Mean.{Asked, MeanCause, MeansThis, ToldInput, ToldMeans, UnreadEither, UnreadInput, input_limit, mean_lines, status_of_end}
+use Rattle.eh_driver.specs.Promise.{MeanUndisturbed, InputIs, MeanPromise, Shows}
+use Rattle.eh_driver.proofs.Sources.{told_of, valid_same, not_refused, same_refusal}
+
+-- the input of which something is told
+input_of : (i : Option (List ℕ)) (store : StoreView) (files : Files) (input : List ℕ) (P : List ℕ → Type 0) → store.files ≡ Some files → InputIs i files input → ToldInput store i P → P input
+input_of None store files input P is e told = subst P (sym e) told
+input_of (Some name) store files input P is there told = told_of input_limit store name input files P is there.0 told
+
+-- the store refused nothing
+not_unread : (i : Option (List ℕ)) (old new : StoreView) → (Rose old.faults new.faults → ⊥) → UnreadInput i old new ReadFault → ⊥
+not_unread None old new calm why = why
+not_unread (Some name) old new calm why = calm why.rose
+
+not_long : (i : Option (List ℕ)) (old new : StoreView) → (Rose old.faults new.faults → ⊥) → UnreadInput i old new TooLong → ⊥
+not_long None old new calm why = why
+not_long (Some name) old new calm (n, above, why, long) = calm why.rose
+
+module _ (a : Asked) (source input : List ℕ) (old new : StoreView) (out out' : SinkView) (u : MeanUndisturbed a source input old new out out') where
+  read_so : UnreadEither a old new ReadFault → ⊥
+  read_so (inl why) = u.calm.store why.rose
+  read_so (inr why) = not_unread a.input old new u.calm.store why
+
+  short_so : UnreadEither a old new TooLong → ⊥
+  short_so (inl (n, above, why, long)) = u.calm.store why.rose
+  short_so (inr why) = not_long a.input old new u.calm.store why
+
+  -- what the told source with the told input means
+  means_so : (m : Meaning) → ToldMeans a m old → MeansThis a m source input
+  means_so m told =
+      input_of a.input old u.calm.files input (MeansThis a m source) u.calm.told u.given
+      (told_of source_limit old a.source source u.calm.files (λ s. ToldInput old a.input (MeansThis a m s)) u.calm.told u.calm.there told)
+
+  -- it is the meaning of the valid program
+  meaning_so : (m : Meaning) (p : Program) → ToldMeans a m old → IsProgram source p → Valid p → m ≡ meant (checked p) input a.modules a.turns
+  meaning_so m p told program holds = go (means_so m told)
+    where
+      go : MeansThis a m source input → m ≡ meant (checked p) input a.modules a.turns
+      go (q, only, is) = is ∙ ap (λ x. meant (checked x) input a.modules a.turns) (valid_same (only.only (valid p) (program, holds)))
+
+  shown : (m : Meaning) (p : Program) (status : Status) → ToldMeans a m old → IsProgram source p → Valid p → status ≡ status_of_end m.end → TakesAll (mean_lines a.trace m.items m.end) out out' →
+      (status ≡ NoMemory) ⊎ Shows a.trace (meant (checked p) input a.modules a.turns) out out' status
+  shown m p status told program holds is puts = inr (subst (λ x. Shows a.trace x out out' status) (meaning_so m p told program holds) (is, puts.gains))
+
+  -- a valid source is not refused
+  refused_valid : (p : Program) (number place : ℕ) → Told source_limit old a.source (λ s. HasOnly s (refused number place)) → IsProgram source p → Valid p → ⊥
+  refused_valid p number place told program holds =
+      let only = told_of source_limit old a.source source u.calm.files (λ s. HasOnly s (refused number place)) u.calm.told u.calm.there told in
+      let same : refused number place ≡ valid p = only.only (valid p) (program, holds) in
+      cc
+
+  shows_so : (p : Program) (status : Status) → IsProgram source p → Valid p → MeanCause a old new out out' status →
+      (status ≡ NoMemory) ⊎ Shows a.trace (meant (checked p) input a.modules a.turns) out out' status
+  shows_so p ReadFault program holds (why, rest) = absurd (read_so why)
+  shows_so p TooLong program holds (why, rest) = absurd (short_so why)
+  shows_so p (SourceRefused number place) program holds (told, rest) = absurd (refused_valid p number place told program holds)
+  shows_so p NoMemory program holds h = inl refl
+  shows_so p WriteFault program holds (m, told, fails) = absurd (u.calm.sink fails.rose)
+  shows_so p Done program holds (m, told, (is, puts)) = shown m p Done told program holds is puts
+  shows_so p Usage program holds (m, told, (is, puts)) = shown m p Usage told program holds is puts
+  shows_so p (ImageRefused number place location other) program holds (m, told, (is, puts)) = shown m p (ImageRefused number place location other) told program holds is puts
+  shows_so p Aborted program holds (m, told, (is, puts)) = shown m p Aborted told program holds is puts
+  shows_so p Budget program holds (m, told, (is, puts)) = shown m p Budget told program holds is puts
+  shows_so p Stack program holds (m, told, (is, puts)) = shown m p Stack told program holds is puts
+  shows_so p (MachineFault kind place) program holds (m, told, (is, puts)) = shown m p (MachineFault kind place) told program holds is puts
+  shows_so p Undefined program holds (m, told, (is, puts)) = shown m p Undefined told program holds is puts
+
+  -- what is valid is not refused
+  means_valid : (m : Meaning) (number place : ℕ) → ToldMeans a m old → IsRefused source number place → ⊥
+  means_valid m number place told is = go (means_so m told)
+    where
+      go : MeansThis a m source input → ⊥
+      go (q, only, same) = not_refused source q number place only is
+
+  refuses_so : (number place : ℕ) (status : Status) → IsRefused source number place → MeanCause a old new out out' status → (status ≡ NoMemory) ⊎ (status ≡ SourceRefused number place)
+  refuses_so number place ReadFault is (why, rest) = absurd (read_so why)
+  refuses_so number place TooLong is (why, rest) = absurd (short_so why)
+  refuses_so number place (SourceRefused n at) is (told, rest) =
+      let only = told_of source_limit old a.source source u.calm.files (λ s. HasOnly s (refused n at)) u.calm.told u.calm.there told in
+      inr (same_refusal (only.only (refused number place) is))
+  refuses_so number place NoMemory is h = inl refl
+  refuses_so number place WriteFault is (m, told, fails) = absurd (u.calm.sink fails.rose)
+  refuses_so number place Done is (m, told, h) = absurd (means_valid m number place told is)
+  refuses_so number place Usage is (m, told, h) = absurd (means_valid m number place told is)
+  refuses_so number place (ImageRefused other at location second) is (m, told, h) = absurd (means_valid m number place told is)
+  refuses_so number place Aborted is (m, told, h) = absurd (means_valid m number place told is)
+  refuses_so number place Budget is (m, told, h) = absurd (means_valid m number place told is)
+  refuses_so number place Stack is (m, told, h) = absurd (means_valid m number place told is)
+  refuses_so number place (MachineFault kind at) is (m, told, h) = absurd (means_valid m number place told is)
+  refuses_so number place Undefined is (m, told, h) = absurd (means_valid m number place told is)
+
+pub mean_promised : (a : Asked) (old new : StoreView) (out out' : SinkView) (status : Status) → MeanCause a old new out out' status → MeanPromise a old new out out' status
+mean_promised a old new out out' status cause = record {
+  shows = λ source input p u program holds. shows_so a source input old new out out' u p status program holds cause;
+  refuses = λ source input number place u is. refuses_so a source input old new out out' u number place status is cause;
+}

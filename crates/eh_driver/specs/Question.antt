@@ -1,0 +1,15 @@
+-- What is asked of a source.
+use Rattle.std.specs.Prelude.{List, option_map}
+use Rattle.eh_outer.specs.Module.{ModuleView}
+use Rattle.eh_driver.specs.declared.mean.Question.{Question}
+use Rattle.eh_driver.specs.Mean.{Asked}
+
+-- by a question, where the modules tell this of themselves
+abbrev pub asked_by : Question → List ModuleView → Asked
+asked_by q modules = record {
+  source = q.source.now;
+  input = option_map (λ name. name.now) q.input;
+  turns = q.turns;
+  trace = q.trace;
+  modules = modules;
+}

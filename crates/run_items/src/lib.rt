@@ -1,0 +1,12 @@
+//! What a running program shows, item by item, and the lines in which the items are printed.
+//!
+//! An item is an int that the program writes, or an event of one of its exceptions. Each line is one put, which takes no memory.
+#![tactic(auto)]
+
+mod item;
+mod line;
+#[cfg(test)]
+mod tests;
+
+pub use item::Item;
+pub use line::put_item;

@@ -1,0 +1,32 @@
+// The printed lines of each kind of item.
+use crate::{Item, put_item};
+use eh_outer::MemSink;
+use std::test::Fail;
+
+#[test]
+fn lines(rt: HostRuntime) -> Result<(), Fail> {
+    let alloc = rt.alloc();
+    let rows: [(Item, &str, &str); 9] = [
+        (Item::Line(-2147483648), "-2147483648\n", "-2147483648\n"),
+        (Item::Line(7), "7\n", "7\n"),
+        (Item::Make(1), "! make 1\n", ""),
+        (
+            Item::Foreign(u64::MAX, u32::MAX, u32::MAX),
+            "! foreign 18446744073709551615 4294967295 4294967295\n",
+            "",
+        ),
+        (Item::Enter(12), "! enter 12\n", ""),
+        (Item::Leave(2), "! leave 2\n", ""),
+        (Item::Destroy(3), "! destroy 3\n", ""),
+        (Item::Free(4), "! free 4\n", ""),
+        (Item::Clean(0, 7), "! clean 0 7\n", ""),
+    ];
+    for (item, traced, plain) in rows {
+        for (trace, expected) in [(true, traced), (false, plain)] {
+            let mut out = MemSink::new(alloc, 64, Vec::new(alloc))?;
+            assert!(rt; put_item(&mut out, trace, item).is_ok());
+            assert_eq!(rt; out.bytes(), expected.as_bytes());
+        }
+    }
+    Ok(())
+}

@@ -1,0 +1,17 @@
+pub mod Endless
+pub mod Named
+pub mod Chosen
+pub mod Rows
+pub mod Opened
+pub mod Stopped
+pub mod Stepped
+pub mod Handled
+pub mod Rounds
+pub mod Gathered
+pub mod Kept
+pub mod Called
+pub mod Evaluated
+pub mod Parted
+pub mod Thrown
+pub mod Declared
+pub mod Ran

@@ -1,0 +1,4 @@
+use Rattle.scope_meaning.proofs.parts.+build_parts.Given as goal
+
+abbrev pub decreases-build_parts : goal.decreases-build_parts
+decreases-build_parts g l = l.room

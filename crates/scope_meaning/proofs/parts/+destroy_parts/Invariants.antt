@@ -1,0 +1,4 @@
+use Rattle.scope_meaning.proofs.parts.+destroy_parts.Given as goal
+
+abbrev pub decreases-destroy_parts : goal.decreases-destroy_parts
+decreases-destroy_parts g l = l.room

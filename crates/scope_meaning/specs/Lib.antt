@@ -1,0 +1,4 @@
+pub mod Asked
+pub mod Steps
+pub mod Modules
+pub mod Mean

@@ -1,0 +1,323 @@
+// The value of an expression, and the calls that it makes.
+
+ghost use Rattle.std.specs.Prelude.{◌≡◌, ◌∷◌, [], false, map, List};
+ghost use Rattle.cxx_ast.specs.Plain.{binary, call};
+ghost use Rattle.cxx_ast.specs.View.{checked_of, expression_of, expressions_of};
+ghost use Rattle.cxx_ast.specs.declared.types.Ty.{Ty as TyMeant};
+ghost use Rattle.scope_rules.specs.Expression as rules;
+ghost use Rattle.scope_rules.specs.Call as call_rules;
+ghost use Rattle.scope_world.specs.Gives.{Gives, GivesBy};
+ghost use Rattle.scope_world.specs.Inward.{argument_of, context_of, frame_of};
+ghost use Rattle.scope_world.specs.Objects.{reference_of};
+ghost use Rattle.scope_world.specs.Seen.{world_of};
+ghost use Rattle.scope_flow.specs.Always.{always};
+ghost use Rattle.scope_meaning.specs.Asked.{parameter_types_of};
+
+use crate::Item;
+use crate::arguments::{
+    Parameters, callee_bound, constructor_chosen, constructor_parameters, function_named, names_of,
+    parameters_for, passed_object, receiver, value_at,
+};
+use cxx_ast::expression::{BinaryOp, Expr};
+use cxx_ast::name::{Bound, Builtin, Name};
+use cxx_ast::types::Ty;
+use scope_flow::{Callee, Calls, Constructor, call_module, terminate};
+use scope_world::{
+    Argument, Context, Frame, Halt, Numbers, Outside, Reference, World, binary_value, class_named,
+    decided, lvalue, truth, unary_value,
+};
+
+#[cycle(expressions)]
+#[tactic(auto, using(scope_flow::proofs::Passing::passing, crate::proofs::Evaluated::passed_computed, crate::proofs::Evaluated::passed_halted))]
+fn passed_value<G: Outside, C: Calls<G>>(
+    calls: &C,
+    c: &Context<'_>,
+    w: &mut World<G>,
+    frame: &Frame<'_>,
+    e: &Expr,
+    room: u32,
+) -> Result<Argument, Halt>
+    requires { C.answers calls.now c.now.depth }
+    ensures some { (t : TyMeant) (types : List TyMeant) → rules.is_reference t ≡ false → GivesBy argument_of (rules.passed (always (checked_of c.now.program.now)) (frame_of frame.now) (t ∷ types) (expression_of e.now) (rules.value_of (always (checked_of c.now.program.now)) (frame_of frame.now) (expression_of e.now) (context_of c.now)) (world_of G.told c.now.depth w.old)) result (world_of G.told c.now.depth w.new) }
+    ensures none { GivesBy argument_of (rules.passed (always (checked_of c.now.program.now)) (frame_of frame.now) [] (expression_of e.now) (rules.value_of (always (checked_of c.now.program.now)) (frame_of frame.now) (expression_of e.now) (context_of c.now)) (world_of G.told c.now.depth w.old)) result (world_of G.told c.now.depth w.new) }
+{
+    Ok(Argument::Value(value_of(calls, c, w, frame, e, room)?))
+}
+
+// The argument for the first of the parameters.
+#[cycle(expressions)]
+#[tactic(auto, using(scope_flow::proofs::Passing::passing, crate::proofs::Evaluated::passed_to_object, crate::proofs::Evaluated::passed_to_copy, crate::proofs::Evaluated::passed_to_int, crate::proofs::Evaluated::is_value))]
+fn passed<G: Outside, C: Calls<G>>(
+    calls: &C,
+    c: &Context<'_>,
+    w: &mut World<G>,
+    frame: &Frame<'_>,
+    parameters: Parameters<'_>,
+    e: &Expr,
+    room: u32,
+) -> Result<Argument, Halt>
+    requires { C.answers calls.now c.now.depth }
+    ensures { GivesBy argument_of (rules.passed (always (checked_of c.now.program.now)) (frame_of frame.now) (parameter_types_of parameters.entry) (expression_of e.now) (rules.value_of (always (checked_of c.now.program.now)) (frame_of frame.now) (expression_of e.now) (context_of c.now)) (world_of G.told c.now.depth w.old)) result (world_of G.told c.now.depth w.new) }
+{
+    match parameters {
+        Parameters::CopyOf(class) => Ok(passed_object(c, w, frame, class, e)?),
+        Parameters::Of(parameters) => match parameters.first() {
+            None => passed_value(calls, c, w, frame, e, room),
+            Some(first) => match &first.ty {
+                Ty::ObjectRef(_, name) => Ok(passed_object(c, w, frame, class_named(name), e)?),
+                Ty::IntRef(_) => Ok(Argument::Place(lvalue(c, w, frame, names_of(e))?)),
+                _ => passed_value(calls, c, w, frame, e, room),
+            },
+        },
+    }
+}
+
+/// Arguments are evaluated left to right.
+#[cycle(expressions)]
+#[tactic(auto, using(scope_flow::proofs::Passing::passing, crate::proofs::Gathered::none_gathered, crate::proofs::Gathered::gathered_more, crate::proofs::Gathered::gathered_halted))]
+fn arguments<G: Outside, C: Calls<G>>(
+    calls: &C,
+    c: &Context<'_>,
+    w: &mut World<G>,
+    frame: &Frame<'_>,
+    es: &[Expr],
+    parameters: Parameters<'_>,
+    room: u32,
+) -> Result<Vec<Argument>, Halt>
+    requires { C.answers calls.now c.now.depth }
+    ensures { GivesBy (λ v. map argument_of v.items) (rules.arguments (always (checked_of c.now.program.now)) (frame_of frame.now) (expressions_of es.now) (parameter_types_of parameters.entry) (context_of c.now) (world_of G.told c.now.depth w.old)) result (world_of G.told c.now.depth w.new) }
+{
+    let mut given = Vec::new(c.alloc);
+    let mut wanted = parameters;
+    let mut rest = es;
+    'arguments: while let Some((first, others)) = rest.split_first() {
+        let argument = passed(calls, c, w, frame, wanted, first, room)?;
+        given.push(argument)?;
+        wanted = wanted.behind();
+        rest = others;
+    }
+    Ok(given)
+}
+
+#[cycle(expressions)]
+#[tactic(auto, using(scope_flow::proofs::Passing::passing, crate::proofs::Evaluated::line_written, crate::proofs::Evaluated::exited_with, crate::proofs::Evaluated::cancelled_with, crate::proofs::Evaluated::module_called))]
+fn builtin<G: Outside, C: Calls<G>>(
+    calls: &C,
+    c: &Context<'_>,
+    w: &mut World<G>,
+    frame: &Frame<'_>,
+    which: Builtin,
+    es: &[Expr],
+    parameters: Parameters<'_>,
+    room: u32,
+) -> Result<i32, Halt>
+    requires { C.answers calls.now c.now.depth }
+    ensures { Gives (rules.builtin (always (checked_of c.now.program.now)) which (expressions_of es.now) (rules.arguments (always (checked_of c.now.program.now)) (frame_of frame.now) (expressions_of es.now) (parameter_types_of parameters.entry) (context_of c.now)) (context_of c.now) (world_of G.told c.now.depth w.old)) result (world_of G.told c.now.depth w.new) }
+{
+    match which {
+        Builtin::WriteInt => {
+            let given = arguments(calls, c, w, frame, es, parameters, room)?;
+            w.emit(Item::Line(value_at(given.as_slice(), 0)))?;
+            Ok(0)
+        }
+        Builtin::ReadByte => Ok(w.read_byte()),
+        Builtin::Exit => {
+            let given = arguments(calls, c, w, frame, es, parameters, room)?;
+            Err(Halt::Exited(value_at(given.as_slice(), 0)))
+        }
+        Builtin::Module => {
+            let given = arguments(calls, c, w, frame, es, parameters, room)?;
+            let given = given.as_slice();
+            call_module(calls, c, w, value_at(given, 0), value_at(given, 1))
+        }
+        Builtin::Cancel => {
+            let given = arguments(calls, c, w, frame, es, parameters, room)?;
+            Err(Halt::Cancelled(value_at(given.as_slice(), 0)))
+        }
+        Builtin::Terminate => Err(terminate(calls, c, w)),
+        Builtin::SetTerminate => {
+            w.installed.terminate = function_named(es);
+            Ok(0)
+        }
+        Builtin::SetUnexpected => {
+            w.installed.unexpected = function_named(es);
+            Ok(0)
+        }
+        Builtin::Uncaught => Ok(truth(matches!(c.travelling, Numbers::More(_, _)))),
+        Builtin::BadException => Ok(0),
+    }
+}
+
+// The call of what a name is bound to, on the object that an lvalue names.
+#[cycle(expressions)]
+#[tactic(auto, using(scope_flow::proofs::Passing::passing, crate::proofs::Evaluated::function_called, crate::proofs::Evaluated::method_called))]
+fn called<G: Outside, C: Calls<G>>(
+    calls: &C,
+    c: &Context<'_>,
+    w: &mut World<G>,
+    frame: &Frame<'_>,
+    bound: Bound,
+    object: &[Name],
+    es: &[Expr],
+    parameters: Parameters<'_>,
+    room: u32,
+) -> Result<i32, Halt>
+    requires { C.answers calls.now c.now.depth }
+    ensures { Gives (rules.called (always (checked_of c.now.program.now)) (frame_of frame.now) bound object.now (expressions_of es.now) (rules.arguments (always (checked_of c.now.program.now)) (frame_of frame.now) (expressions_of es.now) (parameter_types_of parameters.entry) (context_of c.now)) (context_of c.now) (world_of G.told c.now.depth w.old)) result (world_of G.told c.now.depth w.new) }
+{
+    match bound {
+        Bound::Func(n) => {
+            let given = arguments(calls, c, w, frame, es, parameters, room)?;
+            let nothing = Reference::whole(c.alloc, 0);
+            calls.call(c, w, Callee::Function(n), &nothing, given.as_slice())
+        }
+        Bound::Method(class, place) => {
+            let given = arguments(calls, c, w, frame, es, parameters, room)?;
+            let at = lvalue(c, w, frame, object)?;
+            let at = w.as_class(class, at)?;
+            calls.call(
+                c,
+                w,
+                Callee::Method(class, place as usize),
+                &at,
+                given.as_slice(),
+            )
+        }
+        Bound::Builtin(which) => builtin(calls, c, w, frame, which, es, parameters, room),
+        _ => Ok(0),
+    }
+}
+
+// The call of what `a.b.f` names.
+#[cycle(expressions)]
+#[tactic(auto, using(scope_flow::proofs::Passing::passing, crate::proofs::Evaluated::called_by))]
+fn called_by_name<G: Outside, C: Calls<G>>(
+    calls: &C,
+    c: &Context<'_>,
+    w: &mut World<G>,
+    frame: &Frame<'_>,
+    names: &[Name],
+    es: &[Expr],
+    room: u32,
+) -> Result<i32, Halt>
+    requires { C.answers calls.now c.now.depth }
+    ensures { Gives (rules.value_of (always (checked_of c.now.program.now)) (frame_of frame.now) (call names.now (expressions_of es.now)) (context_of c.now) (world_of G.told c.now.depth w.old)) result (world_of G.told c.now.depth w.new) }
+{
+    let bound = callee_bound(names);
+    let object = receiver(names);
+    let parameters = parameters_for(c.program, bound);
+    called(calls, c, w, frame, bound, object, es, parameters, room)
+}
+
+// An operator on two operands; `&&` and `||` evaluate their right side only where it decides.
+#[cycle(expressions)]
+#[tactic(auto, using(scope_flow::proofs::Passing::passing, crate::proofs::Evaluated::decided_so, crate::proofs::Evaluated::undecided, crate::proofs::Evaluated::right_halted))]
+fn operated<G: Outside, C: Calls<G>>(
+    calls: &C,
+    c: &Context<'_>,
+    w: &mut World<G>,
+    frame: &Frame<'_>,
+    op: BinaryOp,
+    left: &Expr,
+    right: &Expr,
+    room: u32,
+) -> Result<i32, Halt>
+    requires { C.answers calls.now c.now.depth }
+    ensures { Gives (rules.value_of (always (checked_of c.now.program.now)) (frame_of frame.now) (binary op (expression_of left.now) (expression_of right.now)) (context_of c.now) (world_of G.told c.now.depth w.old)) result (world_of G.told c.now.depth w.new) }
+{
+    let x = value_of(calls, c, w, frame, left, room)?;
+    match decided(op, x) {
+        Some(value) => Ok(value),
+        None => {
+            let y = value_of(calls, c, w, frame, right, room)?;
+            binary_value(op, x, y)
+        }
+    }
+}
+
+/// The value of an expression. Operands are evaluated left to right.
+#[cycle(expressions)]
+#[tactic(auto, using(scope_flow::proofs::Passing::passing, crate::proofs::Evaluated::read_so, crate::proofs::Rows::rows))]
+pub fn value_of<G: Outside, C: Calls<G>>(
+    calls: &C,
+    c: &Context<'_>,
+    w: &mut World<G>,
+    frame: &Frame<'_>,
+    e: &Expr,
+    room: u32,
+) -> Result<i32, Halt>
+    requires { C.answers calls.now c.now.depth }
+    ensures { Gives (rules.value_of (always (checked_of c.now.program.now)) (frame_of frame.now) (expression_of e.now) (context_of c.now) (world_of G.told c.now.depth w.old)) result (world_of G.told c.now.depth w.new) }
+{
+    let Some(room) = room.checked_sub(1) else {
+        return Err(Halt::NoMemory);
+    };
+    match e {
+        Expr::Number(value, _) => Ok(*value),
+        Expr::Path(it) => {
+            let at = lvalue(c, w, frame, it.path.as_slice())?;
+            w.read(&at)
+        }
+        Expr::Paren(inner, _) => value_of(calls, c, w, frame, inner, room),
+        Expr::Unary(op, inner, _) => {
+            let x = value_of(calls, c, w, frame, inner, room)?;
+            unary_value(*op, x)
+        }
+        Expr::Binary(op, left, right) => operated(calls, c, w, frame, *op, left, right, room),
+        Expr::Call(callee, es) => {
+            let names = callee.path.as_slice();
+            called_by_name(calls, c, w, frame, names, es.as_slice(), room)
+        }
+        Expr::StdCall(name, es, _) => {
+            let es = es.as_slice();
+            let none = Parameters::Of(&[]);
+            called(calls, c, w, frame, name.bound, &[], es, none, room)
+        }
+    }
+}
+
+/// The value of an int's initialiser.
+pub fn initial_value<G: Outside, C: Calls<G>>(
+    calls: &C,
+    c: &Context<'_>,
+    w: &mut World<G>,
+    frame: &Frame<'_>,
+    es: &[Expr],
+    room: u32,
+) -> Result<i32, Halt>
+    requires { C.answers calls.now c.now.depth }
+    ensures { Gives (call_rules.initial_value (always (checked_of c.now.program.now)) (frame_of frame.now) (expressions_of es.now) (context_of c.now) (world_of G.told c.now.depth w.old)) result (world_of G.told c.now.depth w.new) }
+{
+    match es.first() {
+        None => Ok(0),
+        Some(e) => value_of(calls, c, w, frame, e, room),
+    }
+}
+
+/// An object of a class is built from arguments.
+#[tactic(auto, using(scope_flow::proofs::Passing::passing, crate::proofs::Evaluated::built_by, crate::proofs::Evaluated::building_halted, crate::proofs::Evaluated::arguments_halted))]
+pub fn construct<G: Outside, C: Calls<G>>(
+    calls: &C,
+    c: &Context<'_>,
+    w: &mut World<G>,
+    frame: &Frame<'_>,
+    class: u32,
+    es: &[Expr],
+    target: &Reference,
+    room: u32,
+) -> Result<(), Halt>
+    requires { C.answers calls.now c.now.depth }
+    ensures { Gives (rules.construct (always (checked_of c.now.program.now)) (frame_of frame.now) class (expressions_of es.now) (reference_of target.now) (context_of c.now) (world_of G.told c.now.depth w.old)) result (world_of G.told c.now.depth w.new) }
+{
+    let which = constructor_chosen(c, w, frame, class, es)?;
+    let parameters = constructor_parameters(c.program, class, which);
+    let given = arguments(calls, c, w, frame, es, parameters, room)?;
+    calls.call(
+        c,
+        w,
+        Callee::Constructor(class, which),
+        target,
+        given.as_slice(),
+    )?;
+    Ok(())
+}

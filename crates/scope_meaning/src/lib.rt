@@ -1,0 +1,21 @@
+//! The plain evaluator: what a checked program means, by going through its tree.
+#![tactic(auto, using(scope_flow::proofs::Passing::passing))]
+
+mod arguments;
+mod calls;
+mod expression;
+mod extent;
+mod handling;
+mod modules;
+mod parts;
+mod program;
+mod simple;
+mod statement;
+#[cfg(test)]
+mod tests;
+mod throw;
+
+pub use program::{Meaning, mean};
+pub use run_items::Item;
+pub use scope_rules::ending::MeanEnd;
+pub use std::alloc::AllocError as NoMemory;
