@@ -48,6 +48,13 @@ impl SlotStack {
         Ok(stack)
     }
 
+    /// How many slots it has.
+    pub fn len(&self) -> usize
+        ensures { result ≡ length self.now }
+    {
+        self.pushed.len()
+    }
+
     /// The slot on top.
     pub fn top(&self) -> Option<u32>
         ensures { result ≡ top_of self.now }

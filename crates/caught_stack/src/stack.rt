@@ -1,5 +1,5 @@
 // The headers and the stack of the exceptions that are caught.
-ghost use Rattle.std.specs.Prelude.{◌≡◌, ◌↔◌, ◌<◌, ◌+◌, ◌-◌, ◌||◌, not, Some, IsTrue, IsNone, IfOk, slice_set};
+ghost use Rattle.std.specs.Prelude.{◌≡◌, ◌↔◌, ◌<◌, ◌+◌, ◌-◌, ◌||◌, not, Some, IsTrue, IsNone, IfOk, length, slice_set};
 ghost use Rattle.caught_stack.specs.Live.{slots, all_vacant, header_of, is_live, live_count};
 ghost use Rattle.caught_stack.specs.Caught.{handler_count, is_caught, is_counted, is_in_front, is_small, newest};
 ghost use Rattle.caught_stack.specs.Exceptions.{IsSound, no_exceptions};
@@ -149,6 +149,13 @@ impl CaughtStack {
         ensures sound { IsSound self.now }
     {
         self.caught.top()
+    }
+
+    /// How many exceptions are caught, each counted once.
+    pub fn depth(&self) -> usize
+        ensures { result ≡ length self.now.caught }
+    {
+        self.caught.len()
     }
 
     /// The handlerCount of an exception, negative where it is thrown again, and 0 where it is not caught.

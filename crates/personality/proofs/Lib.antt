@@ -1,2 +1,2 @@
-mod Members
-mod NamedBy
+pub mod Members
+pub mod NamedBy

@@ -8,9 +8,9 @@ ghost use Rattle.personality.specs.Named.{FilterIsNamed};
 use crate::thrown::Thrown;
 use lsda_read::Lsda;
 
-// Whether the list of a specification has an entry that matches.
+/// Whether the list of a specification, counted from 1, has an entry that matches what is thrown.
 #[tactic(auto, using(crate::proofs::NamedBy::indices_named))]
-fn allows(table: &Lsda<'_>, thrown: &Thrown, list: u64) -> bool
+pub fn allows(table: &Lsda<'_>, thrown: &Thrown, list: u64) -> bool
     requires { Contains (lists_named table.now) list }
     ensures { result ≡ allows table.now (thrown_of thrown.now) list }
 {

@@ -8,6 +8,7 @@ mod thrown;
 mod types;
 mod verdict;
 
+pub use filter::allows;
 pub use place::FrameView;
 pub use thrown::Thrown;
 pub use types::TypeChain;

@@ -4,3 +4,4 @@ mod Walks
 mod Rising
 mod Outcomes
 mod Entering
+mod Faults

@@ -12,7 +12,7 @@ mod phases;
 mod raised;
 mod readable;
 
-pub use law::more_frames_make_no_difference;
+pub use law::{a_fault_is_a_broken_stack, more_frames_make_no_difference};
 pub use phases::{forced, raise, resume};
 pub use raised::Raised;
 pub use readable::tables_are_readable;
