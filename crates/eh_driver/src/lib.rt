@@ -22,6 +22,8 @@ pub use top::ehc;
 #[cfg(test)]
 mod image_tests;
 #[cfg(test)]
+mod mean_rows;
+#[cfg(test)]
 mod mean_tests;
 #[cfg(test)]
 mod tests;

@@ -2,6 +2,9 @@
 ghost use Rattle.std.specs.Prelude.{[], option_to_list};
 
 use crate::Status;
+use crate::mean_rows::{
+    Row, modules, objects, specifications, terminates, throws, undefined, values,
+};
 use crate::tests::{Outside, Seen, answer, answer_with, holding};
 use command_line::scripts;
 use eh_outer::{Module, Reply, Runs};
@@ -9,431 +12,6 @@ use std::alloc::Global;
 use std::cell::Cell;
 use std::rc::Rc;
 use std::test::Fail;
-
-// A program with the options and the input that it is given, and what is printed.
-struct Row {
-    options: &'static [&'static str],
-    input: &'static [u8],
-    source: &'static str,
-    lines: &'static str,
-    status: Status,
-}
-
-static ROWS: &[Row] = &[
-    Row {
-        options: &[],
-        input: b"",
-        source: "int main() { write_int(5); return 3; }",
-        lines: "5\n= exit 3\n",
-        status: Status::Done,
-    },
-    Row {
-        options: &["--trace"],
-        input: b"",
-        source: "struct A { int n; A(int k) { n = k; } ~A() { write_int(n); } }; void f() { A x(1); A y(2); throw 7; } int main() { try { A z(3); f(); } catch (int e) { write_int(e); } return 0; }",
-        lines: "! make 1\n2\n1\n3\n! enter 1\n7\n! leave 1\n! destroy 1\n! free 1\n= exit 0\n",
-        status: Status::Done,
-    },
-    Row {
-        options: &["--trace"],
-        input: b"",
-        source: "struct A { int n; A(int k) { n = k; } ~A() { write_int(n); } }; void f() { A x(1); A y(2); throw 7; } int main() { A z(3); f(); return 0; }",
-        lines: "! make 1\n! enter 1\n= aborted\n",
-        status: Status::Aborted,
-    },
-    Row {
-        options: &[],
-        input: b"",
-        source: "struct B { }; struct D : B { }; int main() { try { throw D(); } catch (B&) { write_int(1); } catch (D&) { write_int(2); } return 0; }",
-        lines: "1\n= exit 0\n",
-        status: Status::Done,
-    },
-    Row {
-        options: &["--trace"],
-        input: b"",
-        source: "int main() { try { throw 4; } catch (int&) { try { throw; } catch (int&) { } write_int(1); } return 0; }",
-        lines: "! make 1\n! enter 1\n! enter 1\n! leave 1\n1\n! leave 1\n! destroy 1\n! free 1\n= exit 0\n",
-        status: Status::Done,
-    },
-    Row {
-        options: &[],
-        input: b"",
-        source: "struct T { int n; T(int k) { n = k; } ~T() { write_int(n); if (n == 2) throw n; } }; int main() { try { T a(1); T b(2); } catch (int e) { write_int(e + 10); } return 0; }",
-        lines: "2\n1\n12\n= exit 0\n",
-        status: Status::Done,
-    },
-    Row {
-        options: &["--trace"],
-        input: b"",
-        source: "struct A { int n; A(int k) { n = k; } ~A() { write_int(n); } }; struct T { ~T() { A x(9); throw 8; } }; int main() { try { T t; throw 7; } catch (...) { } return 0; }",
-        lines: "! make 1\n! make 2\n! enter 2\n= aborted\n",
-        status: Status::Aborted,
-    },
-    Row {
-        options: &[],
-        input: b"",
-        source: "struct A { int n; A(int k) { n = k; } ~A() { write_int(n); } }; struct C : A { A m; C() : A(1), m(2) { throw 5; } ~C() { write_int(9); } }; int main() { try { C c; } catch (int e) { write_int(e); } return 0; }",
-        lines: "2\n1\n5\n= exit 0\n",
-        status: Status::Done,
-    },
-    Row {
-        options: &["--trace"],
-        input: b"",
-        source: "int main() { try { try { throw 1; } catch (int) { throw 2; } } catch (int e) { write_int(e); } return 0; }",
-        lines: "! make 1\n! enter 1\n! make 2\n! leave 1\n! destroy 1\n! free 1\n! enter 2\n2\n! leave 2\n! destroy 2\n! free 2\n= exit 0\n",
-        status: Status::Done,
-    },
-    Row {
-        options: &["--trace"],
-        input: b"",
-        source: "struct A { int n; A(int k) { n = k; } ~A() { write_int(n); } }; struct B { }; void f() throw(int) { A x(1); throw B(); } int main() { try { f(); } catch (...) { write_int(2); } return 0; }",
-        lines: "! make 1\n1\n! enter 1\n= aborted\n",
-        status: Status::Aborted,
-    },
-    Row {
-        options: &["--trace"],
-        input: b"",
-        source: "struct A { int n; A(int k) { n = k; } ~A() { write_int(n); } }; struct B { }; void f() throw(int) { A x(1); throw B(); } void u() { throw 4; } int main() { std::set_unexpected(u); try { f(); } catch (int e) { write_int(e); } return 0; }",
-        lines: "! make 1\n1\n! enter 1\n! make 2\n! enter 2\n! leave 2\n! leave 1\n! destroy 1\n! free 1\n! enter 2\n4\n! leave 2\n! destroy 2\n! free 2\n= exit 0\n",
-        status: Status::Done,
-    },
-    Row {
-        options: &["--trace"],
-        input: b"",
-        source: "void f() throw(std::bad_exception) { throw 3; } void u() { throw; } int main() { std::set_unexpected(u); try { f(); } catch (std::bad_exception&) { write_int(6); } return 0; }",
-        lines: "! make 1\n! enter 1\n! enter 1\n! make 2\n! leave 1\n! leave 1\n! destroy 1\n! free 1\n! enter 2\n6\n! leave 2\n! destroy 2\n! free 2\n= exit 0\n",
-        status: Status::Done,
-    },
-    Row {
-        options: &["--trace"],
-        input: b"",
-        source: "int main() { try { throw; } catch (...) { } return 0; }",
-        lines: "= aborted\n",
-        status: Status::Aborted,
-    },
-    Row {
-        options: &["--trace"],
-        input: b"",
-        source: "struct X { X() { } X(const X& o) { throw 1; } }; int main() { try { X x; throw x; } catch (...) { } return 0; }",
-        lines: "! make 1\n! make 2\n! enter 2\n= aborted\n",
-        status: Status::Aborted,
-    },
-    Row {
-        options: &["--foreign=r7", "--trace"],
-        input: b"",
-        source: "struct A { int n; A(int k) { n = k; } ~A() { write_int(n); } }; int main() { try { try { __module(0, 0); } catch (A&) { write_int(1); } catch (...) { write_int(2); throw; } } catch (...) { write_int(3); } return 0; }",
-        lines: "! foreign 1 0 7\n! enter 1\n2\n! leave 1\n! enter 1\n3\n! leave 1\n! clean 0 7\n= exit 0\n",
-        status: Status::Done,
-    },
-    Row {
-        options: &[],
-        input: b"",
-        source: "struct A { int n; A(int k) { n = k; } ~A() { write_int(n); } }; int main() { A a(1); try { A b(2); __cancel(4); } catch (...) { write_int(9); } return 0; }",
-        lines: "2\n1\n= exit 4\n",
-        status: Status::Done,
-    },
-    Row {
-        options: &[],
-        input: b"",
-        source: "int main() { return 2147483647; }",
-        lines: "= exit 2147483647\n",
-        status: Status::Done,
-    },
-    Row {
-        options: &[],
-        input: b"",
-        source: "int main() { write_int(-7 / 2); write_int(-7 % 2); }",
-        lines: "-3\n-1\n= exit 0\n",
-        status: Status::Done,
-    },
-    Row {
-        options: &[],
-        input: b"",
-        source: "int main() { write_int(1); write_int(2147483647 + 1); return 0; }",
-        lines: "1\n= undefined\n",
-        status: Status::Undefined,
-    },
-    Row {
-        options: &[],
-        input: b"",
-        source: "int f(int n) { if (n == 0) return 0; return f(n - 1) + 1; } int main() { write_int(f(126)); return 0; }",
-        lines: "126\n= exit 0\n",
-        status: Status::Done,
-    },
-    Row {
-        options: &[],
-        input: b"",
-        source: "int f(int n) { if (n == 0) return 0; return f(n - 1) + 1; } int main() { write_int(f(127)); return 0; }",
-        lines: "= stack\n",
-        status: Status::Stack,
-    },
-    Row {
-        options: &[],
-        input: b"A\xff",
-        source: "int main() { write_int(read_byte()); write_int(read_byte()); write_int(read_byte()); }",
-        lines: "65\n255\n-1\n= exit 0\n",
-        status: Status::Done,
-    },
-    Row {
-        options: &["--foreign=v5,v-2*2"],
-        input: b"",
-        source: "int main() { write_int(__module(0, 9)); write_int(__module(0, 9)); write_int(__module(0, 9)); write_int(__module(0, 9)); write_int(__module(1, 9)); }",
-        lines: "5\n-2\n-2\n0\n0\n= exit 0\n",
-        status: Status::Done,
-    },
-    Row {
-        options: &[],
-        input: b"",
-        source: "struct U { ~U() { write_int(std::uncaught_exception()); } }; int main() { try { U u; throw 1; } catch (int) { U v; } return 0; }",
-        lines: "1\n0\n= exit 0\n",
-        status: Status::Done,
-    },
-    Row {
-        options: &["--trace"],
-        input: b"",
-        source: "void t() { try { throw; } catch (int e) { write_int(e); } exit(5); } int main() { std::set_terminate(t); throw 6; }",
-        lines: "! make 1\n! enter 1\n! enter 1\n6\n! leave 1\n= exit 5\n",
-        status: Status::Done,
-    },
-    Row {
-        options: &["--trace"],
-        input: b"",
-        source: "struct B { int n; B(int k) : n(k) { } B(const B& o) : n(o.n + 1) { } ~B() { write_int(n); } }; struct D : B { D() : B(5) { } }; int main() { try { throw D(); } catch (B b) { write_int(b.n + 100); } return 0; }",
-        lines: "! make 1\n! enter 1\n106\n6\n! leave 1\n! destroy 1\n5\n! free 1\n= exit 0\n",
-        status: Status::Done,
-    },
-    Row {
-        options: &[],
-        input: b"",
-        source: "struct Error { int code; Error(int c) : code(c) { } };\nstruct IoError : public Error { IoError(int c) : Error(c) { } };\nstruct Lock {\n  int id;\n  Lock(int i) : id(i) { write_int(100 + id); }\n  ~Lock() { write_int(200 + id); }\n};\nint depth = 0;\nint parse(int n) throw(Error) {\n  Lock l(n);\n  depth = depth + 1; // counts the calls\n  if (n > 2) throw IoError(n);\n  return parse(n + 1) + 1;\n}\nint main() {\n  try { Lock outer(0); write_int(parse(1)); }\n  catch (const Error& e) { write_int(e.code); }\n  write_int(depth);\n  return 0;\n}\n",
-        lines: "100\n101\n102\n103\n203\n202\n201\n200\n3\n3\n= exit 0\n",
-        status: Status::Done,
-    },
-    Row {
-        options: &[],
-        input: b"",
-        source: "int main() { return 0; }",
-        lines: "= exit 0\n",
-        status: Status::Done,
-    },
-    Row {
-        options: &[],
-        input: b"",
-        source: "int main() {return 0; }",
-        lines: "= exit 0\n",
-        status: Status::Done,
-    },
-    Row {
-        options: &["--max=1000"],
-        input: b"",
-        source: "int main() { while (1) { write_int(1); } }",
-        lines: "1\n1\n1\n1\n1\n1\n1\n1\n1\n1\n1\n1\n1\n1\n1\n1\n1\n1\n1\n1\n1\n1\n1\n1\n1\n1\n1\n1\n1\n1\n1\n1\n1\n1\n1\n1\n1\n1\n1\n1\n1\n1\n1\n1\n1\n1\n1\n1\n1\n1\n1\n1\n1\n1\n1\n1\n1\n1\n1\n1\n1\n1\n1\n1\n1\n1\n1\n1\n1\n1\n1\n1\n1\n1\n1\n1\n1\n1\n1\n1\n1\n1\n1\n1\n1\n1\n1\n1\n1\n1\n1\n1\n1\n1\n1\n1\n1\n1\n1\n1\n1\n1\n1\n1\n1\n1\n1\n1\n1\n1\n1\n1\n1\n1\n1\n1\n1\n1\n1\n1\n1\n1\n1\n1\n1\n1\n1\n1\n1\n1\n1\n1\n1\n1\n1\n1\n1\n1\n1\n1\n1\n1\n1\n1\n1\n1\n1\n1\n1\n1\n1\n1\n1\n1\n1\n1\n1\n1\n1\n1\n1\n1\n1\n1\n1\n1\n1\n1\n1\n1\n1\n1\n1\n1\n1\n1\n1\n1\n1\n1\n1\n1\n1\n1\n1\n1\n1\n1\n1\n1\n1\n1\n1\n1\n1\n1\n1\n1\n1\n1\n1\n1\n1\n1\n1\n1\n1\n1\n1\n1\n1\n1\n1\n1\n1\n1\n1\n1\n1\n1\n1\n1\n1\n1\n1\n1\n1\n1\n1\n1\n1\n1\n1\n1\n1\n1\n1\n1\n1\n1\n1\n1\n1\n1\n1\n1\n1\n1\n1\n1\n1\n1\n1\n1\n1\n1\n1\n1\n1\n1\n1\n1\n1\n1\n1\n1\n1\n1\n1\n1\n1\n1\n1\n1\n1\n1\n1\n1\n1\n1\n1\n1\n1\n1\n1\n1\n1\n1\n1\n1\n1\n1\n1\n1\n1\n1\n1\n1\n1\n1\n1\n1\n1\n1\n1\n1\n1\n1\n1\n1\n1\n1\n1\n1\n1\n1\n1\n1\n1\n1\n1\n1\n1\n1\n1\n1\n1\n1\n1\n1\n1\n1\n1\n1\n1\n1\n1\n1\n1\n1\n1\n1\n1\n1\n1\n1\n1\n1\n1\n1\n1\n1\n1\n1\n1\n1\n1\n1\n1\n1\n1\n1\n1\n1\n1\n1\n1\n1\n1\n1\n1\n1\n1\n1\n1\n1\n1\n1\n1\n1\n1\n1\n1\n1\n1\n1\n1\n1\n1\n1\n1\n1\n1\n1\n1\n1\n1\n1\n1\n1\n1\n1\n1\n1\n1\n1\n1\n1\n1\n1\n1\n1\n1\n1\n1\n1\n1\n1\n1\n1\n1\n1\n1\n1\n1\n1\n1\n1\n1\n1\n1\n1\n1\n1\n1\n1\n1\n1\n1\n1\n1\n1\n1\n1\n1\n1\n1\n1\n1\n1\n1\n1\n1\n1\n1\n1\n1\n1\n1\n1\n1\n1\n1\n1\n1\n1\n1\n1\n1\n1\n1\n1\n1\n1\n1\n1\n1\n1\n1\n1\n1\n1\n1\n1\n1\n1\n1\n1\n1\n1\n1\n1\n1\n1\n1\n1\n1\n1\n1\n1\n1\n1\n1\n1\n1\n1\n1\n1\n1\n1\n1\n1\n1\n1\n1\n1\n1\n1\n1\n1\n1\n1\n1\n1\n1\n1\n1\n1\n1\n1\n1\n1\n1\n1\n1\n1\n1\n1\n1\n1\n1\n1\n1\n1\n1\n1\n1\n1\n1\n1\n1\n1\n1\n1\n1\n1\n1\n1\n1\n1\n1\n1\n1\n1\n1\n1\n1\n1\n1\n1\n1\n1\n1\n1\n1\n1\n1\n1\n1\n1\n1\n1\n1\n1\n1\n1\n1\n1\n1\n1\n1\n1\n1\n1\n1\n1\n1\n1\n1\n1\n1\n1\n1\n1\n1\n1\n1\n1\n1\n1\n1\n1\n1\n1\n1\n1\n1\n1\n1\n1\n1\n1\n1\n1\n1\n1\n1\n1\n1\n1\n1\n1\n1\n1\n1\n1\n1\n1\n1\n1\n1\n1\n1\n1\n1\n1\n1\n1\n1\n1\n1\n1\n1\n1\n1\n1\n1\n1\n1\n1\n1\n1\n1\n1\n1\n1\n1\n1\n1\n1\n1\n1\n1\n1\n1\n1\n1\n1\n1\n1\n1\n1\n1\n1\n1\n1\n1\n1\n1\n1\n1\n1\n1\n1\n1\n1\n1\n1\n1\n1\n1\n1\n1\n1\n1\n1\n1\n1\n1\n1\n1\n1\n1\n1\n1\n1\n1\n1\n1\n1\n1\n1\n1\n1\n1\n1\n1\n1\n1\n1\n1\n1\n1\n1\n1\n1\n1\n1\n1\n1\n1\n1\n1\n1\n1\n1\n1\n1\n1\n1\n1\n1\n1\n1\n1\n1\n1\n1\n1\n1\n1\n1\n1\n1\n1\n1\n1\n1\n1\n1\n1\n1\n1\n1\n1\n1\n1\n1\n1\n1\n1\n1\n1\n1\n1\n1\n1\n1\n1\n1\n1\n1\n1\n1\n1\n1\n1\n1\n1\n1\n1\n1\n1\n1\n1\n1\n1\n1\n1\n1\n1\n1\n1\n1\n1\n1\n1\n1\n1\n1\n1\n1\n1\n1\n1\n1\n1\n1\n1\n1\n1\n1\n1\n1\n1\n1\n1\n1\n1\n1\n1\n1\n1\n1\n1\n1\n1\n1\n1\n1\n1\n1\n1\n1\n1\n1\n1\n1\n1\n1\n1\n1\n1\n1\n1\n1\n1\n1\n1\n1\n1\n1\n1\n1\n1\n1\n1\n1\n1\n1\n1\n1\n1\n1\n1\n1\n1\n1\n1\n1\n1\n1\n1\n1\n1\n1\n1\n1\n1\n1\n1\n1\n1\n1\n1\n1\n1\n1\n1\n1\n1\n1\n1\n1\n1\n1\n1\n1\n1\n1\n1\n1\n1\n1\n1\n1\n1\n1\n1\n1\n1\n1\n1\n1\n1\n1\n1\n1\n1\n1\n1\n1\n1\n1\n1\n1\n1\n1\n1\n1\n1\n1\n1\n1\n1\n1\n1\n1\n1\n1\n1\n1\n1\n1\n1\n1\n1\n1\n1\n1\n1\n1\n1\n1\n1\n1\n1\n1\n1\n1\n1\n1\n1\n1\n1\n1\n1\n1\n1\n1\n1\n1\n1\n1\n1\n1\n1\n1\n1\n= budget\n",
-        status: Status::Budget,
-    },
-    Row {
-        options: &[],
-        input: b"",
-        source: "void f() { f(); } int main() { f(); return 0; }",
-        lines: "= stack\n",
-        status: Status::Stack,
-    },
-    Row {
-        options: &[],
-        input: b"",
-        source: "void f(int n) { try { throw n; } catch (int) { if (n > 1) f(n - 1); } } int main() { f(1024); return 0; }",
-        lines: "= stack\n",
-        status: Status::Stack,
-    },
-    Row {
-        options: &[],
-        input: b"",
-        source: "struct A { int n; A(int k) { n = k; } ~A() { write_int(n); } }; int main() { A a(1); { A b(2); } while (1) { A c(3); break; } return 4; }",
-        lines: "2\n3\n1\n= exit 4\n",
-        status: Status::Done,
-    },
-    Row {
-        options: &[],
-        input: b"",
-        source: "int g = 7; void f(int& r) { r = r + g; } int main() { int x = 1; f(x); f(g); write_int(x); return g; }",
-        lines: "8\n= exit 14\n",
-        status: Status::Done,
-    },
-    Row {
-        options: &[],
-        input: b"",
-        source: "struct A { int n; A(int k) { n = k; } ~A() { write_int(n); } }; int main() { int i = 0; while (i < 3) { i = i + 1; try { A a(i); if (i == 2) throw i; } catch (int e) { write_int(e + 10); continue; } write_int(i + 20); } return 0; }",
-        lines: "1\n21\n2\n12\n3\n23\n= exit 0\n",
-        status: Status::Done,
-    },
-    Row {
-        options: &["--trace"],
-        input: b"",
-        source: "struct X { int n; X(int k) : n(k) { } X(const X& o) : n(o.n) { throw 1; } }; int main() { try { throw X(3); } catch (X x) { } return 0; }",
-        lines: "! make 1\n! make 2\n! enter 2\n= aborted\n",
-        status: Status::Aborted,
-    },
-    Row {
-        options: &["--trace"],
-        input: b"",
-        source: "void f() throw() { throw 1; } void u() { } int main() { std::set_unexpected(u); f(); return 0; }",
-        lines: "! make 1\n! enter 1\n= aborted\n",
-        status: Status::Aborted,
-    },
-    Row {
-        options: &["--trace"],
-        input: b"",
-        source: "int k = 0; struct B { }; void g() throw(int) { throw; } void u() { if (k == 1) throw 4; k = 1; g(); } void f() throw(std::bad_exception) { throw B(); } int main() { std::set_unexpected(u); try { f(); } catch (std::bad_exception&) { write_int(6); } return 0; }",
-        lines: "! make 1\n! enter 1\n! enter 1\n! make 2\n! enter 2\n! leave 2\n! leave 1\n! enter 2\n! make 3\n! leave 2\n! destroy 2\n! free 2\n! leave 1\n! destroy 1\n! free 1\n! enter 3\n6\n! leave 3\n! destroy 3\n! free 3\n= exit 0\n",
-        status: Status::Done,
-    },
-    Row {
-        options: &["--trace", "--foreign=r7"],
-        input: b"",
-        source: "int main() { try { throw 1; } catch (int) { try { __module(0, 0); } catch (...) { } } return 0; }",
-        lines: "! make 1\n! enter 1\n! foreign 2 0 7\n= aborted\n",
-        status: Status::Aborted,
-    },
-    Row {
-        options: &["--trace"],
-        input: b"",
-        source: "struct A { int n; A(int k) { n = k; } ~A() { write_int(n); } }; int main() { try { throw 1; } catch (int) { A a(2); __cancel(3); } return 0; }",
-        lines: "! make 1\n! enter 1\n2\n! leave 1\n! destroy 1\n! free 1\n= exit 3\n",
-        status: Status::Done,
-    },
-    Row {
-        options: &[],
-        input: b"",
-        source: "void f(int n) { int a = n; int b = n + 1; if (n == 0) throw 1; f(n - 1); write_int(a + b); } int main() { int x = 40; try { x = x + 1; f(3); } catch (int e) { write_int(x + e); } return x; }",
-        lines: "42\n= exit 41\n",
-        status: Status::Done,
-    },
-    Row {
-        options: &[],
-        input: b"",
-        source: "int g(int a) { int b = a + 1; write_int(b); return b; } int main() { return g(2); }",
-        lines: "3\n= exit 3\n",
-        status: Status::Done,
-    },
-    Row {
-        options: &[],
-        input: b"",
-        source: "int g(int a) { int b = a; int c = b; int d = c; int e = d; int f = e; int h = f; int i = h; int j = i; int k = j; return k; } int main() { return g(2); }",
-        lines: "= exit 2\n",
-        status: Status::Done,
-    },
-    Row {
-        options: &["--foreign=r1*3,v0"],
-        input: b"",
-        source: "int main() { int i = 0; while (i < 5) { try { __module(0, i); write_int(i); } catch (...) { write_int(10 + i); } i = i + 1; } }",
-        lines: "10\n11\n12\n3\n4\n= exit 0\n",
-        status: Status::Done,
-    },
-    Row {
-        options: &["--foreign=r3", "--trace"],
-        input: b"",
-        source: "int main() { __module(0, 1); return 0; }",
-        lines: "! foreign 1 0 3\n= aborted\n",
-        status: Status::Aborted,
-    },
-    Row {
-        options: &[],
-        input: b"",
-        source: "int f(int n) { write_int(n); return n; } int g(int a, int b) { return a - b; } int main() { write_int(f(1) + f(2) * f(3)); write_int(g(f(8), f(5))); if (f(0) && f(9)) { } if (f(4) || f(9)) { } return 0; }",
-        lines: "1\n2\n3\n7\n8\n5\n3\n0\n4\n= exit 0\n",
-        status: Status::Done,
-    },
-    Row {
-        options: &["--trace"],
-        input: b"",
-        source: "struct B { int b; }; struct D : B { int d; }; int main() { try { D x; x.b = 3; throw x; } catch (D y) { write_int(y.b + y.d); } return 0; }",
-        lines: "! make 1\n! enter 1\n3\n! leave 1\n! destroy 1\n! free 1\n= exit 0\n",
-        status: Status::Done,
-    },
-    Row {
-        options: &[],
-        input: b"",
-        source: "struct A { int n; A(int k) { n = k; } ~A() { write_int(n); } }; int main() { A a(1); exit(3); }",
-        lines: "= exit 3\n",
-        status: Status::Done,
-    },
-    Row {
-        options: &["--trace"],
-        input: b"",
-        source: "struct T { ~T() { throw 1; } }; int main() { try { T t; } catch (int e) { write_int(e); } return 0; }",
-        lines: "! make 1\n! enter 1\n1\n! leave 1\n! destroy 1\n! free 1\n= exit 0\n",
-        status: Status::Done,
-    },
-    Row {
-        options: &["--trace"],
-        input: b"",
-        source: "struct A { int n; A(int k) { n = k; } ~A() { write_int(n); } }; void f() throw() { A x(1); __cancel(6); } int main() { try { throw 2; } catch (...) { f(); } return 0; }",
-        lines: "! make 1\n! enter 1\n1\n! leave 1\n! destroy 1\n! free 1\n= exit 6\n",
-        status: Status::Done,
-    },
-    Row {
-        options: &[],
-        input: b"",
-        source: "void t() { write_int(1); } int main() { std::set_terminate(t); std::terminate(); }",
-        lines: "1\n= aborted\n",
-        status: Status::Aborted,
-    },
-    Row {
-        options: &["--foreign=v-3"],
-        input: b"",
-        source: "int main() { write_int(__module(0, 1)); write_int(__module(0, 1)); write_int(__module(1, 1)); write_int(__module(-1, 1)); return 0; }",
-        lines: "-3\n0\n0\n0\n= exit 0\n",
-        status: Status::Done,
-    },
-    Row {
-        options: &[],
-        input: b"",
-        source: "int main() { int x; write_int(1); return x; }",
-        lines: "1\n= undefined\n",
-        status: Status::Undefined,
-    },
-    Row {
-        options: &[],
-        input: b"",
-        source: "int main() { return 1 / 0; }",
-        lines: "= undefined\n",
-        status: Status::Undefined,
-    },
-    Row {
-        options: &[],
-        input: b"",
-        source: "int main() { int m = -2147483647 - 1; return m % -1; }",
-        lines: "= undefined\n",
-        status: Status::Undefined,
-    },
-    Row {
-        options: &[],
-        input: b"",
-        source: "int f() { } int main() { f(); return 0; }",
-        lines: "= undefined\n",
-        status: Status::Undefined,
-    },
-    Row {
-        options: &[],
-        input: b"",
-        source: "struct A { int n; A(int k) { n = k; } ~A() { write_int(n); } }; struct P { A a; A b; P() : b(2), a(1) { } ~P() { write_int(3); } }; int main() { P p; return 0; }",
-        lines: "3\n2\n1\n= exit 0\n",
-        status: Status::Done,
-    },
-    Row {
-        options: &["--max=3"],
-        input: b"",
-        source: "struct E { }; int main() { E e; return 0; }",
-        lines: "= exit 0\n",
-        status: Status::Done,
-    },
-    Row {
-        options: &["--max=2"],
-        input: b"",
-        source: "struct E { }; int main() { E e; return 0; }",
-        lines: "= budget\n",
-        status: Status::Budget,
-    },
-];
 
 // The lines that are no events.
 fn without_events(alloc: Global, lines: &str) -> Result<String, Fail> {
@@ -447,10 +25,20 @@ fn without_events(alloc: Global, lines: &str) -> Result<String, Fail> {
     Ok(plain)
 }
 
-// What `mean` answers of a program, with the modules that the words ask for.
-fn seen(alloc: Global, row: &Row, words: &[&str]) -> Result<Seen, Fail> {
+fn is_traced(row: &Row) -> bool {
+    row.options.iter().any(|option| *option == "--trace")
+}
+
+// What `mean` answers of a program, with the modules that its options ask for.
+fn seen(alloc: Global, row: &Row, traced: bool) -> Result<Seen, Fail> {
+    let mut words = vec![in alloc; "mean", "SRC", "--in=IN"]?;
+    for option in row.options {
+        if traced || *option != "--trace" {
+            words.push(*option)?;
+        }
+    }
     let mut owned = Vec::new(alloc);
-    for word in words {
+    for word in &words {
         owned.push(String::from_str(alloc, word)?)?;
     }
     let mut modules: Vec<Box<dyn Module>> = Vec::new(alloc);
@@ -461,33 +49,131 @@ fn seen(alloc: Global, row: &Row, words: &[&str]) -> Result<Seen, Fail> {
         input: row.input,
         ..holding(row.source.as_bytes())
     };
-    answer_with(alloc, words, &outside, modules)
+    answer_with(alloc, words.as_slice(), &outside, modules)
 }
 
 #[test]
 fn worked_programs(rt: HostRuntime) -> Result<(), Fail> {
     let alloc = rt.alloc();
-    for row in ROWS {
-        let mut words = Vec::new(alloc);
-        words.push("mean")?;
-        words.push("SRC")?;
-        words.push("--in=IN")?;
-        for option in row.options {
-            if *option != "--trace" {
-                words.push(*option)?;
+    let tables = [
+        values(),
+        objects(),
+        throws(),
+        specifications(),
+        terminates(),
+        modules(),
+        undefined(),
+    ];
+    for table in tables {
+        for row in table {
+            let plain = without_events(alloc, row.lines)?;
+            let found = seen(alloc, row, false)?;
+            assert_eq!(rt; found.out.bytes(), plain.as_bytes(), "{}", row.source);
+            assert_eq!(rt; found.status, row.status, "{}", row.source);
+            assert_eq!(rt; found.err.bytes(), b"".as_slice(), "{}", row.source);
+            if is_traced(row) {
+                let found = seen(alloc, row, true)?;
+                assert_eq!(rt; found.out.bytes(), row.lines.as_bytes(), "{}", row.source);
+                assert_eq!(rt; found.status, row.status, "{}", row.source);
             }
         }
-        let plain = without_events(alloc, row.lines)?;
-        let found = seen(alloc, row, words.as_slice())?;
-        assert_eq!(rt; found.out.bytes(), plain.as_bytes(), "{}", row.source);
-        assert_eq!(rt; found.status, row.status, "{}", row.source);
-        assert_eq!(rt; found.err.bytes(), b"".as_slice(), "{}", row.source);
-        words.push("--trace")?;
-        if row.options.iter().any(|option| *option == "--trace") {
-            let found = seen(alloc, row, words.as_slice())?;
-            assert_eq!(rt; found.out.bytes(), row.lines.as_bytes(), "{}", row.source);
-            assert_eq!(rt; found.status, row.status, "{}", row.source);
+    }
+    Ok(())
+}
+
+// A way to nest, by what stands round each level, as often as the deepest tree has room for.
+struct Nest {
+    first: &'static str,
+    open: &'static str,
+    inner: &'static str,
+    close: &'static str,
+    levels: usize,
+}
+
+static NESTS: [Nest; 6] = [
+    Nest {
+        first: "return ",
+        open: "(",
+        inner: "f(k - 1) + 1",
+        close: ")",
+        levels: 57,
+    },
+    Nest {
+        first: "return ",
+        open: "g(",
+        inner: "f(k - 1) + 1",
+        close: ")",
+        levels: 57,
+    },
+    Nest {
+        first: "",
+        open: "{ A a(k); ",
+        inner: "return f(k - 1) + 1;",
+        close: " }",
+        levels: 57,
+    },
+    Nest {
+        first: "",
+        open: "while (k) ",
+        inner: "return f(k - 1) + 1;",
+        close: "",
+        levels: 57,
+    },
+    Nest {
+        first: "",
+        open: "if (k) ",
+        inner: "return f(k - 1) + 1;",
+        close: "",
+        levels: 57,
+    },
+    Nest {
+        first: "",
+        open: "try { ",
+        inner: "return f(k - 1) + 1;",
+        close: " } catch (int) { }",
+        levels: 28,
+    },
+];
+
+// A function that calls itself, from the innermost of some levels.
+fn nested(alloc: Global, nest: &Nest, levels: usize, calls: u32) -> Result<String, Fail> {
+    let mut source = String::new(alloc);
+    source.push_str(
+        "struct A { int n; A(int k) { n = k; } ~A() { n = 0; } }; int g(int k) { return k; } int f(int k) { if (k == 0) return 0; ",
+    )?;
+    source.push_str(nest.first)?;
+    for _ in 0..levels {
+        source.push_str(nest.open)?;
+    }
+    source.push_str(nest.inner)?;
+    for _ in 0..levels {
+        source.push_str(nest.close)?;
+    }
+    let end = format!(in alloc; "; }} int main() {{ return f({calls}); }}")?;
+    source.push_str(end.as_str())?;
+    Ok(source)
+}
+
+// The deepest trees at the most open calls, and one level and one call more.
+#[test]
+fn both_limits(rt: HostRuntime) -> Result<(), Fail> {
+    let alloc = rt.alloc();
+    for nest in &NESTS {
+        let rows = [(126, "= exit 126\n"), (127, "= stack\n")];
+        for (calls, lines) in rows {
+            let source = nested(alloc, nest, nest.levels, calls)?;
+            let outside = holding(source.as_str().as_bytes());
+            let seen = answer(alloc, &["mean", "SRC"], &outside)?;
+            assert_eq!(rt; seen.out.bytes(), lines.as_bytes(), "{}", nest.open);
         }
+        let source = nested(alloc, nest, nest.levels + 1, 126)?;
+        let seen = answer(
+            alloc,
+            &["mean", "SRC"],
+            &holding(source.as_str().as_bytes()),
+        )?;
+        let is_too_deep = matches!(seen.status, Status::SourceRefused(21, _));
+        assert!(rt; is_too_deep, "{}", nest.open);
     }
     Ok(())
 }
