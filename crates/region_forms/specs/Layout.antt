@@ -1,7 +1,8 @@
 -- Where the parts of an object stand: its base at the beginning, then its members in order of declaration and without gaps, an int with
 -- 4 bytes (profile; ISO/IEC 14882:2003, 9.2/12 and 10/3, leave it open). A class's parts are of classes before it (9.2/8, 10/1), so
 -- layouts are made in the order of the classes.
-use Rattle.std.specs.Prelude.{ℕ, ◌+◌, ◌-◌, nat_lt, List, [], ◌∷◌, ◌++◌, map, length, slice_get, unwrap_or, if◌then◌else◌}
+use Rattle.std.specs.Prelude.{ℕ, zero, suc, Option, Some, None, ◌+◌, List, [], ◌∷◌, ◌++◌, map, slice_get, unwrap_or}
+use Rattle.cxx_ast.specs.declared.name.Name.{Name}
 use Rattle.cxx_ast.specs.Plain.{Class, Checked}
 use Rattle.scope_rules.specs.Class.{ObjectType, int_type, class_type, class_at, base_part, member_part}
 
@@ -74,12 +75,20 @@ layout_of p = record { classes = layouts p.classes }
 abbrev pub laid_size : Layout → ObjectType → ℕ
 laid_size l t = size_in l.classes t
 
+-- a class's parts by the offsets of its members: a base is at the beginning, then the members follow
+abbrev pub offset_of_part : Option Name → List ℕ → ℕ → ℕ
+offset_of_part None members i = unwrap_or (slice_get members i) 0
+offset_of_part (Some b) members zero = 0
+offset_of_part (Some b) members (suc i) = unwrap_or (slice_get members i) 0
+
+-- the offset of the i-th part of class c with number k
+abbrev pub part_offset : List ClassLayout → ℕ → Class → ℕ → ℕ
+part_offset laid k c i = offset_of_part c.base (layout_at laid k).members i
+
 -- the offset of the i-th member of class k by a layout
 abbrev pub laid_member : Layout → ℕ → ℕ → ℕ
 laid_member l k i = unwrap_or (slice_get (layout_at l.classes k).members i) 0
 
--- the offset of the i-th part of class k by a layout: the base is at the beginning, then the members follow
+-- the offset of the i-th part of class k by a layout
 abbrev pub laid_part : Layout → Checked → ℕ → ℕ → ℕ
-laid_part l p k i =
-    let bases = length (base_part (class_at p k).base) in
-    if nat_lt i bases then 0 else laid_member l k (i - bases)
+laid_part l p k i = part_offset l.classes k (class_at p k) i
