@@ -3,7 +3,7 @@ use Rattle.std.proofs.Common.{◌≡◌, ◌∙◌, ℕ, zero, suc, ℤ, pos, ne
 use Rattle.std.specs.Prelude.{if◌then◌else◌}
 use Rattle.cxx_ast.specs.declared.name.Name.{Name}
 use Rattle.cxx_ast.specs.declared.types.Param.{Param}
-use Rattle.cxx_ast.specs.Plain.{Expression, Expressions, Statement, if_else, local_int, local_object, local_ref, Statements, no_statements, statement_then, Else, no_else, else_do}
+use Rattle.cxx_ast.specs.Plain.{Checked, Expression, Expressions, Statement, if_else, local_int, local_object, local_ref, Statements, no_statements, statement_then, Else, no_else, else_do}
 use Rattle.scope_rules.specs.Arithmetic.{is_zero}
 use Rattle.scope_rules.specs.Class.{class_named, class_type}
 use Rattle.scope_rules.specs.Part.{Part, unset}
@@ -73,10 +73,14 @@ pub int_declared : (r : Running) (n : Name) (e : Option Expression) (ss : Statem
 int_declared r n e ss f c w u v o x answer made at g =
     gives_by_next flow_of (local_cell r f e c w) (λ m. statements r ss (with_variable n (whole m) f) c) o u v answer made (subst (λ y. GivesBy flow_of (statements r ss (with_variable n y f) c u) answer v) at g)
 
+-- what a reference is bound to
+pub bound_so : (p : Checked) (w : World) (t : Ty) (f : Frame) (names : List Name) (x y : Reference) → x ≡ lvalue p w f names → y ≡ bound_as w t x → y ≡ bound_as w t (lvalue p w f names)
+bound_so p w t f names x y at bound = bound ∙ ap (bound_as w t) at
+
 -- a local reference
-pub reference_declared : (r : Running) (p : Param) (names : List Name) (ss : Statements) (f : Frame) (c : Context) (w v : World) (x y : Reference) (answer : CodeResult CodeFlow Halt)
-    → x ≡ lvalue r.program w f names → y ≡ bound_as w p.ty x → GivesBy flow_of (statements r ss (with_parameter p.name y f) c w) answer v → GivesBy flow_of (statement r (local_ref p names) (λ g. statements r ss g c) f c w) answer v
-reference_declared r p names ss f c w v x y answer at bound g = subst (λ z. GivesBy flow_of (statements r ss (with_parameter p.name z f) c w) answer v) (bound ∙ ap (bound_as w p.ty) at) g
+pub reference_declared : (r : Running) (p : Param) (names : List Name) (ss : Statements) (f : Frame) (c : Context) (w v : World) (y : Reference) (answer : CodeResult CodeFlow Halt)
+    → y ≡ bound_as w p.ty (lvalue r.program w f names) → GivesBy flow_of (statements r ss (with_parameter p.name y f) c w) answer v → GivesBy flow_of (statement r (local_ref p names) (λ g. statements r ss g c) f c w) answer v
+reference_declared r p names ss f c w v y answer bound g = subst (λ z. GivesBy flow_of (statements r ss (with_parameter p.name z f) c w) answer v) bound g
 
 -- a local object
 pub object_declared : (r : Running) (k n : Name) (es : Expressions) (ss : Statements) (f : Frame) (c : Context) (w v : World) (j : ℕ) (answer : CodeResult CodeFlow Halt)
@@ -87,20 +91,23 @@ object_declared r k n es ss f c w v j answer e g = subst (λ i. GivesBy flow_of 
 abbrev scoped : Running → ℕ → Name → Expressions → Statements → Frame → Context → ℕ → Action Flow
 scoped r k n es ss f c o = construct r f k es (whole o) c >> scope r c (destroy r (class_type k) (whole o)) (statements r ss (with_variable n (whole o) f) c)
 
-pub object_in_scope : (r : Running) (k : ℕ) (n : Name) (es : Expressions) (ss : Statements) (f : Frame) (c : Context) (w u v z : World) (o : ℕ) (a : Part) (x y : Reference) (answer : CodeResult CodeFlow Halt)
-    → a ≡ unset r.program (class_type k) → new_object a w ≡ done o u → x ≡ whole o → construct r f k es x c u ≡ done tt v → y ≡ whole o
+pub object_made : (r : Checked) (k : ℕ) (w u : World) (o : ℕ) (a : Part) → a ≡ unset r (class_type k) → new_object a w ≡ done o u → new_object (unset r (class_type k)) w ≡ done o u
+object_made r k w u o a e made = subst (λ b. new_object b w ≡ done o u) e made
+
+pub object_in_scope : (r : Running) (k : ℕ) (n : Name) (es : Expressions) (ss : Statements) (f : Frame) (c : Context) (w u v z : World) (o : ℕ) (x y : Reference) (answer : CodeResult CodeFlow Halt)
+    → new_object (unset r.program (class_type k)) w ≡ done o u → x ≡ whole o → construct r f k es x c u ≡ done tt v → y ≡ whole o
     → GivesBy flow_of (after_scope r c (destroy r (class_type k) x) (statements r ss (with_variable n y f) c v)) answer z → GivesBy flow_of (object_scoped r k n es ss f c w) answer z
-object_in_scope r k n es ss f c w u v z o a x y answer e made at built there g =
-    gives_by_next flow_of (new_object (unset r.program (class_type k)) w) (scoped r k n es ss f c) o u z answer (subst (λ b. new_object b w ≡ done o u) e made)
+object_in_scope r k n es ss f c w u v z o x y answer made at built there g =
+    gives_by_next flow_of (new_object (unset r.program (class_type k)) w) (scoped r k n es ss f c) o u z answer made
     (gives_by_next flow_of (construct r f k es (whole o) c u) (λ b. scope r c (destroy r (class_type k) (whole o)) (statements r ss (with_variable n (whole o) f) c)) tt v z answer
     (subst (λ q. construct r f k es q c u ≡ done tt v) at built)
     (subst (λ q. GivesBy flow_of (after_scope r c (destroy r (class_type k) q) (statements r ss (with_variable n (whole o) f) c v)) answer z) at
     (subst (λ q. GivesBy flow_of (after_scope r c (destroy r (class_type k) x) (statements r ss (with_variable n q f) c v)) answer z) there g)))
 
-pub object_halted : (r : Running) (k : ℕ) (n : Name) (es : Expressions) (ss : Statements) (f : Frame) (c : Context) (w u v : World) (o : ℕ) (a : Part) (x : Reference) (h : Halt)
-    → a ≡ unset r.program (class_type k) → new_object a w ≡ done o u → x ≡ whole o → Halts (construct r f k es x c u) h v → Halts (object_scoped r k n es ss f c w) h v
-object_halted r k n es ss f c w u v o a x h e made at g =
-    halts_next (new_object (unset r.program (class_type k)) w) (scoped r k n es ss f c) o u v h (subst (λ b. new_object b w ≡ done o u) e made)
+pub object_halted : (r : Running) (k : ℕ) (n : Name) (es : Expressions) (ss : Statements) (f : Frame) (c : Context) (w u v : World) (o : ℕ) (x : Reference) (h : Halt)
+    → new_object (unset r.program (class_type k)) w ≡ done o u → x ≡ whole o → Halts (construct r f k es x c u) h v → Halts (object_scoped r k n es ss f c w) h v
+object_halted r k n es ss f c w u v o x h made at g =
+    halts_next (new_object (unset r.program (class_type k)) w) (scoped r k n es ss f c) o u v h made
     (halts_continued (construct r f k es (whole o) c u) (λ b. scope r c (destroy r (class_type k) (whole o)) (statements r ss (with_variable n (whole o) f) c)) h v (subst (λ q. Halts (construct r f k es q c u) h v) at g))
 
 -- the body of a handler, and its parameter's destruction

@@ -8,7 +8,7 @@ use Rattle.cxx_ast.specs.declared.name.Builtin.TheVariants.{WriteInt, Exit, Modu
 use Rattle.cxx_ast.specs.declared.name.Name.{Name}
 use Rattle.cxx_ast.specs.declared.types.Ty.{Ty}
 use Rattle.cxx_ast.specs.declared.types.Ty.TheVariants.{Int, Void, Object, IntRef, ObjectRef}
-use Rattle.cxx_ast.specs.Plain.{Expression, path, binary, call, Expressions}
+use Rattle.cxx_ast.specs.Plain.{Checked, Expression, path, binary, call, Expressions}
 use Rattle.run_items.specs.declared.item.Item.TheVariants.{Line}
 use Rattle.scope_rules.specs.Arithmetic.{binary_value, decided}
 use Rattle.scope_rules.specs.Class.{class_named}
@@ -22,6 +22,7 @@ use Rattle.scope_rules.specs.Expression.{arguments, builtin, called, callee_boun
 use Rattle.scope_world.specs.declared.outcome.Halt.{Halt}
 use Rattle.scope_world.specs.declared.outcome.Halt.TheVariants.{Exited, Cancelled}
 use Rattle.scope_world.specs.Gives.{Gives, Halts}
+use Rattle.scope_flow.specs.Always.{full_call}
 use Rattle.scope_meaning.specs.Asked.{copied_type}
 use Rattle.scope_flow.proofs.Passing.{halts_continued, halts_next, gives_next}
 
@@ -99,21 +100,29 @@ exited_with r es given c w u vs x g e = subst (λ n. Halts (builtin r Exit es gi
 pub cancelled_with : (r : Running) (es : Expressions) (given : Action (List Argument)) (c : Context) (w u : World) (vs : List Argument) (x : ℤ) → given w ≡ done vs u → x ≡ value_at vs 0 → Halts (builtin r Cancel es given c w) (Cancelled x) u
 cancelled_with r es given c w u vs x g e = subst (λ n. Halts (builtin r Cancel es given c w) (Cancelled n) u) (sym e) (halts_next (given w) (λ all. stop (cancelled (value_at all 0))) vs u u (Cancelled (value_at vs 0)) g refl)
 
-pub module_called : (r : Running) (es : Expressions) (given : Action (List Argument)) (c : Context) (w u v : World) (vs : List Argument) (x : ℤ) (answer : CodeResult ℤ Halt) → given w ≡ done vs u → x ≡ value_at vs 0 → Gives (call_module r x c u) answer v
+pub module_at : (r : Running) (c : Context) (u v : World) (vs : List Argument) (x : ℤ) (answer : CodeResult ℤ Halt) → x ≡ value_at vs 0 → Gives (call_module r x c u) answer v → Gives (call_module r (value_at vs 0) c u) answer v
+module_at r c u v vs x answer e k = subst (λ n. Gives (call_module r n c u) answer v) e k
+
+pub module_called : (r : Running) (es : Expressions) (given : Action (List Argument)) (c : Context) (w u v : World) (vs : List Argument) (answer : CodeResult ℤ Halt) → given w ≡ done vs u → Gives (call_module r (value_at vs 0) c u) answer v
     → Gives (builtin r Module es given c w) answer v
-module_called r es given c w u v vs x answer g e k = gives_next (given w) (λ all. call_module r (value_at all 0) c) vs u v answer g (subst (λ n. Gives (call_module r n c u) answer v) e k)
+module_called r es given c w u v vs answer g k = gives_next (given w) (λ all. call_module r (value_at all 0) c) vs u v answer g k
 
 -- a function is called with its arguments
-pub function_called : (r : Running) (f : Frame) (n : ℕ) (object : List Name) (es : Expressions) (given : Action (List Argument)) (c : Context) (w u v : World) (vs : List Argument) (x : Reference) (answer : CodeResult ℤ Halt)
-    → given w ≡ done vs u → x ≡ nowhere → Gives (r.call (function n) x vs c u) answer v → Gives (called r f (Func n) object es given c w) answer v
-function_called r f n object es given c w u v vs x answer g e k = gives_next (given w) (λ all. r.call (function n) nowhere all c) vs u v answer g (subst (λ y. Gives (r.call (function n) y vs c u) answer v) e k)
+pub called_at : (p : Checked) (n : ℕ) (c : Context) (u v : World) (vs : List Argument) (x : Reference) (answer : CodeResult ℤ Halt) → x ≡ nowhere → Gives (full_call p (function n) x vs c u) answer v → Gives (full_call p (function n) nowhere vs c u) answer v
+called_at p n c u v vs x answer e k = subst (λ y. Gives (full_call p (function n) y vs c u) answer v) e k
+
+pub function_called : (r : Running) (f : Frame) (n : ℕ) (object : List Name) (es : Expressions) (given : Action (List Argument)) (c : Context) (w u v : World) (vs : List Argument) (answer : CodeResult ℤ Halt)
+    → given w ≡ done vs u → Gives (r.call (function n) nowhere vs c u) answer v → Gives (called r f (Func n) object es given c w) answer v
+function_called r f n object es given c w u v vs answer g k = gives_next (given w) (λ all. r.call (function n) nowhere all c) vs u v answer g k
 
 -- and one of a class, on an object
-pub method_called : (r : Running) (f : Frame) (k i : ℕ) (object : List Name) (es : Expressions) (given : Action (List Argument)) (c : Context) (w u v : World) (vs : List Argument) (x y : Reference) (answer : CodeResult ℤ Halt)
-    → given w ≡ done vs u → x ≡ lvalue r.program u f object → y ≡ as_class u k x → Gives (r.call (method k i) y vs c u) answer v → Gives (called r f (Method k i) object es given c w) answer v
-method_called r f k i object es given c w u v vs x y answer g e a m =
-    gives_next (given w) (λ all z. r.call (method k i) (as_class z k (lvalue r.program z f object)) all c z) vs u v answer g
-    (subst (λ q. Gives (r.call (method k i) q vs c u) answer v) (a ∙ ap (as_class u k) e) m)
+pub called_on : (p : Checked) (f : Frame) (k i : ℕ) (object : List Name) (c : Context) (u v : World) (vs : List Argument) (x y : Reference) (answer : CodeResult ℤ Halt)
+    → x ≡ lvalue p u f object → y ≡ as_class u k x → Gives (full_call p (method k i) y vs c u) answer v → Gives (full_call p (method k i) (as_class u k (lvalue p u f object)) vs c u) answer v
+called_on p f k i object c u v vs x y answer e a m = subst (λ q. Gives (full_call p (method k i) q vs c u) answer v) (a ∙ ap (as_class u k) e) m
+
+pub method_called : (r : Running) (f : Frame) (k i : ℕ) (object : List Name) (es : Expressions) (given : Action (List Argument)) (c : Context) (w u v : World) (vs : List Argument) (answer : CodeResult ℤ Halt)
+    → given w ≡ done vs u → Gives (r.call (method k i) (as_class u k (lvalue r.program u f object)) vs c u) answer v → Gives (called r f (Method k i) object es given c w) answer v
+method_called r f k i object es given c w u v vs answer g m = gives_next (given w) (λ all z. r.call (method k i) (as_class z k (lvalue r.program z f object)) all c z) vs u v answer g m
 
 -- what is left of a construction once its arguments are there
 abbrev building : Running → ℕ → Reference → Context → Constructor → List Argument → Action (Unit {0})

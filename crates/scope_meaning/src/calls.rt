@@ -55,8 +55,14 @@ impl<
 /// The most calls that are open at once.
 const MOST_OPEN: u64 = 128;
 
-/// How deep an evaluation goes into the tree of one function, far more than a checked tree needs.
-pub const ROOM: u32 = 1000;
+/// How many open calls may each go as deep as a function of many variables needs.
+const ROOMY_CALLS: u64 = 16;
+
+/// How deep an evaluation goes into the tree of one function, by the number of open calls: in every call far deeper than the
+/// blocks and operators of a checked tree go, so that what all of them need together has a bound.
+pub fn room(c: &Context<'_>) -> u32 {
+    if c.depth <= ROOMY_CALLS { 1200 } else { 200 }
+}
 
 /// A call, which spends a turn, unless it would be one more than may be open.
 #[tactic(auto, using(crate::proofs::Opened::call_deep, crate::proofs::Opened::call_unspent, crate::proofs::Opened::call_done))]
@@ -241,7 +247,17 @@ fn run_implicit<G: Outside, C: Calls<G>>(
         parameters: &[],
         locals: &Locals::None,
     };
-    build_parts(calls, c, w, plan, &frame, 0, types.as_slice(), None, ROOM)
+    build_parts(
+        calls,
+        c,
+        w,
+        plan,
+        &frame,
+        0,
+        types.as_slice(),
+        None,
+        room(c),
+    )
 }
 
 #[tactic(auto, using(scope_flow::proofs::Passing::passing, crate::proofs::Called::destroyed_plainly, crate::proofs::Called::destroyed_so, crate::proofs::Called::parts_destroyed))]
@@ -263,7 +279,7 @@ fn run_destructor<G: Outside, C: Calls<G>>(
     match destructor_place(c.program, class) {
         None => {
             let types = parts_of(c.alloc, c.program, class)?;
-            destroy_parts(calls, c, w, &frame, 0, types.as_slice(), None, ROOM)
+            destroy_parts(calls, c, w, &frame, 0, types.as_slice(), None, room(c))
         }
         Some(place) => {
             let function = method_at(c.program, class, place);

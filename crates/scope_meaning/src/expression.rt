@@ -3,6 +3,7 @@
 ghost use Rattle.std.specs.Prelude.{◌≡◌, ◌∷◌, [], false, map, List};
 ghost use Rattle.cxx_ast.specs.Plain.{binary, call};
 ghost use Rattle.cxx_ast.specs.View.{checked_of, expression_of, expressions_of};
+ghost use Rattle.cxx_ast.specs.declared.name.Builtin.TheVariants.{Module};
 ghost use Rattle.cxx_ast.specs.declared.types.Ty.{Ty as TyMeant};
 ghost use Rattle.scope_rules.specs.Expression as rules;
 ghost use Rattle.scope_rules.specs.Call as call_rules;
@@ -18,10 +19,12 @@ use crate::arguments::{
     Parameters, callee_bound, constructor_chosen, constructor_parameters, function_named, names_of,
     parameters_for, passed_object, receiver, value_at,
 };
+use crate::callees::{call_function, call_method, call_module};
+use crate::lookup::read_named;
 use cxx_ast::expression::{BinaryOp, Expr};
 use cxx_ast::name::{Bound, Builtin, Name};
 use cxx_ast::types::Ty;
-use scope_flow::{Callee, Calls, Constructor, call_module, terminate};
+use scope_flow::{Callee, Calls, Constructor, terminate};
 use scope_world::{
     Argument, Context, Frame, Halt, Numbers, Outside, Reference, World, binary_value, class_named,
     decided, lvalue, truth, unary_value,
@@ -99,8 +102,29 @@ fn arguments<G: Outside, C: Calls<G>>(
     Ok(given)
 }
 
+// The call of a module, with its arguments.
+#[inline(never)]
 #[cycle(expressions)]
-#[tactic(auto, using(scope_flow::proofs::Passing::passing, crate::proofs::Evaluated::line_written, crate::proofs::Evaluated::exited_with, crate::proofs::Evaluated::cancelled_with, crate::proofs::Evaluated::module_called))]
+#[tactic(auto, using(scope_flow::proofs::Passing::passing, crate::proofs::Evaluated::module_called))]
+fn module_called<G: Outside, C: Calls<G>>(
+    calls: &C,
+    c: &Context<'_>,
+    w: &mut World<G>,
+    frame: &Frame<'_>,
+    es: &[Expr],
+    parameters: Parameters<'_>,
+    room: u32,
+) -> Result<i32, Halt>
+    requires { C.answers calls.now c.now.depth }
+    ensures { Gives (rules.builtin (always (checked_of c.now.program.now)) Module (expressions_of es.now) (rules.arguments (always (checked_of c.now.program.now)) (frame_of frame.now) (expressions_of es.now) (parameter_types_of parameters.entry) (context_of c.now)) (context_of c.now) (world_of G.told c.now.depth w.old)) result (world_of G.told c.now.depth w.new) }
+{
+    let given = arguments(calls, c, w, frame, es, parameters, room)?;
+    call_module(calls, c, w, given.as_slice())
+}
+
+#[inline(never)]
+#[cycle(expressions)]
+#[tactic(auto, using(scope_flow::proofs::Passing::passing, crate::proofs::Evaluated::line_written, crate::proofs::Evaluated::exited_with, crate::proofs::Evaluated::cancelled_with))]
 fn builtin<G: Outside, C: Calls<G>>(
     calls: &C,
     c: &Context<'_>,
@@ -125,11 +149,7 @@ fn builtin<G: Outside, C: Calls<G>>(
             let given = arguments(calls, c, w, frame, es, parameters, room)?;
             Err(Halt::Exited(value_at(given.as_slice(), 0)))
         }
-        Builtin::Module => {
-            let given = arguments(calls, c, w, frame, es, parameters, room)?;
-            let given = given.as_slice();
-            call_module(calls, c, w, value_at(given, 0), value_at(given, 1))
-        }
+        Builtin::Module => module_called(calls, c, w, frame, es, parameters, room),
         Builtin::Cancel => {
             let given = arguments(calls, c, w, frame, es, parameters, room)?;
             Err(Halt::Cancelled(value_at(given.as_slice(), 0)))
@@ -168,20 +188,14 @@ fn called<G: Outside, C: Calls<G>>(
     match bound {
         Bound::Func(n) => {
             let given = arguments(calls, c, w, frame, es, parameters, room)?;
-            let nothing = Reference::whole(c.alloc, 0);
-            calls.call(c, w, Callee::Function(n), &nothing, given.as_slice())
+            call_function(calls, c, w, n, given.as_slice())
         }
         Bound::Method(class, place) => {
             let given = arguments(calls, c, w, frame, es, parameters, room)?;
-            let at = lvalue(c, w, frame, object)?;
-            let at = w.as_class(class, at)?;
-            calls.call(
-                c,
-                w,
-                Callee::Method(class, place as usize),
-                &at,
-                given.as_slice(),
-            )
+            call_method(calls, c, w, frame, class, place, object, given.as_slice())
+        }
+        Bound::Builtin(Builtin::Module) => {
+            module_called(calls, c, w, frame, es, parameters, room)
         }
         Bound::Builtin(which) => builtin(calls, c, w, frame, which, es, parameters, room),
         _ => Ok(0),
@@ -210,6 +224,7 @@ fn called_by_name<G: Outside, C: Calls<G>>(
 }
 
 // An operator on two operands; `&&` and `||` evaluate their right side only where it decides.
+#[inline(never)]
 #[cycle(expressions)]
 #[tactic(auto, using(scope_flow::proofs::Passing::passing, crate::proofs::Evaluated::decided_so, crate::proofs::Evaluated::undecided, crate::proofs::Evaluated::right_halted))]
 fn operated<G: Outside, C: Calls<G>>(
@@ -237,7 +252,7 @@ fn operated<G: Outside, C: Calls<G>>(
 
 /// The value of an expression. Operands are evaluated left to right.
 #[cycle(expressions)]
-#[tactic(auto, using(scope_flow::proofs::Passing::passing, crate::proofs::Evaluated::read_so, crate::proofs::Rows::rows))]
+#[tactic(auto, using(scope_flow::proofs::Passing::passing, crate::proofs::Rows::rows))]
 pub fn value_of<G: Outside, C: Calls<G>>(
     calls: &C,
     c: &Context<'_>,
@@ -254,10 +269,7 @@ pub fn value_of<G: Outside, C: Calls<G>>(
     };
     match e {
         Expr::Number(value, _) => Ok(*value),
-        Expr::Path(it) => {
-            let at = lvalue(c, w, frame, it.path.as_slice())?;
-            w.read(&at)
-        }
+        Expr::Path(it) => read_named(c, w, frame, it.path.as_slice()),
         Expr::Paren(inner, _) => value_of(calls, c, w, frame, inner, room),
         Expr::Unary(op, inner, _) => {
             let x = value_of(calls, c, w, frame, inner, room)?;

@@ -16,6 +16,7 @@ use scope_flow::{Calls, Leaving, after_handler, after_scope, entered, handler_fo
 use scope_world::{Context, Flow, Frame, Guard, Guards, Halt, Numbers, Outside, Reference, World};
 
 /// A try block: an exception out of what is done in it is handled by the first of its handlers that matches.
+#[inline(never)]
 #[cycle(statements)]
 #[tactic(auto, using(scope_flow::proofs::Passing::passing, crate::proofs::Handled::tried_done, crate::proofs::Handled::tried_caught, crate::proofs::Handled::tried_halted))]
 pub fn try_block<G: Outside, C: Calls<G>>(
@@ -45,6 +46,7 @@ pub fn try_block<G: Outside, C: Calls<G>>(
 }
 
 // The first handler whose clause matches an exception handles it.
+#[inline(never)]
 #[cycle(statements)]
 #[tactic(auto, using(scope_flow::proofs::Passing::passing, crate::proofs::Handled::caught_so, crate::proofs::Handled::not_caught))]
 fn caught<G: Outside, C: Calls<G>>(
@@ -67,6 +69,7 @@ fn caught<G: Outside, C: Calls<G>>(
 }
 
 // A handler of an exception: its parameter while the exception travels, the entry, the body, the parameter's destruction, the leaving.
+#[inline(never)]
 #[cycle(statements)]
 #[tactic(auto, using(scope_flow::proofs::Passing::passing, crate::proofs::Handled::handled_done, crate::proofs::Handled::handled_halted))]
 fn handle<G: Outside, C: Calls<G>>(
@@ -92,6 +95,7 @@ fn handle<G: Outside, C: Calls<G>>(
 }
 
 // The body of a handler, in which its parameter is in reach, and the parameter's destruction.
+#[inline(never)]
 #[cycle(statements)]
 #[tactic(auto, using(scope_flow::proofs::Passing::passing, crate::proofs::Declared::body_left))]
 fn handler_body<G: Outside, C: Calls<G>>(

@@ -2,10 +2,12 @@
 #![tactic(auto, using(scope_flow::proofs::Passing::passing))]
 
 mod arguments;
+mod callees;
 mod calls;
 mod expression;
 mod extent;
 mod handling;
+mod lookup;
 mod modules;
 mod parts;
 mod program;

@@ -17,7 +17,8 @@ ghost use Rattle.scope_meaning.specs.Steps.{RoundGives, declares, handler_done, 
 
 use crate::expression::{construct, value_of};
 use crate::handling::try_block;
-use crate::simple::{assign, local_cell, returning};
+use crate::lookup::bound_to;
+use crate::simple::{assign, evaluate, local_cell, returning, unset_object};
 use crate::throw::throwing;
 use cxx_ast::expression::Expr;
 use cxx_ast::name::Name;
@@ -25,7 +26,7 @@ use cxx_ast::statement::Stmt;
 use scope_flow::{Calls, Leaving, after_handler, after_scope, entered, handler_for, own_type};
 use scope_world::{
     Context, Flow, Frame, Guard, Guards, Halt, Locals, Numbers, ObjectType, Outside, Reference,
-    Variable, World, bound_as, class_named, lvalue, unset,
+    Variable, World, class_named,
 };
 use std::slice;
 
@@ -75,6 +76,7 @@ pub fn statements<G: Outside, C: Calls<G>>(
 }
 
 // Statements with a variable in reach.
+#[inline(never)]
 #[cycle(statements)]
 #[tactic(auto, using(scope_flow::proofs::Passing::passing, crate::proofs::Declared::in_reach))]
 fn with_variable<G: Outside, C: Calls<G>>(
@@ -100,6 +102,7 @@ fn with_variable<G: Outside, C: Calls<G>>(
 }
 
 /// Statements with a parameter in reach, if it has a name.
+#[inline(never)]
 #[cycle(statements)]
 pub fn with_parameter<G: Outside, C: Calls<G>>(
     calls: &C,
@@ -121,6 +124,7 @@ pub fn with_parameter<G: Outside, C: Calls<G>>(
 }
 
 // A declaration, and the rest of its block, which is its scope; a deeper one than the room is for is want of memory.
+#[inline(never)]
 #[cycle(statements)]
 #[tactic(auto, using(scope_flow::proofs::Passing::passing, crate::proofs::Declared::int_declared, crate::proofs::Declared::reference_declared, crate::proofs::Declared::object_declared))]
 fn declaration<G: Outside, C: Calls<G>>(
@@ -145,8 +149,7 @@ fn declaration<G: Outside, C: Calls<G>>(
             with_variable(calls, c, w, frame, name, at, rest, room)
         }
         Stmt::LocalRef(parameter, it) => {
-            let at = lvalue(c, w, frame, it.path.as_slice())?;
-            let at = bound_as(w, &parameter.ty, at)?;
+            let at = bound_to(c, w, frame, &parameter.ty, it.path.as_slice())?;
             with_parameter(calls, c, w, frame, &parameter.name, at, rest, room)
         }
         Stmt::LocalObject(class, name, es) => {
@@ -158,6 +161,7 @@ fn declaration<G: Outside, C: Calls<G>>(
 }
 
 // A local object, and the rest of its block.
+#[inline(never)]
 #[cycle(statements)]
 #[tactic(auto, using(scope_flow::proofs::Passing::passing, crate::proofs::Declared::object_in_scope, crate::proofs::Declared::object_halted))]
 fn local_object<G: Outside, C: Calls<G>>(
@@ -174,8 +178,7 @@ fn local_object<G: Outside, C: Calls<G>>(
     requires { C.answers calls.now c.now.depth }
     ensures { GivesBy flow_of (object_scoped (always (checked_of c.now.program.now)) class name.now (expressions_of es.now) (statements_of rest.now) (frame_of frame.now) (context_of c.now) (world_of G.told c.now.depth w.old)) result (world_of G.told c.now.depth w.new) }
 {
-    let part = unset(c.alloc, c.program, ObjectType::Class(class))?;
-    let object = w.new_object(part)?;
+    let object = unset_object(c, w, class)?;
     let target = Reference::whole(c.alloc, object);
     construct(calls, c, w, frame, class, es, &target, room)?;
     let at = Reference::whole(c.alloc, object);
@@ -185,6 +188,7 @@ fn local_object<G: Outside, C: Calls<G>>(
 }
 
 // One test of a loop, which spends a turn, and the body; how the loop is left, if it is.
+#[inline(never)]
 #[cycle(statements)]
 #[tactic(auto, using(scope_flow::proofs::Passing::passing, crate::proofs::Rounds::round_unspent, crate::proofs::Rounds::test_halted, crate::proofs::Rounds::ended_by_test, crate::proofs::Rounds::body_halted, crate::proofs::Rounds::body_normal, crate::proofs::Rounds::body_continues, crate::proofs::Rounds::body_breaks, crate::proofs::Rounds::body_returns))]
 fn round<G: Outside, C: Calls<G>>(
@@ -212,6 +216,7 @@ fn round<G: Outside, C: Calls<G>>(
 }
 
 // Each round spends a turn, so more rounds than there are turns, and one, are never made.
+#[inline(never)]
 #[cycle(statements)]
 fn while_loop<G: Outside, C: Calls<G>>(
     calls: &C,
@@ -236,9 +241,39 @@ fn while_loop<G: Outside, C: Calls<G>>(
     }
 }
 
-// A statement that declares nothing; one deeper than the room is for, or any other, is want of memory.
+// The side of an `if` that its test chooses; another statement is want of memory.
+#[inline(never)]
 #[cycle(statements)]
 #[tactic(auto, using(scope_flow::proofs::Passing::passing, crate::proofs::Declared::first_side, crate::proofs::Declared::second_side, crate::proofs::Declared::no_side, crate::proofs::Rows::statement_rows))]
+fn chosen<G: Outside, C: Calls<G>>(
+    calls: &C,
+    c: &Context<'_>,
+    w: &mut World<G>,
+    frame: &Frame<'_>,
+    it: &Stmt,
+    room: u32,
+) -> Result<Flow, Halt>
+    requires { C.answers calls.now c.now.depth }
+    ensures { GivesBy flow_of (plainly (always (checked_of c.now.program.now)) (statement_of it.now) (frame_of frame.now) (context_of c.now) (world_of G.told c.now.depth w.old)) result (world_of G.told c.now.depth w.new) }
+{
+    match it {
+        Stmt::If(e, yes, no) => {
+            if value_of(calls, c, w, frame, e, room)? != 0 {
+                return statements(calls, c, w, frame, one(yes), room);
+            }
+            match no {
+                Some(no) => statements(calls, c, w, frame, one(no), room),
+                None => Ok(Flow::Normal),
+            }
+        }
+        _ => Err(Halt::NoMemory),
+    }
+}
+
+// A statement that declares nothing; one deeper than the room is for, or any other, is want of memory.
+#[inline(never)]
+#[cycle(statements)]
+#[tactic(auto, using(scope_flow::proofs::Passing::passing, crate::proofs::Rows::statement_rows))]
 fn statement<G: Outside, C: Calls<G>>(
     calls: &C,
     c: &Context<'_>,
@@ -256,15 +291,7 @@ fn statement<G: Outside, C: Calls<G>>(
     match it {
         Stmt::Block(body) => statements(calls, c, w, frame, body.as_slice(), room),
         Stmt::Empty => Ok(Flow::Normal),
-        Stmt::If(e, yes, no) => {
-            if value_of(calls, c, w, frame, e, room)? != 0 {
-                return statements(calls, c, w, frame, one(yes), room);
-            }
-            match no {
-                Some(no) => statements(calls, c, w, frame, one(no), room),
-                None => Ok(Flow::Normal),
-            }
-        }
+        Stmt::If(_, _, _) => chosen(calls, c, w, frame, it, room),
         Stmt::While(e, body) => while_loop(calls, c, w, frame, e, body, room),
         Stmt::Return(_, e) => returning(calls, c, w, frame, e, room),
         Stmt::Break(_) => Ok(Flow::Breaks),
@@ -282,10 +309,7 @@ fn statement<G: Outside, C: Calls<G>>(
             )
         }
         Stmt::Assign(target, e) => assign(calls, c, w, frame, target.path.as_slice(), e, room),
-        Stmt::Call(e) => {
-            value_of(calls, c, w, frame, e, room)?;
-            Ok(Flow::Normal)
-        }
+        Stmt::Call(e) => evaluate(calls, c, w, frame, e, room),
         Stmt::LocalInt(_, _) | Stmt::LocalRef(_, _) | Stmt::LocalObject(_, _, _) => {
             Err(Halt::NoMemory)
         }

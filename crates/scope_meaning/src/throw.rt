@@ -158,6 +158,7 @@ pub fn throw<G: Outside, C: Calls<G>>(
 }
 
 /// `throw expression;` and `throw;`.
+#[inline(never)]
 pub fn throwing<G: Outside, C: Calls<G>>(
     calls: &C,
     c: &Context<'_>,

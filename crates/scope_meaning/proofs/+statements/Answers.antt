@@ -73,11 +73,10 @@ statement::local_object-returns-in_err-construct g t c =
     let w = world_of g.G.Outside.told d c.args.w.now in
     let es = expressions_of c.args.es.now in
     let ss = statements_of c.args.rest.now in
-    let u = (world_of g.G.Outside.told d c.new_object.new.self) in
+    let u = (world_of g.G.Outside.told d c.unset_object.new.w) in
     let v = (world_of g.G.Outside.told d c.construct.new.w) in
-    let a = part_of c.in_ok-part.part in
     let x = reference_of c.whole-target.result in
-    let halted = object_halted r c.args.class c.args.name.now es ss f k w u v c.in_ok-object.object a x c.in_err-construct.field-0.0 c.in_ok-part.ensures (c.in_ok-object.ensures d) c.whole-target.ensures c.in_err-construct.ensures in
+    let halted = object_halted r c.args.class c.args.name.now es ss f k w u v c.in_ok-object.object x c.in_err-construct.field-0.0 (c.in_ok-object.ensures d) c.whole-target.ensures c.in_err-construct.ensures in
     search (rules, halted)
 
 pub statement::local_object-returns : goal.statement::local_object-returns
@@ -89,12 +88,11 @@ statement::local_object-returns g t c =
     let w = world_of g.G.Outside.told d c.args.w.now in
     let es = expressions_of c.args.es.now in
     let ss = statements_of c.args.rest.now in
-    let u = (world_of g.G.Outside.told d c.new_object.new.self) in
+    let u = (world_of g.G.Outside.told d c.unset_object.new.w) in
     let v = (world_of g.G.Outside.told d c.construct.new.w) in
-    let a = part_of c.in_ok-part.part in
     let x = reference_of c.whole-target.result in
     let y = reference_of c.whole-at.result in
-    object_in_scope r c.args.class c.args.name.now es ss f k w u v (world_of g.G.Outside.told d c.after_scope.new.w) c.in_ok-object.object a x y c.after_scope.result c.in_ok-part.ensures (c.in_ok-object.ensures d) c.whole-target.ensures c.in_ok-construct.ensures c.whole-at.ensures
+    object_in_scope r c.args.class c.args.name.now es ss f k w u v (world_of g.G.Outside.told d c.after_scope.new.w) c.in_ok-object.object x y c.after_scope.result (c.in_ok-object.ensures d) c.whole-target.ensures c.in_ok-construct.ensures c.whole-at.ensures
     (c.after_scope.ensures (statements r ss (with_variable c.args.name.now y f) k v) c.with_variable-outcome.ensures)
 
 pub statement::round-returns-in_err-statements : goal.statement::round-returns-in_err-statements
@@ -183,7 +181,7 @@ statement::statement-returns-in-While g t c =
     let w = world_of g.G.Outside.told d c.args.w.now in
     let v = (world_of g.G.Outside.told d c.while_loop.new.w) in
     subst (λ i. GivesBy flow_of (plainly r (statement_of i) f k w) c.while_loop.result v) (sym c.in-While.is)
-    (subst (λ b. GivesBy flow_of (loop (suc c.args.w.now.turns) (value_of r f (expression_of c.in-While.e) k) (statement r (statement_of b) (λ h. pure normal) f k) w) c.while_loop.result v) c.deref-in-While.ensures c.while_loop.ensures)
+    (subst (λ b. GivesBy flow_of (loop (suc c.args.w.now.turns) (value_of r f (expression_of c.in-While.e) k) (statement r (statement_of b) (λ h. pure normal) f k) w) c.while_loop.result v) c.deref.ensures c.while_loop.ensures)
 
 pub handling::try_block-returns-in-Ok : goal.handling::try_block-returns-in-Ok
 handling::try_block-returns-in-Ok g t c =

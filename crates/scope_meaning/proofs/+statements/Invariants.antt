@@ -17,6 +17,9 @@ decreases-statement::declaration g l = l.room * 16 + 3
 abbrev pub decreases-statement::statements : goal.decreases-statement::statements
 decreases-statement::statements g l = l.room * 16 + 4
 
+abbrev pub decreases-statement::chosen : goal.decreases-statement::chosen
+decreases-statement::chosen g l = l.room * 16 + 5
+
 abbrev pub decreases-statement::with_variable : goal.decreases-statement::with_variable
 decreases-statement::with_variable g l = l.room * 16 + 5
 

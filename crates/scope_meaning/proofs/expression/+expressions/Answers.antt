@@ -14,7 +14,7 @@ use Rattle.scope_world.specs.Seen.{world_of}
 use Rattle.scope_flow.specs.Always.{always}
 use Rattle.scope_meaning.specs.Asked.{parameter_types_of}
 use Rattle.scope_flow.proofs.Passing.{gives_next}
-use Rattle.scope_meaning.proofs.Evaluated.{line_written, method_called, undecided}
+use Rattle.scope_meaning.proofs.Evaluated.{line_written, undecided}
 use Rattle.scope_meaning.proofs.expression.+expressions.Goals as goal
 
 pub builtin-returns-in_ok-emit-in-WriteInt : goal.builtin-returns-in_ok-emit-in-WriteInt
@@ -33,23 +33,6 @@ builtin-returns-in_ok-emit-in-WriteInt g t c =
     let written : emit (Line x) u ≡ done tt v = rw (to_z-of_z w32 x fits) at (c.in_ok-emit-in-WriteInt.ensures d) in
     let first : x ≡ value_at vs 0 = rw c.as_slice.ensures.value at c.value_at.ensures in
     rw c.in-WriteInt.is (line_written r es given k w u v vs x c.in_ok-given-in-WriteInt.ensures first written)
-
-pub called-returns-in_ok-at-in-Method-2 : goal.called-returns-in_ok-at-in-Method-2
-called-returns-in_ok-at-in-Method-2 g t c =
-    let d = c.args.c.now.depth in
-    let r = always (checked_of c.args.c.now.program.now) in
-    let f = frame_of c.args.frame.now in
-    let k = context_of c.args.c.now in
-    let w = world_of g.G.Outside.told d c.args.w.now in
-    let u = world_of g.G.Outside.told d c.arguments-in-Method.new.w in
-    let v = world_of g.G.Outside.told d c.call-in-Method.new.w in
-    let es = expressions_of c.args.es.now in
-    let given = arguments r f es (parameter_types_of c.args.parameters) k in
-    let vs = map argument_of c.in_ok-given-in-Method.given.items in
-    let x = reference_of c.in_ok-at-in-Method.at in
-    let y = reference_of c.in_ok-at-in-Method-2.at in
-    let made = rw c.as_slice-in-Method.ensures.value at c.call-in-Method.ensures in
-    rw c.in-Method.is (method_called r f c.in-Method.class c.in-Method.place c.args.object.now es given k w u v vs x y c.call-in-Method.result c.in_ok-given-in-Method.ensures (c.in_ok-at-in-Method.ensures d) (c.in_ok-at-in-Method-2.ensures d) made)
 
 pub value_of-returns-in_ok-x-in-Unary : goal.value_of-returns-in_ok-x-in-Unary
 value_of-returns-in_ok-x-in-Unary g t c =

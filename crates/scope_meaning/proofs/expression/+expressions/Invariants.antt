@@ -15,7 +15,7 @@ abbrev pub decreases-operated : goal.decreases-operated
 decreases-operated g l = l.room * 8 + 1
 
 abbrev pub decreases-called_by_name : goal.decreases-called_by_name
-decreases-called_by_name g l = l.room * 8 + 6
+decreases-called_by_name g l = l.room * 8 + 7
 
 abbrev pub decreases-passed_value : goal.decreases-passed_value
 decreases-passed_value g l = l.room * 8 + 1
@@ -27,10 +27,13 @@ abbrev pub decreases-arguments : goal.decreases-arguments
 decreases-arguments g l = l.room * 8 + 3
 
 abbrev pub decreases-builtin : goal.decreases-builtin
-decreases-builtin g l = l.room * 8 + 4
+decreases-builtin g l = l.room * 8 + 5
+
+abbrev pub decreases-module_called : goal.decreases-module_called
+decreases-module_called g l = l.room * 8 + 4
 
 abbrev pub decreases-called : goal.decreases-called
-decreases-called g l = l.room * 8 + 5
+decreases-called g l = l.room * 8 + 6
 
 -- what is gathered so far and what is left are the arguments
 abbrev pub invariant-arguments-arguments : goal.invariant-arguments-arguments
