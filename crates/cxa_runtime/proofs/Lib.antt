@@ -1,0 +1,14 @@
+pub mod Frozen
+pub mod Owed
+pub mod Lasting
+pub mod Records
+pub mod Handlers
+pub mod Raised
+pub mod Modules
+pub mod Written
+pub mod Changes
+pub mod Quiet
+pub mod Stepping
+pub mod Listed
+pub mod FirstReading
+pub mod Unwritten

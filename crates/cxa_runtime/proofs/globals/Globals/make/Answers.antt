@@ -1,0 +1,8 @@
+use Rattle.cxa_runtime.proofs.Changes.{wished_by, make_owed}
+use Rattle.cxa_runtime.proofs.globals.Globals.make.Goals as goal
+
+pub invariant_of-self : goal.invariant_of-self
+invariant_of-self c = make_owed c.self.inside.stack c.allocate.new.self c.args.header c.allocate.result c.top-newest.ensures.sound c.self.invariant c.requires c.allocate.ensures.gives
+
+pub returns-clause-wished : goal.returns-clause-wished
+returns-clause-wished c = rw (← c.self.view_is) (wished_by c.self.inside.stack c.allocate.new.self c.args.header c.allocate.result c.top-newest.ensures.sound c.allocate.ensures.full.0 c.allocate.ensures.gives)
