@@ -90,7 +90,7 @@ struct Nest {
     levels: usize,
 }
 
-static NESTS: [Nest; 6] = [
+static NESTS: [Nest; 7] = [
     Nest {
         first: "return ",
         open: "(",
@@ -102,6 +102,13 @@ static NESTS: [Nest; 6] = [
         first: "return ",
         open: "g(",
         inner: "f(k - 1) + 1",
+        close: ")",
+        levels: 57,
+    },
+    Nest {
+        first: "return k + ",
+        open: "__module(0, ",
+        inner: "f(k - 1)",
         close: ")",
         levels: 57,
     },

@@ -4,3 +4,5 @@ pub mod Left
 pub mod Entering
 pub mod Outward
 pub mod Unexpected
+pub mod Named
+pub mod Counted

@@ -1,6 +1,9 @@
 -- What is asked for, as what the rules of the language ask.
-use Rattle.std.specs.Prelude.{ℕ, Bool}
+use Rattle.std.specs.Prelude.{ℕ, Bool, true, List, [], ◌∷◌}
 use Rattle.cxx_ast.specs.Plain.{Function}
+use Rattle.cxx_ast.specs.declared.types.Ty.{Ty}
+use Rattle.cxx_ast.specs.declared.types.Ty.TheVariants.{ObjectRef}
+use Rattle.cxx_ast.specs.declared.name.Bound.TheVariants.{Class}
 use Rattle.scope_flow.specs.declared.callee.Constructor.{Constructor as CodeConstructor}
 use Rattle.scope_flow.specs.declared.callee.Constructor.TheVariants as made
 use Rattle.scope_flow.specs.declared.callee.Callee.{Callee as CodeCallee}
@@ -9,12 +12,15 @@ use Rattle.scope_flow.specs.declared.construct.Wanted.{Wanted}
 use Rattle.scope_flow.specs.declared.construct.Wanted.TheVariants as wanted
 use Rattle.scope_flow.specs.declared.destroy.Leaving.{Leaving}
 use Rattle.scope_flow.specs.declared.destroy.Leaving.TheVariants as leaving
+use Rattle.scope_flow.specs.declared.names.Parameters.{Parameters}
+use Rattle.scope_flow.specs.declared.names.Parameters.TheVariants as parameters
 use Rattle.scope_world.specs.Objects.{type_of, reference_of}
 use Rattle.scope_rules.specs.Context.{Context}
 use Rattle.scope_rules.specs.Outcome.{Action}
 use Rattle.scope_rules.specs.Running.{Running, Constructor, declared, implicit_default, implicit_copy, Callee, function, method, constructor, destructor}
 use Rattle.scope_rules.specs.Construct.{destroy, is_copy_constructor, is_constructor_with, is_destructor}
 use Rattle.scope_rules.specs.Handler.{let_go}
+use Rattle.scope_rules.specs.Expression.{types_of}
 
 -- a constructor
 abbrev pub constructor_of : CodeConstructor → Constructor
@@ -39,3 +45,12 @@ abbrev pub wanted_of : ℕ → Wanted → Function → Bool
 wanted_of k wanted.Copy = is_copy_constructor k
 wanted_of k (wanted.With n) = is_constructor_with k n
 wanted_of k wanted.Destructor = λ f. is_destructor f.kind
+
+-- the type of the parameter of the implicit copy constructor of a class
+abbrev pub copied_type : ℕ → List Ty
+copied_type k = ObjectRef true (record { text = []; place = 0; bound = Class k }) ∷ []
+
+-- the types of parameters
+abbrev pub parameter_types_of : Parameters → List Ty
+parameter_types_of (parameters.Of ps) = types_of ps.now
+parameter_types_of (parameters.CopyOf k) = copied_type k

@@ -7,6 +7,7 @@ mod callee;
 mod construct;
 mod destroy;
 mod handler;
+mod names;
 mod specification;
 mod terminating;
 #[cfg(test)]
@@ -19,6 +20,10 @@ pub use construct::{
 };
 pub use destroy::{Leaving, after_part, after_scope};
 pub use handler::{after_handler, entered, handler_for, new_copy, own_type};
+pub use names::{
+    Parameters, callee_bound, constructor_parameters, function_named, lvalue_of, names_of,
+    parameters_for, receiver,
+};
 pub use specification::after_extent;
 pub use std::alloc::AllocError as NoMemory;
 pub use terminating::terminate;

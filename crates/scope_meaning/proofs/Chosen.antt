@@ -1,16 +1,13 @@
 -- The number of arguments, and what it selects.
-use Rattle.std.proofs.Common.{◌≡◌, ◌≢◌, ◌+◌, ℕ, List, [], ◌∷◌, length, refl, ap, arith}
+use Rattle.std.proofs.Common.{◌≡◌, ◌≢◌, ℕ, List, [], ◌∷◌, length, refl, ap}
 use Rattle.cxx_ast.specs.declared.expression.Expr.{Expr}
 use Rattle.cxx_ast.specs.View.{expressions_of}
 use Rattle.cxx_ast.specs.Plain.{Checked}
 use Rattle.scope_rules.specs.World.{World}
 use Rattle.scope_rules.specs.Frame.{Frame}
 use Rattle.scope_rules.specs.Construct.{constructor_for}
-use Rattle.scope_rules.specs.Expression.{count_of, constructor_chosen}
-
-pub counted : (es : List Expr) → length es ≡ count_of (expressions_of es)
-counted [] = refl
-counted (e ∷ es) = omega (arith, counted es)
+use Rattle.scope_rules.specs.Expression.{constructor_chosen}
+use Rattle.scope_flow.proofs.Counted.{counted}
 
 -- other than one argument: their number selects
 pub chosen_by_number : (p : Checked) (w : World) (f : Frame) (k : ℕ) (es : List Expr) → length es ≢ 1 → constructor_for p k (length es) ≡ constructor_chosen p w f k (expressions_of es)

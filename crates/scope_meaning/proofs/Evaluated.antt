@@ -23,7 +23,7 @@ use Rattle.scope_world.specs.declared.outcome.Halt.{Halt}
 use Rattle.scope_world.specs.declared.outcome.Halt.TheVariants.{Exited, Cancelled}
 use Rattle.scope_world.specs.Gives.{Gives, Halts}
 use Rattle.scope_flow.specs.Always.{full_call}
-use Rattle.scope_meaning.specs.Asked.{copied_type}
+use Rattle.scope_flow.specs.Asked.{copied_type}
 use Rattle.scope_flow.proofs.Passing.{halts_continued, halts_next, gives_next}
 
 -- an lvalue is read

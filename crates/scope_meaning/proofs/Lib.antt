@@ -1,5 +1,4 @@
 pub mod Endless
-pub mod Named
 pub mod Chosen
 pub mod Rows
 pub mod Opened

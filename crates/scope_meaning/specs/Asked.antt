@@ -1,15 +1,10 @@
 -- What the evaluator is asked to do, as what the rules of the language ask.
-use Rattle.std.specs.Prelude.{ℕ, true, List, [], ◌∷◌, option_map}
+use Rattle.std.specs.Prelude.{ℕ, option_map}
 use Rattle.cxx_ast.specs.Plain.{Function}
-use Rattle.cxx_ast.specs.declared.types.Ty.{Ty}
-use Rattle.cxx_ast.specs.declared.types.Ty.TheVariants.{ObjectRef}
-use Rattle.cxx_ast.specs.declared.name.Bound.TheVariants.{Class}
 use Rattle.scope_meaning.specs.declared.extent.Extent.{Extent}
 use Rattle.scope_meaning.specs.declared.extent.Extent.TheVariants as extents
 use Rattle.scope_meaning.specs.declared.parts.Plan.{Plan}
 use Rattle.scope_meaning.specs.declared.parts.Plan.TheVariants as plans
-use Rattle.scope_meaning.specs.declared.arguments.Parameters.{Parameters}
-use Rattle.scope_meaning.specs.declared.arguments.Parameters.TheVariants as parameters
 use Rattle.scope_world.specs.Objects.{reference_of}
 use Rattle.scope_world.specs.Program.{function_or_none}
 use Rattle.scope_rules.specs.Class.{ObjectType, parts_of}
@@ -17,7 +12,6 @@ use Rattle.scope_rules.specs.Context.{Context}
 use Rattle.scope_rules.specs.Outcome.{Action, Flow}
 use Rattle.scope_rules.specs.Running.{Running, constructor}
 use Rattle.scope_rules.specs.Frame.{Frame}
-use Rattle.scope_rules.specs.Expression.{types_of}
 use Rattle.scope_rules.specs.Call.{body_of, default_part, copy_part, initial_part, initialiser_for, construction, destroy_parts}
 
 -- what is done under a specification: a function's body, or a constructor's or a destructor's work
@@ -32,12 +26,3 @@ building_of r plans.Default frame c = default_part r frame.this c
 building_of r (plans.Copy source) frame c = copy_part r frame.this (reference_of source) c
 building_of r (plans.Declared f) frame c =
     λ i. initial_part r frame c i (initialiser_for r.program (function_or_none (option_map (λ x. x.now) f)).initialisers i)
-
--- the type of the parameter of the implicit copy constructor of a class
-abbrev pub copied_type : ℕ → List Ty
-copied_type k = ObjectRef true (record { text = []; place = 0; bound = Class k }) ∷ []
-
--- the types of parameters
-abbrev pub parameter_types_of : Parameters → List Ty
-parameter_types_of (parameters.Of ps) = types_of ps.now
-parameter_types_of (parameters.CopyOf k) = copied_type k

@@ -58,7 +58,7 @@ pub fn call_method<G: Outside, C: Calls<G>>(
 /// A module is called with two arguments: its number and an int.
 #[inline(never)]
 #[tactic(auto, using(scope_flow::proofs::Passing::passing, crate::proofs::Evaluated::module_at))]
-pub fn call_module<G: Outside, C: Calls<G>>(
+pub fn call_numbered_module<G: Outside, C: Calls<G>>(
     calls: &C,
     c: &Context<'_>,
     w: &mut World<G>,

@@ -55,14 +55,9 @@ impl<
 /// The most calls that are open at once.
 const MOST_OPEN: u64 = 128;
 
-/// How many open calls may each go as deep as a function of many variables needs.
-const ROOMY_CALLS: u64 = 16;
-
-/// How deep an evaluation goes into the tree of one function, by the number of open calls: in every call far deeper than the
-/// blocks and operators of a checked tree go, so that what all of them need together has a bound.
-pub fn room(c: &Context<'_>) -> u32 {
-    if c.depth <= ROOMY_CALLS { 1200 } else { 200 }
-}
+/// How deep an evaluation goes in one call: deeper than the 64 levels that a checked tree has, the 192 variables that a checked function
+/// has room for, and the 256 parts that an object of a checked class has, together.
+pub const ROOM: u32 = 600;
 
 /// A call, which spends a turn, unless it would be one more than may be open.
 #[tactic(auto, using(crate::proofs::Opened::call_deep, crate::proofs::Opened::call_unspent, crate::proofs::Opened::call_done))]
@@ -247,17 +242,7 @@ fn run_implicit<G: Outside, C: Calls<G>>(
         parameters: &[],
         locals: &Locals::None,
     };
-    build_parts(
-        calls,
-        c,
-        w,
-        plan,
-        &frame,
-        0,
-        types.as_slice(),
-        None,
-        room(c),
-    )
+    build_parts(calls, c, w, plan, &frame, 0, types.as_slice(), None, ROOM)
 }
 
 #[tactic(auto, using(scope_flow::proofs::Passing::passing, crate::proofs::Called::destroyed_plainly, crate::proofs::Called::destroyed_so, crate::proofs::Called::parts_destroyed))]
@@ -279,7 +264,7 @@ fn run_destructor<G: Outside, C: Calls<G>>(
     match destructor_place(c.program, class) {
         None => {
             let types = parts_of(c.alloc, c.program, class)?;
-            destroy_parts(calls, c, w, &frame, 0, types.as_slice(), None, room(c))
+            destroy_parts(calls, c, w, &frame, 0, types.as_slice(), None, ROOM)
         }
         Some(place) => {
             let function = method_at(c.program, class, place);

@@ -12,19 +12,19 @@ ghost use Rattle.scope_world.specs.Inward.{argument_of, context_of, frame_of};
 ghost use Rattle.scope_world.specs.Objects.{reference_of};
 ghost use Rattle.scope_world.specs.Seen.{world_of};
 ghost use Rattle.scope_flow.specs.Always.{always};
-ghost use Rattle.scope_meaning.specs.Asked.{parameter_types_of};
+ghost use Rattle.scope_flow.specs.Asked.{parameter_types_of};
 
 use crate::Item;
-use crate::arguments::{
-    Parameters, callee_bound, constructor_chosen, constructor_parameters, function_named, names_of,
-    parameters_for, passed_object, receiver, value_at,
-};
-use crate::callees::{call_function, call_method, call_module};
+use crate::arguments::{constructor_chosen, passed_object, value_at};
+use crate::callees::{call_function, call_method, call_numbered_module};
 use crate::lookup::read_named;
 use cxx_ast::expression::{BinaryOp, Expr};
 use cxx_ast::name::{Bound, Builtin, Name};
 use cxx_ast::types::Ty;
-use scope_flow::{Callee, Calls, Constructor, terminate};
+use scope_flow::{
+    Callee, Calls, Constructor, Parameters, callee_bound, constructor_parameters, function_named,
+    names_of, parameters_for, receiver, terminate,
+};
 use scope_world::{
     Argument, Context, Frame, Halt, Numbers, Outside, Reference, World, binary_value, class_named,
     decided, lvalue, truth, unary_value,
@@ -119,7 +119,7 @@ fn module_called<G: Outside, C: Calls<G>>(
     ensures { Gives (rules.builtin (always (checked_of c.now.program.now)) Module (expressions_of es.now) (rules.arguments (always (checked_of c.now.program.now)) (frame_of frame.now) (expressions_of es.now) (parameter_types_of parameters.entry) (context_of c.now)) (context_of c.now) (world_of G.told c.now.depth w.old)) result (world_of G.told c.now.depth w.new) }
 {
     let given = arguments(calls, c, w, frame, es, parameters, room)?;
-    call_module(calls, c, w, given.as_slice())
+    call_numbered_module(calls, c, w, given.as_slice())
 }
 
 #[inline(never)]
@@ -170,7 +170,7 @@ fn builtin<G: Outside, C: Calls<G>>(
 
 // The call of what a name is bound to, on the object that an lvalue names.
 #[cycle(expressions)]
-#[tactic(auto, using(scope_flow::proofs::Passing::passing, crate::proofs::Evaluated::function_called, crate::proofs::Evaluated::method_called))]
+#[tactic(auto, using(scope_flow::proofs::Passing::passing, crate::proofs::Evaluated::function_called, crate::proofs::Evaluated::method_called, crate::proofs::Evaluated::module_called))]
 fn called<G: Outside, C: Calls<G>>(
     calls: &C,
     c: &Context<'_>,
@@ -195,7 +195,8 @@ fn called<G: Outside, C: Calls<G>>(
             call_method(calls, c, w, frame, class, place, object, given.as_slice())
         }
         Bound::Builtin(Builtin::Module) => {
-            module_called(calls, c, w, frame, es, parameters, room)
+            let given = arguments(calls, c, w, frame, es, parameters, room)?;
+            call_numbered_module(calls, c, w, given.as_slice())
         }
         Bound::Builtin(which) => builtin(calls, c, w, frame, which, es, parameters, room),
         _ => Ok(0),

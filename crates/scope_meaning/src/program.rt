@@ -139,7 +139,8 @@ fn run<M: Module>(
 /// The meaning of a program with an input, modules, turns to spend, and at most 128 open calls.
 ///
 /// The modules give the replies that the meaning takes, and clean the tokens of its cleanups in order, as far as their room goes. After
-/// want of memory they hold what the calls so far left.
+/// want of memory they hold what the calls so far left. Memory is wanting also where one call would go more than 600 levels deep, of
+/// blocks, operators, variables and parts of its object, which is more than a source has that was read and checked.
 pub fn mean<M: Module>(
     alloc: Global,
     program: &Checked,

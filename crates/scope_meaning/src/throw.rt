@@ -10,11 +10,10 @@ ghost use Rattle.scope_world.specs.Inward.{context_of, frame_of};
 ghost use Rattle.scope_world.specs.Seen.{world_of};
 ghost use Rattle.scope_flow.specs.Always.{always};
 
-use crate::arguments::{callee_bound, lvalue_of};
 use crate::expression::{construct, value_of};
 use cxx_ast::expression::Expr;
 use cxx_ast::name::{Bound, Builtin};
-use scope_flow::{Calls, new_copy, rethrow, terminate, throw_built};
+use scope_flow::{Calls, callee_bound, lvalue_of, new_copy, rethrow, terminate, throw_built};
 use scope_world::{
     Context, Flow, Frame, Halt, ObjectType, Outside, Part, Reference, World, lvalue, unset,
 };

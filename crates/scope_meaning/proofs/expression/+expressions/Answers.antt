@@ -12,7 +12,7 @@ use Rattle.scope_world.specs.Inward.{argument_of, context_of, frame_of}
 use Rattle.scope_world.specs.Objects.{reference_of}
 use Rattle.scope_world.specs.Seen.{world_of}
 use Rattle.scope_flow.specs.Always.{always}
-use Rattle.scope_meaning.specs.Asked.{parameter_types_of}
+use Rattle.scope_flow.specs.Asked.{parameter_types_of}
 use Rattle.scope_flow.proofs.Passing.{gives_next}
 use Rattle.scope_meaning.proofs.Evaluated.{line_written, undecided}
 use Rattle.scope_meaning.proofs.expression.+expressions.Goals as goal

@@ -5,7 +5,7 @@ use Rattle.scope_rules.specs.Expression.{arguments}
 use Rattle.scope_world.specs.Inward.{argument_of, context_of, frame_of}
 use Rattle.scope_world.specs.Seen.{world_of}
 use Rattle.scope_flow.specs.Always.{always}
-use Rattle.scope_meaning.specs.Asked.{parameter_types_of}
+use Rattle.scope_flow.specs.Asked.{parameter_types_of}
 use Rattle.scope_meaning.proofs.expression.+expressions.Given as goal
 
 abbrev pub decreases-value_of : goal.decreases-value_of
