@@ -12,3 +12,6 @@ pub mod Stepping
 pub mod Listed
 pub mod FirstReading
 pub mod Unwritten
+pub mod ForeignCounts
+pub mod ForeignCalls
+pub mod ForeignRuns

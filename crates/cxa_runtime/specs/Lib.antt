@@ -23,3 +23,4 @@ pub mod Lasting
 pub mod Constant
 pub mod Kept
 pub mod Turns
+pub mod Laws

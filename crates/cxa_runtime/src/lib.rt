@@ -15,6 +15,7 @@ mod effect;
 mod flight;
 mod foreign;
 mod globals;
+mod laws;
 mod object;
 mod plain;
 mod raising;
@@ -32,6 +33,7 @@ mod unwinding;
 
 pub use constant::is_constant;
 pub use effect::{End, Turn};
+pub use laws::foreign_exceptions_are_cleaned_once;
 pub use runtime::Runtime;
 pub use std::alloc::AllocError as NoMemory;
 
