@@ -1,0 +1,30 @@
+//! Trials of the runtime on hand-assembled images: what each must write, and how it must end, worked
+//! out from the calls of docs/RUNTIME.md. There are tests alone.
+#![tactic(auto)]
+
+#[cfg(test)]
+mod call_faults;
+#[cfg(test)]
+mod faults;
+#[cfg(test)]
+mod handlers;
+#[cfg(test)]
+mod image;
+#[cfg(test)]
+mod op;
+#[cfg(test)]
+mod run;
+#[cfg(test)]
+mod specifications;
+#[cfg(test)]
+mod table_faults;
+#[cfg(test)]
+mod terminates;
+#[cfg(test)]
+mod throws;
+#[cfg(test)]
+mod trials;
+#[cfg(test)]
+mod unwinds;
+#[cfg(test)]
+mod walk_faults;
