@@ -1,0 +1,9 @@
+pub mod View
+pub mod Numbered
+pub mod Variables
+pub mod Given
+pub mod Lowers
+pub mod Planned
+pub mod Passed
+pub mod Standing
+pub mod Shape
