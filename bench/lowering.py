@@ -1,0 +1,81 @@
+#!/usr/bin/env python3
+"""Measures how many tokens per second `regions` lowers, on sources of up to 65,536 tokens, beside the front end before it.
+
+Usage: bench/lowering.py, at the top of the repository. It builds in a folder of its own, and prints a table: for each source its
+tokens, how many of them `checked` and `regions` each take in a second of processor time, and, with twice the source, how many
+times the time of `regions` grows.
+"""
+import pathlib
+import shutil
+import tempfile
+
+from building import EACH_SOURCE, TOP, rattle_program, run
+
+ROUNDS = 20
+LIMIT = 65_536
+
+MAIN = EACH_SOURCE.replace("#![tactic(auto)]", "#![tactic(auto, using(crate::proofs::Fitting::fitting))]") + """
+        let start = Instant::now(&rt)?;
+        let Ok(program) = cxx_front::checked(rt.alloc(), source.as_slice()) else {
+            continue;
+        };
+        let front = start.elapsed(&rt)?.as_micros();
+        let Ok(layout) = class_layout::layout(rt.alloc(), &program.classes) else {
+            continue;
+        };
+        let start = Instant::now(&rt)?;
+        let mut made = 0usize;
+        for _ in 0..ROUNDS {
+            made = region_ir::regions(rt.alloc(), &program, &layout).map_or(0, |it| it.functions.len());
+        }
+        println!(rt; "{} {front} {} {made}", program.program.tokens, start.elapsed(&rt)?.as_micros())?;
+    }
+    Ok(())
+}
+
+const ROUNDS: usize = %d;
+""" % ROUNDS
+
+NEEDS = ["cxx_ast", "cxx_front", "scope_rules", "region_forms", "class_layout", "region_ir", "eh_bytes"]
+
+CLASS = "struct A { int n; A(int k) { n = k; } ~A() { n = 0; } }; int g(int a) { return a; } "
+PLAIN = "int f%d(int n, int m) { if (n < 4711) { n = n + m * (12 - n); } while (m) { m = m - 1; } return n; }\n"
+SCOPED = "int f%d(int a) { A b(a); try { if (a) throw a; g(a); } catch (int e) { return e; } return a + 1; }\n"
+CALLS = "int h%d(int n) { return g(n)" + " + g(n) * 2" * 20 + "; }\n"
+SHAPES = "struct C%d { int n; A a; C%d(int k) : n(k), a(k) { } ~C%d() { try { throw n; } catch (int e) { n = e; } } };\n"
+
+
+def sources(limit):
+    main = "int main() { return 0; }\n"
+    yield "plain functions", "".join(PLAIN % number for number in range(limit // 50)) + main
+    yield "objects and handlers", CLASS + "".join(SCOPED % number for number in range(limit // 45)) + main
+    yield "sums of calls", CLASS + "".join(CALLS % number for number in range(limit // 160)) + main
+    yield "classes", CLASS + "".join(SHAPES % (number, number, number) for number in range(limit // 57)) + main
+
+
+def main():
+    work = pathlib.Path(tempfile.mkdtemp())
+    try:
+        names, paths = [], []
+        for limit in [LIMIT // 2 - 100, LIMIT - 100]:
+            for name, text in sources(limit):
+                path = work / f"source{len(paths)}.cc"
+                path.write_text(text)
+                names.append(name)
+                paths.append(str(path))
+        program = rattle_program(work, "lower_speed", MAIN, NEEDS)
+        (program / "proofs").mkdir()
+        shutil.copy(TOP / "crates/lowering_trials/proofs/Fitting.antt", program / "proofs")
+        (program / "proofs/Lib.antt").write_text("mod Fitting\n")
+        lines = run(["rt", "run", "--", *paths], cwd=program).splitlines()[-len(paths):]
+        rows = [[int(word) for word in line.split()] for line in lines]
+        assert len(rows) == len(paths), "a source was refused"
+        print(f"{'source':24}{'tokens':>8}{'checked M/s':>13}{'regions M/s':>13}{'growth':>8}")
+        for name, half, whole in zip(names, rows, rows[len(rows) // 2:]):
+            tokens, front, lowered, _ = whole
+            print(f"{name:24}{tokens:8}{tokens / front:13.2f}{tokens * ROUNDS / lowered:13.2f}{lowered / half[2]:8.2f}")
+    finally:
+        shutil.rmtree(work)
+
+
+main()

@@ -1,0 +1,25 @@
+-- The classes of a source that was read and checked can be laid out.
+use Rattle.std.specs.Prelude.{ℕ, List, length, map}
+use Rattle.std.proofs.Common.{Ok}
+use Rattle.cxx_ast.specs.declared.program.Checked.{Checked as CheckedValue}
+use Rattle.cxx_ast.specs.Checked.{IsChecked}
+use Rattle.cxx_ast.specs.View.{checked_of, class_of}
+use Rattle.cxx_front.specs.Answer.{Answers}
+use Rattle.class_layout.specs.Fit.{Fit}
+use Rattle.class_layout.proofs.Program.{classes_fit}
+
+is_checked : (source : List ℕ) (c : CheckedValue) → Answers source (Ok c) → IsChecked (checked_of c)
+is_checked source c a =
+    let program = a.1.is.0 in
+    record {
+      tokens = program.tokens;
+      end = length source;
+      program = a.0;
+      few = program.lexed.few;
+      tree = program.tree;
+      valid = a.1.is.1;
+      resolved = a.2;
+    }
+
+pub fitting : (source : List ℕ) (c : CheckedValue) → Answers source (Ok c) → Fit (map class_of c.classes.items)
+fitting source c a = classes_fit (checked_of c) (is_checked source c a)

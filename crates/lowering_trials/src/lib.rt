@@ -1,0 +1,7 @@
+//! Trials of the lowering on sources: what each becomes, and that it goes on to the limits. There are tests alone.
+#![tactic(auto)]
+
+#[cfg(test)]
+mod lowered;
+#[cfg(test)]
+mod tests;

@@ -1,0 +1,24 @@
+// The regions of a source.
+
+use class_layout::layout;
+use cxx_front::checked;
+use region_ir::program::Regions;
+use region_ir::regions;
+use std::alloc::{AllocError, Global};
+
+// The most bytes of a source.
+const MOST: usize = 0x10_0000;
+
+/// The regions of a source, or nothing where it is refused.
+pub fn lowered(alloc: Global, source: &str) -> Result<Option<Regions>, AllocError> {
+    if source.len() > MOST {
+        return Ok(None);
+    }
+    match checked(alloc, source.as_bytes()) {
+        Err(_) => Ok(None),
+        Ok(program) => {
+            let layout = layout(alloc, &program.classes)?;
+            Ok(Some(regions(alloc, &program, &layout)?))
+        }
+    }
+}
