@@ -14,15 +14,11 @@ from building import EACH_SOURCE, TOP, rattle_program, run
 ROUNDS = 20
 LIMIT = 65_536
 
-MAIN = EACH_SOURCE.replace("#![tactic(auto)]", "#![tactic(auto, using(crate::proofs::Fitting::fitting))]") + """
-        let start = Instant::now(&rt)?;
-        let Ok(program) = cxx_front::checked(rt.alloc(), source.as_slice()) else {
+MAIN = EACH_SOURCE.replace("use std::env;", "mod read;\n\nuse read::read;\nuse std::env;") + """        let start = Instant::now(&rt)?;
+        let Ok(Some((program, layout))) = read(rt.alloc(), source.as_slice()) else {
             continue;
         };
         let front = start.elapsed(&rt)?.as_micros();
-        let Ok(layout) = class_layout::layout(rt.alloc(), &program.classes) else {
-            continue;
-        };
         let start = Instant::now(&rt)?;
         let mut made = 0usize;
         for _ in 0..ROUNDS {
@@ -35,6 +31,33 @@ MAIN = EACH_SOURCE.replace("#![tactic(auto)]", "#![tactic(auto, using(crate::pro
 
 const ROUNDS: usize = %d;
 """ % ROUNDS
+
+READ = """use class_layout::{Layout, layout};
+use cxx_ast::program::Checked;
+use cxx_front::checked;
+use std::alloc::{AllocError, Global};
+
+// A source that is no larger than a source may be, checked, and the layout of its classes.
+pub fn read(alloc: Global, source: &[u8]) -> Result<Option<(Checked, Layout)>, AllocError> {
+    if source.len() > 1_048_576 {
+        return Ok(None);
+    }
+    match checked(alloc, source) {
+        Err(_) => Ok(None),
+        Ok(program) => {
+            let layout = layout(alloc, &program.classes)?;
+            Ok(Some((program, layout)))
+        }
+    }
+}
+"""
+
+ANSWERS = """use Rattle.lower_speed.proofs.Fitting.{fitting}
+use Rattle.lower_speed.proofs.read.read.Goals as goal
+
+pub layout-requires : goal.layout-requires
+layout-requires c = fitting c.args.source.now c.in-Ok.program c.in-Ok.ensures
+"""
 
 NEEDS = ["cxx_ast", "cxx_front", "scope_rules", "region_forms", "class_layout", "region_ir", "eh_bytes"]
 
@@ -64,7 +87,9 @@ def main():
                 names.append(name)
                 paths.append(str(path))
         program = rattle_program(work, "lower_speed", MAIN, NEEDS)
-        (program / "proofs").mkdir()
+        (program / "src/read.rt").write_text(READ)
+        (program / "proofs/read/read").mkdir(parents=True)
+        (program / "proofs/read/read/Answers.antt").write_text(ANSWERS)
         shutil.copy(TOP / "crates/lowering_trials/proofs/Fitting.antt", program / "proofs")
         (program / "proofs/Lib.antt").write_text("mod Fitting\n")
         lines = run(["rt", "run", "--", *paths], cwd=program).splitlines()[-len(paths):]

@@ -1,0 +1,15 @@
+pub mod Immediate
+pub mod Registers
+pub mod Piece
+pub mod RuntimeCall
+pub mod Shape
+pub mod PlaceCode
+pub mod ValueCode
+pub mod CallCode
+pub mod OperationCode
+pub mod LinearCode
+pub mod Routine
+pub mod StubCode
+pub mod Emitted
+pub mod Bounds
+pub mod Laws

@@ -1,0 +1,12 @@
+// Laws of machine code: calls of no effect, whose contracts state what holds of every program.
+ghost use Rattle.emission_forms.specs.Laws.{StubsAreShort, WordsStand};
+
+/// Each piece of code becomes one word, and the words of a function stand in its unit from its first one on.
+pub fn words_stand()
+    ensures { WordsStand }
+{}
+
+/// The runtime's own functions have few words.
+pub fn stubs_are_short()
+    ensures { StubsAreShort }
+{}
