@@ -2,8 +2,8 @@
 """Measures how many tokens per second `regions` lowers, on sources of up to 65,536 tokens, beside the front end before it.
 
 Usage: bench/lowering.py, at the top of the repository. It builds in a folder of its own, and prints a table: for each source its
-tokens, how many of them `checked` and `regions` each take in a second of processor time, and, with twice the source, how many
-times the time of `regions` grows.
+tokens, how many of them `checked` and `regions` each take in a second, and, with twice the source, how many times the time of
+`regions` grows.
 """
 import pathlib
 import shutil
