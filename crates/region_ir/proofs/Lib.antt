@@ -1,4 +1,4 @@
-mod Rows
+pub mod Rows
 mod Table
 mod Declared
 mod Offsets
@@ -18,3 +18,18 @@ mod ShapedRows
 mod ShapedExpressions
 mod ShapedStatements
 mod ShapedFunctions
+mod Sound
+mod JumpsStand
+mod BasesBefore
+mod ExitExpressions
+mod ExitStatements
+mod ExitFunctions
+mod EachFunction
+mod SlotCounts
+mod Joined
+mod MainOnce
+mod MainThere
+mod AtNumber
+mod DestructorsAlone
+mod Specials
+mod ImplicitLeaves

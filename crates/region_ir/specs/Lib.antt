@@ -7,3 +7,9 @@ pub mod Planned
 pub mod Passed
 pub mod Standing
 pub mod Shape
+pub mod Exits
+pub mod SlotsSuffice
+pub mod Leaves
+pub mod AtNumber
+pub mod Specials
+pub mod Implicit
