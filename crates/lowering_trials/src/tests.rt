@@ -1,5 +1,6 @@
 // What becomes of sources, counted by hand.
 use crate::lowered::lowered;
+use landing_pads::pads;
 use std::alloc::Global;
 use std::test::Fail;
 
@@ -49,8 +50,8 @@ fn rows() -> &'static [Row] {
     ROWS.as_slice()
 }
 
-// How many functions a source has, and how many slots its first function has.
-fn counted(alloc: Global, source: &str) -> Result<Option<(usize, usize)>, Fail> {
+// How many functions a source has, as regions and as linear code, and how many slots its first function has.
+fn counted(alloc: Global, source: &str) -> Result<Option<(usize, usize, usize)>, Fail> {
     let Some(found) = lowered(alloc, source)? else {
         return Ok(None);
     };
@@ -58,14 +59,20 @@ fn counted(alloc: Global, source: &str) -> Result<Option<(usize, usize)>, Fail> 
         None => 0,
         Some(function) => function.slots.len(),
     };
-    Ok(Some((found.functions.len(), slots)))
+    let unit = pads(alloc, &found)?;
+    Ok(Some((found.functions.len(), unit.functions.len(), slots)))
 }
 
 #[test]
 fn small_sources(rt: HostRuntime) -> Result<(), Fail> {
     for row in rows() {
         let found = counted(rt.alloc(), row.source)?;
-        assert_eq!(rt; found, Some((row.functions, row.slots)), "{}", row.source);
+        assert_eq!(rt;
+            found,
+            Some((row.functions, row.functions, row.slots)),
+            "{}",
+            row.source
+        );
     }
     Ok(())
 }
@@ -108,13 +115,13 @@ fn the_largest_sources(rt: HostRuntime) -> Result<(), Fail> {
     let alloc = rt.alloc();
     let source = many_functions(alloc, 1480)?;
     let found = counted(alloc, source.as_str())?;
-    assert_eq!(rt; found, Some((1490, 3)));
+    assert_eq!(rt; found, Some((1490, 1490, 3)));
     let source = repeated(alloc, "int main() { ", "; ", 1994, "}")?;
     let found = counted(alloc, source.as_str())?;
-    assert_eq!(rt; found, Some((4, 2)));
+    assert_eq!(rt; found, Some((4, 4, 2)));
     let source = repeated(alloc, "struct A { }; int main() { ", "A a; { ", 58, "")?;
     let source = repeated(alloc, source.as_str(), "} ", 58, "}")?;
     let found = counted(alloc, source.as_str())?;
-    assert_eq!(rt; found, Some((7, 60)));
+    assert_eq!(rt; found, Some((7, 7, 60)));
     Ok(())
 }

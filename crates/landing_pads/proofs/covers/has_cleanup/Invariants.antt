@@ -1,0 +1,8 @@
+use Rattle.std.proofs.Common.{◌≡◌, drop}
+use Rattle.std.specs.Prelude.{pos}
+use Rattle.scope_rules.specs.Arithmetic.{int_equal}
+use Rattle.scope_rules.specs.Class.{some_of}
+use Rattle.landing_pads.proofs.covers.has_cleanup.Given as goal
+
+abbrev pub invariant-loop-filter : goal.invariant-loop-filter
+invariant-loop-filter l = some_of (int_equal (pos 0)) (drop l.filter-index l.chain) ≡ some_of (int_equal (pos 0)) l.chain

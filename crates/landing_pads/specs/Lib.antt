@@ -1,0 +1,5 @@
+pub mod View
+pub mod Emitted
+pub mod Given
+pub mod Joined
+pub mod Past
