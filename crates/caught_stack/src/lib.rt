@@ -9,8 +9,6 @@ mod ended;
 mod header;
 mod slots;
 mod stack;
-#[cfg(test)]
-mod tests;
 
 pub use ended::Ended;
 pub use header::{Header, HeaderKind};

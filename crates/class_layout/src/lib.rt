@@ -4,8 +4,6 @@
 mod classes;
 mod forms;
 pub mod laws;
-#[cfg(test)]
-mod tests;
 
 pub use classes::layout;
 pub use cxx_ast::NoMemory;

@@ -23,8 +23,6 @@ mod rebuilt;
 mod rebuilt_statement;
 mod refused;
 mod resolved;
-#[cfg(test)]
-mod tests;
 mod tree;
 mod variables;
 

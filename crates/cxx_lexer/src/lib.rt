@@ -8,8 +8,6 @@ mod literal;
 mod marks;
 mod runs;
 mod source;
-#[cfg(test)]
-mod tests;
 
 pub use error::LexError;
 pub use source::lex;

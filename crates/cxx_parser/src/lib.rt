@@ -11,8 +11,6 @@ mod nodes;
 mod program;
 mod simple;
 mod statement;
-#[cfg(test)]
-mod tests;
 mod tokens;
 mod types;
 

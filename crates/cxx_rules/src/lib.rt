@@ -26,8 +26,6 @@ mod scope;
 mod simple;
 mod size;
 mod statement;
-#[cfg(test)]
-mod tests;
 mod texts;
 mod thrown;
 mod types;

@@ -18,8 +18,3 @@ pub use frames::write_eh_frame;
 pub use header::write_hdr;
 pub use lsda::write_lsda;
 pub use std::alloc::AllocError as NoMemory;
-
-#[cfg(test)]
-mod frame_tests;
-#[cfg(test)]
-mod tests;

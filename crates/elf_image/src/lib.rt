@@ -19,8 +19,3 @@ pub use elf::{Elf, read_elf};
 pub use error::ImageError;
 pub use std::alloc::AllocError as NoMemory;
 pub use write::{ImageParts, write_elf};
-
-#[cfg(test)]
-mod tests;
-#[cfg(test)]
-mod write_tests;

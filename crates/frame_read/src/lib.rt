@@ -47,12 +47,3 @@ pub use error::FrameError;
 pub use frame_list::Frames;
 pub use listed::{Augmentation, Cie, Fde};
 pub use read::read_frames;
-
-#[cfg(test)]
-mod list_tests;
-#[cfg(test)]
-mod made_tests;
-#[cfg(test)]
-mod row_tests;
-#[cfg(test)]
-mod tests;

@@ -8,6 +8,3 @@ mod registers;
 pub use frame::{Frame, Walk};
 pub use outward::{cfa_of, row_for, step_out};
 pub use rv64_isa::FaultKind;
-
-#[cfg(test)]
-mod tests;

@@ -2,6 +2,10 @@
 #![tactic(auto)]
 
 #[cfg(test)]
+mod layouts;
+#[cfg(test)]
 mod lowered;
+#[cfg(test)]
+mod small_regions;
 #[cfg(test)]
 mod tests;

@@ -23,6 +23,3 @@ pub use error::TableError;
 pub use list::SpecList;
 pub use lsda::Lsda;
 pub use sites::Sites;
-
-#[cfg(test)]
-mod tests;

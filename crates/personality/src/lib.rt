@@ -13,6 +13,3 @@ pub use place::FrameView;
 pub use thrown::Thrown;
 pub use types::TypeChain;
 pub use verdict::personality;
-
-#[cfg(test)]
-mod tests;

@@ -16,6 +16,3 @@ pub use law::{a_fault_is_a_broken_stack, more_frames_make_no_difference};
 pub use phases::{forced, raise, resume};
 pub use raised::Raised;
 pub use readable::tables_are_readable;
-
-#[cfg(test)]
-mod tests;

@@ -29,8 +29,6 @@ mod simple;
 mod slots;
 mod source;
 mod statement;
-#[cfg(test)]
-mod tests;
 mod throwing;
 mod types;
 pub mod value;

@@ -9,8 +9,6 @@ mod instr;
 mod opcodes;
 mod registers;
 mod step;
-#[cfg(test)]
-mod tests;
 mod word_fields;
 
 pub use decoding::{Illegal, decode};

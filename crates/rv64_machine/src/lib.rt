@@ -5,8 +5,6 @@
 mod bytes;
 mod machine;
 mod memory;
-#[cfg(test)]
-mod tests;
 
 pub use machine::Machine;
 pub use rv64_isa::{FaultKind, Step};

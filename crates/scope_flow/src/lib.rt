@@ -10,8 +10,6 @@ mod handler;
 mod names;
 mod specification;
 mod terminating;
-#[cfg(test)]
-mod tests;
 mod throw;
 
 pub use callee::{Callee, Calls, Constructor};

@@ -13,8 +13,6 @@ mod parts;
 mod program;
 mod simple;
 mod statement;
-#[cfg(test)]
-mod tests;
 mod throw;
 
 pub use program::{Meaning, mean};

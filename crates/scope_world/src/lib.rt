@@ -10,8 +10,6 @@ mod object;
 mod operators;
 mod outcome;
 mod outside;
-#[cfg(test)]
-mod tests;
 mod world;
 
 pub use class::{

@@ -11,6 +11,3 @@ mod tables;
 pub use clean::{CleanImage, check_image, read_image};
 pub use elf_image::ImageError;
 pub use summary::Summary;
-
-#[cfg(test)]
-mod tests;

@@ -14,6 +14,3 @@ mod text;
 
 pub use dump::dump_image;
 pub use elf_image::ImageError;
-
-#[cfg(test)]
-mod tests;
