@@ -1,5 +1,5 @@
 -- Operations that are put one after the other.
-use Rattle.std.proofs.Common.{◌≡◌, ◌∙◌, ℕ, ◌+◌, List, [], ◌∷◌, ◌++◌, map, length, refl, ap, sym, subst, append_assoc, arith, rules}
+use Rattle.std.proofs.Common.{◌≡◌, ◌∙◌, ◌+◌, List, [], ◌∷◌, ◌++◌, map, length, ap, sym, append_assoc, rules}
 use Rattle.std.proofs.lemmas.List.{map_push, length-append, length-map}
 use Rattle.linear_forms.specs.Sites.{Placed}
 use Rattle.landing_pads.specs.declared.placed.Placed.{Placed as PlacedValue}

@@ -1,11 +1,11 @@
 -- What is kept once, and where it stands.
 use Rattle.std.proofs.Common.{◌≡◌, ◌∙◌, ◌≤◌, ℕ, ◌+◌, Bool, true, false, List, [], ◌∷◌, ◌++◌, length, map, refl, ap, sym, arith}
 use Rattle.std.proofs.lemmas.List.{map-append}
-use Rattle.std.specs.Prelude.{nat_eq, nat_lt, cond, not, Option, Some, None, ◌||◌, if◌then◌else◌}
+use Rattle.std.specs.Prelude.{nat_eq, nat_lt, cond, not, Some, None, ◌||◌, if◌then◌else◌}
 use Rattle.std.specs.List.{list_any, position, position_or_len}
 use Rattle.std.proofs.lemmas.Bool.Decides.{nat_tests}
 use Rattle.scope_rules.specs.Class.{some_of}
-use Rattle.linear_forms.specs.Distinct.{added, added_all, among, same_number}
+use Rattle.linear_forms.specs.Distinct.{added, added_all, same_number}
 use Rattle.linear_forms.specs.Filters.{index_of}
 
 -- more, then others

@@ -1,5 +1,5 @@
 -- The regions that hold a part, kept with the innermost last.
-use Rattle.std.proofs.Common.{◌≡◌, ◌∙◌, ℕ, ◌+◌, ◌-◌, List, [], ◌∷◌, ◌++◌, map, length, drop, take, reverse, refl, ap, arith}
+use Rattle.std.proofs.Common.{◌≡◌, ◌∙◌, ℕ, ◌-◌, List, [], ◌∷◌, ◌++◌, map, length, take, reverse, ap, arith}
 use Rattle.std.proofs.lemmas.List.{map-append, reverse-append, length-reverse, length-append, length-drop, length-map, take_at}
 use Rattle.linear_forms.specs.Exits.{name_of}
 use Rattle.landing_pads.specs.declared.exits.Exit.{Exit}

@@ -2,11 +2,9 @@
 use Rattle.std.specs.Prelude.{List, map, reverse}
 use Rattle.landing_pads.specs.declared.exits.Exit.{Exit as ExitValue}
 use Rattle.landing_pads.specs.declared.emitting.Emitting.{Emitting as EmittingValue}
-use Rattle.landing_pads.specs.declared.filters.Tables.{Tables}
 use Rattle.linear_forms.specs.Emission.{Emitting}
 use Rattle.linear_forms.specs.Exits.{Exit}
 use Rattle.linear_forms.specs.Filters.{filter_for}
-use Rattle.linear_forms.specs.Tables.{Sense}
 
 -- a region that holds a part
 abbrev pub exit_of : ExitValue → Exit

@@ -3,3 +3,8 @@ pub mod Emitted
 pub mod Given
 pub mod Joined
 pub mod Past
+pub mod Named
+pub mod Size
+pub mod Laws
+pub mod Numbered
+pub mod Frames

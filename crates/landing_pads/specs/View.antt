@@ -1,5 +1,5 @@
 -- The plain linear code that code in memory stands for.
-use Rattle.std.specs.Prelude.{List, map}
+use Rattle.std.specs.Prelude.{map}
 use Rattle.region_ir.specs.View.{operation_of, row_of, slot_of, value_of}
 use Rattle.landing_pads.specs.declared.unit.LinearOp.{LinearOp as LinearOpValue}
 use Rattle.landing_pads.specs.declared.unit.LinearOp.TheVariants as linear

@@ -10,6 +10,7 @@ mod filters;
 mod frame;
 mod function;
 mod handling;
+pub mod laws;
 mod numbers;
 mod outs;
 mod placed;

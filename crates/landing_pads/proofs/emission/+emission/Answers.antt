@@ -1,7 +1,6 @@
-use Rattle.std.proofs.Common.{◌≡◌, ◌∙◌, ◌<◌, ◌≤◌, ◌+◌, ℕ, List, [], ◌∷◌, ◌++◌, drop, length, map, ap, sym, refl, subst, arith, rules}
+use Rattle.std.proofs.Common.{◌≡◌, ◌∙◌, ◌<◌, ◌+◌, [], ◌∷◌, ◌++◌, drop, length, map, ap, sym, refl, subst, arith, rules}
 use Rattle.std.proofs.lemmas.List.{drop_all, drop_more}
 use Rattle.region_forms.specs.Form.{barrier, bind, branch, catch, limit, protect, regions_from, region_then, clause_then, through}
-use Rattle.region_forms.specs.Guard.{types_of}
 use Rattle.linear_forms.specs.Linear.{jump, jump_filter, jump_zero, label, pad, plain, resume, unexpected}
 use Rattle.linear_forms.specs.Code.{labels, labels_all, labels_clauses, region_code, all_code, clauses_code}
 use Rattle.linear_forms.specs.Emission.{guarded, quiet, outward}
@@ -11,7 +10,6 @@ use Rattle.region_ir.specs.View.{cleanup_of, clauses_of, region_of, value_of}
 use Rattle.landing_pads.specs.Emitted.{Emitted}
 use Rattle.landing_pads.specs.Given.{emitting_of, exit_of, exits_of}
 use Rattle.landing_pads.specs.View.{cover_of, placed_of}
-use Rattle.landing_pads.proofs.Behind.{both_emitted}
 use Rattle.landing_pads.proofs.Weight.{weight, weight_all, weight_clauses}
 use Rattle.landing_pads.proofs.Composed.{all_done, clauses_done, types_counted, branch_emitted, catch_emitted, clauses_onward, all_onward, handlers_moved, closed_emitted, limit_emitted, loop_emitted, protect_emitted, sequence_emitted}
 use Rattle.landing_pads.proofs.Stack.{exits_pushed, popped}

@@ -1,4 +1,4 @@
-use Rattle.std.proofs.Common.{◌≡◌, ◌∙◌, ◌<◌, [], ◌∷◌, ◌++◌, length, map, take, ap, sym, arith}
+use Rattle.std.proofs.Common.{◌∙◌, ◌<◌, [], ◌∷◌, ◌++◌, length, map, take, ap, sym, arith}
 use Rattle.std.proofs.lemmas.List.{map_push, take_more}
 use Rattle.linear_forms.specs.Unit.{function_code}
 use Rattle.region_ir.specs.View.{function_of}
