@@ -1,0 +1,5 @@
+pub mod View
+pub mod Offsets
+pub mod Starts
+pub mod Body
+pub mod Places

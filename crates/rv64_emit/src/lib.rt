@@ -1,0 +1,28 @@
+//! Machine code of linear code: the RV64IM words of a unit's functions, with their exception tables and frame moves.
+#![tactic(auto)]
+
+mod body;
+mod builtin;
+mod call;
+mod code;
+mod immediate;
+mod labels;
+mod linear;
+mod numbers;
+mod operation;
+mod operator;
+mod piece;
+mod place;
+mod places;
+mod register;
+mod runtime_call;
+mod shape;
+mod starts;
+mod table;
+mod test;
+mod unit;
+mod value;
+mod words;
+
+pub use cxx_ast::NoMemory;
+pub use unit::emit;
