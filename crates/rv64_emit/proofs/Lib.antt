@@ -1,8 +1,13 @@
+pub mod Apart
 pub mod Bodies
+pub mod Chains
 pub mod Composed
 pub mod Firsts
 pub mod Guarded
+pub mod Inside
 pub mod Listed
+pub mod Moves
 pub mod Offset
+pub mod SitesInside
 pub mod Weight
 pub mod WordsBefore

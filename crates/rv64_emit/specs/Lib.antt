@@ -3,3 +3,4 @@ pub mod Offsets
 pub mod Starts
 pub mod Body
 pub mod Places
+pub mod Laws

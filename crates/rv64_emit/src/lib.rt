@@ -7,6 +7,7 @@ mod call;
 mod code;
 mod immediate;
 mod labels;
+pub mod laws;
 mod linear;
 mod numbers;
 mod operation;

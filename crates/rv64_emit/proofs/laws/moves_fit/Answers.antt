@@ -1,0 +1,5 @@
+use Rattle.rv64_emit.proofs.Moves.{moves_fit}
+use Rattle.rv64_emit.proofs.laws.moves_fit.Goals as goal
+
+pub returns : goal.returns
+returns c = moves_fit
