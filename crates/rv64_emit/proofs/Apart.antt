@@ -1,6 +1,5 @@
 -- Functions one behind the other.
 use Rattle.std.proofs.Common.{◌≡◌, ℕ, ◌+◌, List, [], ◌∷◌, refl, subst, sym, arith}
-use Rattle.linear_forms.specs.Linear.{UnitCode}
 use Rattle.emission_forms.specs.Emitted.{emitted_of, unit_routines}
 use Rattle.emission_forms.specs.Routine.{Routine, all_words, listed_routines, routine_words}
 use Rattle.emission_forms.proofs.Words.{words_stand}

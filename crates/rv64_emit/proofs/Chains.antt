@@ -1,5 +1,5 @@
 -- The chains of a function's table.
-use Rattle.std.proofs.Common.{◌≡◌, ◌∙◌, ℕ, zero, suc, ◌+◌, ◌<◌, ℤ, pos, negsuc, Bool, true, false, ◌&&◌, ◌||◌, List, [], ◌∷◌, ◌++◌, length, map, refl, ap, sym, subst, arith}
+use Rattle.std.proofs.Common.{◌≡◌, ◌∙◌, suc, ◌+◌, ◌<◌, ℤ, pos, negsuc, Bool, true, false, ◌&&◌, ◌||◌, List, [], ◌∷◌, ◌++◌, length, map, refl, ap, sym, subst, arith}
 use Rattle.std.specs.Prelude.{if◌then◌else◌}
 use Rattle.std.specs.List.{AllByRecursion}
 use Rattle.std.proofs.lemmas.Bool.Decides.{nat_tests}
@@ -94,25 +94,3 @@ pub chains_there : (table : ListedTable) (r : Routine) → table.chains ≡ chai
     AllByRecursion (λ s. ChainIsThere table s.chain) (map (listed_site r) r.sites)
 chains_there table r e =
     all_there table r r.sites e (subst (λ chains. AllByRecursion (λ s. Named chains s.filters) r.sites) (sym e) (all_named [] r.sites))
-
-filled_more : (chains : List (List ℤ)) (c : List ℤ) → AllByRecursion (λ x. 0 < length x) chains → 0 < length c → AllByRecursion (λ x. 0 < length x) (chains ++ c ∷ [])
-filled_more [] c h g = (g, tt)
-filled_more (x ∷ chains) c h g = (h.0, filled_more chains c h.1 g)
-
-not_empty : (c : List ℤ) (b : Bool) → (is_empty c || b) ≡ false → 0 < length c
-not_empty [] b e = absurd (cc e)
-not_empty (n ∷ c) b e = omega arith
-
--- none of them is empty
-pub chains_filled : (chains : List (List ℤ)) (sites : List CodeSite) → AllByRecursion (λ x. 0 < length x) chains →
-    AllByRecursion (λ x. 0 < length x) (chains_behind chains sites)
-chains_filled chains [] h = h
-chains_filled chains (s ∷ sites) h =
-    go (is_empty s.filters || has_chain s.filters chains) refl (chains_filled chains sites h)
-    (λ g. chains_filled (chains ++ s.filters ∷ []) sites (filled_more chains s.filters h g))
-  where
-    go : (b : Bool) → (is_empty s.filters || has_chain s.filters chains) ≡ b → AllByRecursion (λ x. 0 < length x) (chains_behind chains sites) →
-        (0 < length s.filters → AllByRecursion (λ x. 0 < length x) (chains_behind (chains ++ s.filters ∷ []) sites)) →
-        AllByRecursion (λ x. 0 < length x) (if b then chains_behind chains sites else chains_behind (chains ++ s.filters ∷ []) sites)
-    go true e same more = same
-    go false e same more = more (not_empty s.filters (has_chain s.filters chains) e)

@@ -1,5 +1,5 @@
 -- Code that a jump goes over, whose distance is known only behind it.
-use Rattle.std.proofs.Common.{◌≡◌, ◌∙◌, ℕ, suc, ◌+◌, ◌-◌, ◌*◌, List, [], ◌∷◌, ◌++◌, length, length-append, set, refl, sym, ap, append_assoc, arith}
+use Rattle.std.proofs.Common.{◌≡◌, ◌∙◌, ℕ, suc, ◌+◌, ◌-◌, ◌*◌, List, [], ◌∷◌, ◌++◌, length, length-append, set, refl, ap, append_assoc, arith}
 use Rattle.rv64_isa.specs.declared.instr.Instr.TheVariants.{Jal}
 use Rattle.emission_forms.specs.Piece.{Piece, instruction}
 use Rattle.emission_forms.specs.Registers.{zero_register}

@@ -1,35 +1,36 @@
 -- The tables and moves of the functions of a program, and their frames.
-use Rattle.std.proofs.Common.{◌≡◌, ◌∙◌, ℕ, zero, suc, ◌+◌, ◌-◌, ◌*◌, ◌/◌, ◌%◌, ◌<◌, ◌≤◌, ◌^◌, List, [], ◌∷◌, length, map, take, Some, refl, ap, sym, subst, arith}
+use Rattle.std.proofs.Common.{◌≡◌, ◌∙◌, ℕ, zero, suc, ◌+◌, ◌≤◌, List, [], ◌∷◌, length, map, take, Some, refl, ap, arith}
 use Rattle.std.specs.Prelude.{slice_get}
 use Rattle.std.specs.List.{AllByRecursion}
-use Rattle.eh_bytes.specs.declared.frames.Region64.{Region64}
 use Rattle.region_forms.specs.Form.{RegionFunction, Slot}
 use Rattle.linear_forms.specs.Frame.{code_slots, frame_bytes, rounded_up, slot_bytes}
 use Rattle.linear_forms.specs.Unit.{function_code, placed_code}
 use Rattle.linear_forms.proofs.Merging.{sites_are_right}
-use Rattle.emission_forms.specs.Emitted.{function_routine, shape_of}
+use Rattle.emission_forms.specs.Emitted.{function_routine}
 use Rattle.emission_forms.specs.Routine.{listed_routine, listed_routines, routine_table, routine_words}
-use Rattle.rv64_emit.specs.Laws.{AllMovesFit, MovesFit, SlotIsInside, SlotsAreInside, TableIsInside, TablesAreInside}
-use Rattle.rv64_emit.proofs.Chains.{chains_filled, chains_there}
+use Rattle.rv64_emit.specs.Laws.{SlotsAreInside, TableIsGood, TablesAreGood}
+use Rattle.rv64_emit.proofs.Chains.{chains_there}
+use Rattle.rv64_emit.proofs.FiltersThere.{chains_are_good, lists_are_good}
 use Rattle.rv64_emit.proofs.SitesInside.{all_inside, all_pads, in_order}
 
-table_inside : (first : ℕ) (f : RegionFunction) → TableIsInside (listed_routine first (function_routine (function_code f)))
-table_inside first f =
+table_good : (first : ℕ) (f : RegionFunction) → TableIsGood (listed_routine first (function_routine (function_code f)))
+table_good first f =
     let r = function_routine (function_code f) in
     let ordered = sites_are_right.ordered (placed_code f) in
     record {
       order = in_order r 0 (length (placed_code f)) 0 r.sites ordered (omega arith);
       inside = all_inside r 0 (length (placed_code f)) r.sites ordered (all_pads f);
-      named = chains_there (routine_table r) r refl;
-      filled = chains_filled [] r.sites tt;
+      sites = chains_there (routine_table r) r refl;
+      chains = chains_are_good (routine_table r) f refl refl;
+      lists = lists_are_good f.body;
     }
 
-all_tables : (first : ℕ) (fs : List RegionFunction) → AllByRecursion TableIsInside (listed_routines first (map function_routine (map function_code fs)))
+all_tables : (first : ℕ) (fs : List RegionFunction) → AllByRecursion TableIsGood (listed_routines first (map function_routine (map function_code fs)))
 all_tables first [] = tt
-all_tables first (f ∷ fs) = (table_inside first f, all_tables (first + routine_words (function_routine (function_code f))) fs)
+all_tables first (f ∷ fs) = (table_good first f, all_tables (first + routine_words (function_routine (function_code f))) fs)
 
-pub tables_are_inside : TablesAreInside
-tables_are_inside r = all_tables 2 r.functions
+pub tables_are_good : TablesAreGood
+tables_are_good r = all_tables 2 r.functions
 
 whole_frame : (f : RegionFunction) → 16 + slot_bytes (code_slots f) ≤ frame_bytes (code_slots f)
 whole_frame f = omega arith

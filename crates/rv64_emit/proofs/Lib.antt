@@ -1,7 +1,9 @@
 pub mod Apart
 pub mod Bodies
 pub mod Chains
+pub mod ChainsGood
 pub mod Composed
+pub mod FiltersThere
 pub mod Firsts
 pub mod Guarded
 pub mod Inside
@@ -9,5 +11,6 @@ pub mod Listed
 pub mod Moves
 pub mod Offset
 pub mod SitesInside
+pub mod Turns
 pub mod Weight
 pub mod WordsBefore

@@ -1,11 +1,10 @@
 -- The moves of a function's frame.
-use Rattle.std.proofs.Common.{◌≡◌, ℕ, ◌+◌, ◌-◌, ◌*◌, ◌/◌, ◌%◌, ◌<◌, ◌≤◌, ◌^◌, pos, negsuc, ◌-ℤ◌, List, [], ◌∷◌, length, map, sym, subst, arith}
+use Rattle.std.proofs.Common.{◌≡◌, ℕ, ◌+◌, ◌-◌, ◌%◌, ◌≤◌, pos, negsuc, ◌-ℤ◌, List, [], ◌∷◌, map, sym, subst, arith}
 use Rattle.std.specs.List.{AllByRecursion}
 use Rattle.std.proofs.lemmas.Int.{ints}
-use Rattle.eh_bytes.specs.declared.frames.Region64.{Region64}
 use Rattle.eh_write.specs.CanWriteFrames.{IsSlot}
 use Rattle.region_forms.specs.Form.{RegionFunction}
-use Rattle.linear_forms.specs.Frame.{code_slots, frame_bytes, saved_bytes, slot_bytes}
+use Rattle.linear_forms.specs.Frame.{code_slots, frame_bytes}
 use Rattle.linear_forms.specs.Unit.{function_code}
 use Rattle.emission_forms.specs.Emitted.{function_routine}
 use Rattle.emission_forms.specs.Routine.{listed_routine, listed_routines, routine_words}

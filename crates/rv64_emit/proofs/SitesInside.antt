@@ -1,5 +1,5 @@
 -- The sites of a function's table.
-use Rattle.std.proofs.Common.{◌≡◌, ◌∙◌, ℕ, zero, suc, ◌+◌, ◌-◌, ◌*◌, ◌<◌, ◌≤◌, ℤ, Bool, true, false, ◌&&◌, List, [], ◌∷◌, length, map, take, Option, None, Some, refl, ap, sym, arith}
+use Rattle.std.proofs.Common.{◌≡◌, ◌∙◌, ℕ, zero, suc, ◌+◌, ◌-◌, ◌*◌, ◌<◌, ◌≤◌, ℤ, true, false, ◌&&◌, List, [], ◌∷◌, length, map, take, Option, None, Some, refl, ap, sym, arith}
 use Rattle.std.specs.Prelude.{if◌then◌else◌, nat_le, nat_lt, slice_get}
 use Rattle.std.specs.List.{AllByRecursion}
 use Rattle.std.specs.Option.{option_map}
@@ -10,7 +10,7 @@ use Rattle.region_forms.specs.Form.{RegionFunction}
 use Rattle.linear_forms.specs.Laws.{AreInOrder as SitesAreInOrder}
 use Rattle.linear_forms.specs.Linear.{CodeSite, pad}
 use Rattle.linear_forms.specs.Sites.{sites_of}
-use Rattle.linear_forms.specs.Tables.{Cover, unpadded, padded, cover_of, holds, look_up}
+use Rattle.linear_forms.specs.Tables.{unpadded, padded, cover_of, look_up}
 use Rattle.linear_forms.specs.Unit.{function_code, placed_code}
 use Rattle.linear_forms.proofs.Merging.{sites_are_right}
 use Rattle.linear_forms.proofs.Pads.{pads_stand}

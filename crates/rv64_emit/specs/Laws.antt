@@ -5,13 +5,15 @@ use Rattle.eh_bytes.specs.declared.frames.FrameMove.{FrameMove}
 use Rattle.eh_bytes.specs.declared.frames.Region64.{Region64}
 use Rattle.eh_bytes.specs.declared.table.ListSite.{ListSite}
 use Rattle.eh_bytes.specs.Listed.{ListedFunction}
-use Rattle.eh_write.specs.CanWrite.{AreInOrder, ChainIsThere}
+use Rattle.eh_write.specs.CanWrite.{AreInOrder, ChainIsGood, ChainIsThere, TypeIsThere}
 use Rattle.eh_write.specs.CanWriteFrames.{MovesAreGood}
-use Rattle.region_forms.specs.Form.{Regions, RegionFunction, Slot}
+use Rattle.region_forms.specs.Form.{Arguments, call, call_value, construct, defined, destroy, evaluate, Place, Regions, RegionFunction, Slot, store, Value}
 use Rattle.linear_forms.specs.Frame.{code_slots, slot_bytes}
-use Rattle.linear_forms.specs.Linear.{UnitCode}
+use Rattle.linear_forms.specs.Linear.{jump_zero, UnitCode}
 use Rattle.linear_forms.specs.Unit.{function_code, unit_of}
 use Rattle.emission_forms.specs.Emitted.{emitted_of, shape_of}
+use Rattle.emission_forms.specs.LinearCode.{linear_code}
+use Rattle.emission_forms.specs.OperationCode.{op_code}
 use Rattle.emission_forms.specs.Shape.{Shape, return_offset, slot_offset}
 
 -- functions one behind the other, from a word up to another
@@ -28,16 +30,18 @@ pub record SiteIsInside (words : ℕ) (s : ListSite) : Type 0 where
   pub extent : s.start + s.length ≤ 4 * words
   pub pad : s.pad < 4 * words
 
--- the sites of a function are in order and in the function, the chains that they name are there, and none of these is empty
-pub record TableIsInside (f : ListedFunction) : Type 0 where
+-- The sites of a function are in order and in the function, and chains, filters, types and lists are there where they are named; so a
+-- writer of tables can write it at an address that is right for it.
+pub record TableIsGood (f : ListedFunction) : Type 0 where
   pub order : AreInOrder 0 f.table.sites
   pub inside : AllByRecursion (SiteIsInside f.words) f.table.sites
-  pub named : AllByRecursion (λ s. ChainIsThere f.table s.chain) f.table.sites
-  pub filled : AllByRecursion (λ chain. 0 < length chain) f.table.chains
+  pub sites : AllByRecursion (λ s. ChainIsThere f.table s.chain) f.table.sites
+  pub chains : AllByRecursion (ChainIsGood f.table) f.table.chains
+  pub lists : AllByRecursion (AllByRecursion (TypeIsThere f.table)) f.table.lists
 
 -- so it is in each function of a program of regions
-abbrev pub TablesAreInside : Type 0
-TablesAreInside = (r : Regions) → AllByRecursion TableIsInside (emitted_of (unit_of r)).functions
+abbrev pub TablesAreGood : Type 0
+TablesAreGood = (r : Regions) → AllByRecursion TableIsGood (emitted_of (unit_of r)).functions
 
 -- a move of a function that begins at an address
 abbrev pub moved_to : ℕ → FrameMove → FrameMove
@@ -59,3 +63,16 @@ pub record SlotIsInside (f : Shape) (s : ℕ) (slot : Slot) : Type 0 where
 -- so it is with each slot of a function
 abbrev pub SlotsAreInside : Type 0
 SlotsAreInside = (f : RegionFunction) (s : ℕ) (slot : Slot) → slice_get (code_slots f) s ≡ Some slot → SlotIsInside (shape_of (function_code f)) s slot
+
+-- each call of a function and each test of a loop has at least one instruction
+pub record TurnsTakeWords (f : Shape) : Type 0 where
+  pub evaluated : (n : ℕ) (args : Arguments) → 0 < length (op_code f (evaluate (call_value (defined n) args)))
+  pub stored : (p : Place) (n : ℕ) (args : Arguments) → 0 < length (op_code f (store p (call_value (defined n) args)))
+  pub called : (n : ℕ) (args : Arguments) → 0 < length (op_code f (call (defined n) args))
+  pub constructed : (p : Place) (n : ℕ) (args : Arguments) → 0 < length (op_code f (construct p n args))
+  pub destroyed : (p : Place) (n : ℕ) → 0 < length (op_code f (destroy p n))
+  pub tested : (v : Value) (l : ℕ) → 0 < length (linear_code f (jump_zero v l))
+
+-- so it is in each function
+abbrev pub EachTurnTakesWords : Type 0
+EachTurnTakesWords = (f : Shape) → TurnsTakeWords f

@@ -1,5 +1,5 @@
 -- Where the functions of a unit stand.
-use Rattle.std.specs.Prelude.{◌≡◌, ◌+◌, List, length, map}
+use Rattle.std.specs.Prelude.{◌≡◌, ◌+◌, length, map}
 use Rattle.eh_bytes.specs.Listed.{listed_function}
 use Rattle.linear_forms.specs.Linear.{UnitCode}
 use Rattle.emission_forms.specs.Routine.{all_words, listed_routines}

@@ -1,4 +1,4 @@
-use Rattle.std.proofs.Common.{◌≡◌, ◌∙◌, ap, map, length, sym}
+use Rattle.std.proofs.Common.{◌∙◌, ap, map, length, sym}
 use Rattle.std.proofs.lemmas.List.{length-map}
 use Rattle.landing_pads.specs.View.{code_of, linear_of}
 use Rattle.linear_forms.specs.Tables.{label_place}

@@ -1,4 +1,4 @@
-use Rattle.std.proofs.Common.{◌≡◌, ◌∙◌, ap, map}
+use Rattle.std.proofs.Common.{◌∙◌, ap, map}
 use Rattle.landing_pads.specs.View.{code_of, site_of}
 use Rattle.emission_forms.specs.Emitted.{function_routine}
 use Rattle.emission_forms.specs.Routine.{chains_of, listed_site}

@@ -1,4 +1,4 @@
-use Rattle.std.proofs.Common.{◌≡◌, ◌∙◌, refl}
+use Rattle.std.proofs.Common.{◌∙◌, refl}
 use Rattle.landing_pads.specs.View.{code_of}
 use Rattle.emission_forms.specs.Emitted.{shape_of}
 use Rattle.rv64_emit.proofs.Listed.{same_function}

@@ -1,4 +1,4 @@
-use Rattle.std.proofs.Common.{◌≡◌, ◌∙◌, ◌<◌, ◌+◌, ◌∷◌, ◌++◌, drop, length, ap, refl, sym, arith}
+use Rattle.std.proofs.Common.{◌∙◌, ◌<◌, ◌+◌, ◌∷◌, ◌++◌, drop, length, ap, refl, sym, arith}
 use Rattle.std.proofs.lemmas.List.{drop_all, drop_more}
 use Rattle.emission_forms.specs.Emitted.{target_byte}
 use Rattle.emission_forms.specs.Routine.{routines_code}

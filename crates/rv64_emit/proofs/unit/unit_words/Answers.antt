@@ -1,4 +1,4 @@
-use Rattle.std.proofs.Common.{◌≡◌, ◌∙◌, ◌+◌, ◌++◌, ap, refl}
+use Rattle.std.proofs.Common.{◌∙◌, ◌+◌, ◌++◌, ap, refl}
 use Rattle.emission_forms.specs.Emitted.{main_jump, target_byte, unit_routines}
 use Rattle.emission_forms.specs.Piece.{Places, words_from}
 use Rattle.emission_forms.specs.Routine.{routines_code}

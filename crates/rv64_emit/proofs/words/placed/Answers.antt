@@ -1,4 +1,4 @@
-use Rattle.std.proofs.Common.{◌≡◌, ◌∙◌, ap, refl, sym}
+use Rattle.std.proofs.Common.{◌∙◌, ap, refl, sym}
 use Rattle.rv64_isa.specs.declared.instr.Instr.TheVariants.{Addi, Jalr, Lw, Sw}
 use Rattle.emission_forms.specs.Emitted.{target_byte}
 use Rattle.emission_forms.specs.Piece.{placed}

@@ -1,4 +1,4 @@
-use Rattle.std.proofs.Common.{◌≡◌, ◌∙◌, ap, set}
+use Rattle.std.proofs.Common.{◌∙◌, ap, set}
 use Rattle.std.proofs.lemmas.List.{map-set}
 use Rattle.rv64_emit.specs.View.{piece_of}
 use Rattle.rv64_emit.proofs.code.Code.set.Goals as goal

@@ -1,4 +1,3 @@
-use Rattle.std.proofs.Common.{◌≡◌, ◌∙◌, ap}
 use Rattle.rv64_emit.proofs.Firsts.{first_of, end_of}
 use Rattle.rv64_emit.proofs.places.Targets.first.Goals as goal
 

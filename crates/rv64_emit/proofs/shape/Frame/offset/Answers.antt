@@ -1,4 +1,4 @@
-use Rattle.std.proofs.Common.{◌≡◌, ◌∙◌, ap, get_or, map, arith}
+use Rattle.std.proofs.Common.{◌∙◌, ap, get_or, map, arith}
 use Rattle.std.specs.Option.{unwrap_or}
 use Rattle.region_ir.specs.View.{slot_of}
 use Rattle.emission_forms.specs.Shape.{slot_offset}

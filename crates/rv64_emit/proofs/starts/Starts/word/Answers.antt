@@ -1,4 +1,4 @@
-use Rattle.std.proofs.Common.{◌≡◌, ◌∙◌, ap, get_or, arith}
+use Rattle.std.proofs.Common.{◌∙◌, ap, get_or, arith}
 use Rattle.std.specs.Option.{unwrap_or}
 use Rattle.rv64_emit.proofs.WordsBefore.{word_of_place}
 use Rattle.rv64_emit.proofs.starts.Starts.word.Goals as goal
