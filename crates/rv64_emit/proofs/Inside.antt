@@ -4,33 +4,34 @@ use Rattle.std.specs.Prelude.{slice_get}
 use Rattle.std.specs.List.{AllByRecursion}
 use Rattle.region_forms.specs.Form.{RegionFunction, Slot}
 use Rattle.linear_forms.specs.Frame.{code_slots, frame_bytes, rounded_up, slot_bytes}
-use Rattle.linear_forms.specs.Unit.{function_code, placed_code}
-use Rattle.linear_forms.proofs.Merging.{sites_are_right}
+use Rattle.linear_forms.specs.Unit.{function_code}
+use Rattle.landing_pads.specs.Laws.{AllTablesStand, TablesStand}
 use Rattle.emission_forms.specs.Emitted.{function_routine}
 use Rattle.emission_forms.specs.Routine.{listed_routine, listed_routines, routine_table, routine_words}
 use Rattle.rv64_emit.specs.Laws.{SlotsAreInside, TableIsGood, TablesAreGood}
 use Rattle.rv64_emit.proofs.Chains.{chains_there}
-use Rattle.rv64_emit.proofs.FiltersThere.{chains_are_good, lists_are_good}
-use Rattle.rv64_emit.proofs.SitesInside.{all_inside, all_pads, in_order}
+use Rattle.rv64_emit.proofs.FiltersThere.{chains_are_good}
+use Rattle.rv64_emit.proofs.SitesInside.{all_inside, in_order, pads_inside}
 
-table_good : (first : ℕ) (f : RegionFunction) → TableIsGood (listed_routine first (function_routine (function_code f)))
-table_good first f =
-    let r = function_routine (function_code f) in
-    let ordered = sites_are_right.ordered (placed_code f) in
+table_good : (first : ℕ) (f : RegionFunction) → TablesStand f → TableIsGood (listed_routine first (function_routine (function_code f)))
+table_good first f stand =
+    let g = function_code f in
+    let r = function_routine g in
     record {
-      order = in_order r 0 (length (placed_code f)) 0 r.sites ordered (omega arith);
-      inside = all_inside r 0 (length (placed_code f)) r.sites ordered (all_pads f);
+      order = in_order r 0 (length g.ops) 0 r.sites stand.order (omega arith);
+      inside = all_inside r 0 (length g.ops) r.sites stand.order (pads_inside g (length f.slots) (length f.slots + 1) r.sites stand.pads);
       sites = chains_there (routine_table r) r refl;
-      chains = chains_are_good (routine_table r) f refl refl;
-      lists = lists_are_good f.body;
+      chains = chains_are_good g [] r.sites tt stand.filters;
+      lists = stand.lists;
     }
 
-all_tables : (first : ℕ) (fs : List RegionFunction) → AllByRecursion TableIsGood (listed_routines first (map function_routine (map function_code fs)))
-all_tables first [] = tt
-all_tables first (f ∷ fs) = (table_good first f, all_tables (first + routine_words (function_routine (function_code f))) fs)
+all_tables : (first : ℕ) (fs : List RegionFunction) → AllTablesStand → AllByRecursion TableIsGood (listed_routines first (map function_routine (map function_code fs)))
+all_tables first [] stand = tt
+all_tables first (f ∷ fs) stand =
+    (table_good first f (stand f), all_tables (first + routine_words (function_routine (function_code f))) fs stand)
 
-pub tables_are_good : TablesAreGood
-tables_are_good r = all_tables 2 r.functions
+pub tables_are_good : AllTablesStand → TablesAreGood
+tables_are_good stand r = all_tables 2 r.functions stand
 
 whole_frame : (f : RegionFunction) → 16 + slot_bytes (code_slots f) ≤ frame_bytes (code_slots f)
 whole_frame f = omega arith

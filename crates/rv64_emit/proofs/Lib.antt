@@ -1,7 +1,6 @@
 pub mod Apart
 pub mod Bodies
 pub mod Chains
-pub mod ChainsGood
 pub mod Composed
 pub mod FiltersThere
 pub mod Firsts

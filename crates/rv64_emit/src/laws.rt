@@ -1,6 +1,8 @@
 // Laws of what is emitted: calls of no effect, whose contracts state what holds of every program.
 ghost use Rattle.rv64_emit.specs.Laws.{AllMovesFit, EachTurnTakesWords, FunctionsAreApart, SlotsAreInside, TablesAreGood};
 
+use landing_pads::laws::tables_stand;
+
 /// The functions of a unit stand one behind the other, and have all its words but the first two.
 pub fn functions_are_apart()
     ensures { FunctionsAreApart }
@@ -9,7 +11,9 @@ pub fn functions_are_apart()
 /// The sites of a function are in order and inside it with their pads, and what a table names is there.
 pub fn tables_are_good()
     ensures { TablesAreGood }
-{}
+{
+    tables_stand();
+}
 
 /// A writer of frames can write a function's moves wherever it stands, where its frame is not too large.
 pub fn moves_fit()
