@@ -1,0 +1,7 @@
+pub mod Function
+pub mod Room
+pub mod Placed
+pub mod Records
+pub mod Tables
+pub mod Linked
+pub mod Linkable
