@@ -7,9 +7,11 @@ use std::alloc::{AllocError, Global};
 /// Where the stub of terminate stands.
 pub const STUB: u64 = 0x1_1000;
 
-const TABLES: u64 = 0x1_1800;
+/// Where the exception tables stand.
+pub const TABLES: u64 = 0x1_1800;
 
-const FRAMES: u64 = 0x1_2000;
+/// Where the frames stand.
+pub const FRAMES: u64 = 0x1_2000;
 
 /// The header of the frames.
 pub const HEADER: u64 = 0x1_2800;

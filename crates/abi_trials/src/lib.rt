@@ -1,5 +1,6 @@
 //! Trials of the runtime on hand-assembled images: what each must write, and how it must end, worked
-//! out from the calls of docs/RUNTIME.md. There are tests alone.
+//! out from the calls of docs/RUNTIME.md; and of the runtime's own functions, in an image and against an
+//! assembler. There are tests alone.
 #![tactic(auto)]
 
 #[cfg(test)]
@@ -16,6 +17,14 @@ mod op;
 mod run;
 #[cfg(test)]
 mod specifications;
+#[cfg(test)]
+mod stub_image;
+#[cfg(test)]
+mod stub_runs;
+#[cfg(test)]
+mod stub_unit;
+#[cfg(test)]
+mod stub_words;
 #[cfg(test)]
 mod table_faults;
 #[cfg(test)]

@@ -15,14 +15,17 @@ use raise_core::tables_are_readable;
 use rv64_machine::Machine;
 use std::alloc::{AllocError, Global};
 
-// The places of the terminate stub and of the type record of std::bad_exception.
-const PLACES: RuntimeRecord = RuntimeRecord {
-    terminate: STUB,
-    bad_exception: BAD_EXCEPTION,
-};
+/// The memory from `START` on, where a run begins, and the places of the terminate stub and of the type
+/// record of std::bad_exception.
+#[derive(Drop)]
+pub struct Image {
+    pub bytes: Vec<u8>,
+    pub entry: u64,
+    pub places: RuntimeRecord,
+}
 
-fn machine_of(alloc: Global, code: &Code) -> Result<Machine, AllocError> {
-    let mut bytes = bytes_of(alloc, code)?;
+fn machine_of(alloc: Global, image: Image) -> Result<Machine, AllocError> {
+    let mut bytes = image.bytes;
     bytes.resize(0x5000, 0)?;
     let mut parts = Vec::new(alloc);
     parts.push(Segment {
@@ -33,7 +36,7 @@ fn machine_of(alloc: Global, code: &Code) -> Result<Machine, AllocError> {
         exec: true,
     })?;
     let mut machine = Machine::new(alloc, Segments { parts })?;
-    machine.set_pc(START);
+    machine.set_pc(image.entry);
     Ok(machine)
 }
 
@@ -60,21 +63,23 @@ fn frames_of(alloc: Global, machine: &Machine) -> Option<Frames>
     }
 }
 
-fn runtime_of(alloc: Global, machine: Machine) -> Result<Option<Runtime>, AllocError>
+fn runtime_of(alloc: Global, image: Image) -> Result<Option<Runtime>, AllocError>
     ensures { IfOk result (λ made. IfSome made (λ runtime. runtime.turns ≡ 0)) }
 {
+    let places = image.places;
+    let machine = machine_of(alloc, image)?;
     match frames_of(alloc, &machine) {
         None => Ok(None),
-        Some(frames) => Ok(Some(Runtime::new(alloc, machine, frames, PLACES)?)),
+        Some(frames) => Ok(Some(Runtime::new(alloc, machine, frames, places)?)),
     }
 }
 
-// How a run ends, or `On` where a thousand turns have not ended it.
-fn run(runtime: &mut Runtime, host: &mut Host<Once>, sink: &mut MemSink) -> Turn
+// How a run on an input ends, or `On` where a thousand turns have not ended it.
+fn run(runtime: &mut Runtime, input: &[u8], host: &mut Host<Once>, sink: &mut MemSink) -> Turn
     requires { runtime.old.turns ≡ 0 }
 {
     for _ in 0..1000u32 {
-        let turn = runtime.turn(b"", host, true, sink);
+        let turn = runtime.turn(input, host, true, sink);
         if turn != Turn::On {
             return turn;
         }
@@ -91,21 +96,46 @@ fn host_of(alloc: Global) -> Result<Host<Once>, AllocError> {
 }
 
 // Whether a run from the first turn on ends so, and writes these lines.
-fn goes_as(alloc: Global, runtime: &mut Runtime, end: End, lines: &str) -> Result<bool, AllocError>
+fn goes_as(
+    alloc: Global,
+    runtime: &mut Runtime,
+    input: &str,
+    end: End,
+    lines: &str,
+) -> Result<bool, AllocError>
     requires { runtime.old.turns ≡ 0 }
 {
     let mut sink = MemSink::new(alloc, 0x200, Vec::new(alloc))?;
     let mut host = host_of(alloc)?;
-    let turn = run(runtime, &mut host, &mut sink);
+    let turn = run(runtime, input.as_bytes(), &mut host, &mut sink);
     host.close();
     Ok(turn == Turn::Ended(end) && sink.bytes() == lines.as_bytes())
 }
 
-/// Whether a run of an image ends so, and writes these lines; its one module raises an exception with the token 7.
-pub fn runs_as(alloc: Global, code: &Code, end: End, lines: &str) -> Result<bool, AllocError> {
-    let machine = machine_of(alloc, code)?;
-    match runtime_of(alloc, machine)? {
+/// Whether a run of an image on an input ends so, and writes these lines; its one module raises an
+/// exception with the token 7.
+pub fn image_runs_as(
+    alloc: Global,
+    image: Image,
+    input: &str,
+    end: End,
+    lines: &str,
+) -> Result<bool, AllocError> {
+    match runtime_of(alloc, image)? {
         None => Ok(false),
-        Some(mut runtime) => goes_as(alloc, &mut runtime, end, lines),
+        Some(mut runtime) => goes_as(alloc, &mut runtime, input, end, lines),
     }
+}
+
+/// Whether a run of these functions, on no input, ends so, and writes these lines.
+pub fn runs_as(alloc: Global, code: &Code, end: End, lines: &str) -> Result<bool, AllocError> {
+    let image = Image {
+        bytes: bytes_of(alloc, code)?,
+        entry: START,
+        places: RuntimeRecord {
+            terminate: STUB,
+            bad_exception: BAD_EXCEPTION,
+        },
+    };
+    image_runs_as(alloc, image, "", end, lines)
 }
