@@ -1,0 +1,5 @@
+pub mod Joined
+pub mod Entries
+pub mod Bounds
+pub mod Images
+pub mod Whole

@@ -1,0 +1,31 @@
+use Rattle.std.proofs.Common.{rules, ◌≡◌, ◌-◌, ◌%◌, ◌++◌, length, map, ◌∙◌, ap}
+use Rattle.std.specs.Prelude.{replicate}
+use Rattle.eh_bytes.specs.Listed.{listed_function, listed_frame, listed_unit}
+use Rattle.emission_forms.specs.Emitted.{emitted_stubs}
+use Rattle.image_forms.specs.Records.{names_bytes}
+use Rattle.image_link.proofs.Whole.{Puts, put_whole, constants_whole}
+use Rattle.image_link.proofs.image.constants_of.Goals as goal
+
+pub returns-clause-bytes : goal.returns-clause-bytes
+returns-clause-bytes c =
+    let u = listed_unit c.args.unit.now in
+    let laid = c.requires.laid in
+    let named = c.put_names.new.out.items in
+    let count : c.len-size.result ≡ length named = search rules in
+    let stubs : map listed_function c.as_slice-2.result.now ≡ emitted_stubs.functions
+    = ap (map listed_function) c.as_slice-2.ensures.value ∙ ap (λ s. s.functions) c.requires.stubs in
+    let own : map listed_function c.as_slice-3.result.now ≡ u.functions = ap (map listed_function) c.as_slice-3.ensures.value in
+    let puts : Puts u named c.fill.new.out.items c.put_tables.new.out.items c.put_tables-2.new.out.items
+    (map listed_frame c.put_tables.new.fdes.items) (map listed_frame c.put_tables-2.new.fdes.items)
+    = record {
+      names = c.in_ok-put_names.ensures ∙ (ap (λ b. b ++ names_bytes c.as_slice.result.now) c.new-bytes.ensures.items ∙ ap names_bytes c.as_slice.ensures.value);
+      fill = c.in_ok-fill.ensures ∙ ap (λ n. named ++ replicate ((4 - n % 4) % 4) 0) count;
+      stubs = rw (laid.code, laid.names, stubs) at c.in_ok-put_tables.ensures.bytes;
+      stub_frames = rw (laid.code, laid.names, stubs, c.new-fdes.ensures.items) at c.in_ok-put_tables.ensures.frames;
+      own = rw (laid.code, laid.unit, laid.names, own) at c.in_ok-put_tables-2.ensures.bytes;
+      own_frames = rw (laid.code, laid.unit, laid.names, own) at c.in_ok-put_tables-2.ensures.frames;
+    } in
+    let put = put_whole u named c.fill.new.out.items c.put_tables.new.out.items c.put_tables-2.new.out.items
+    (map listed_frame c.put_tables.new.fdes.items) (map listed_frame c.put_tables-2.new.fdes.items) puts in
+    (constants_whole u c.put_tables-2.new.out.items (map listed_frame c.put_tables-2.new.fdes.items) c.put_frames.new.out.items c.in_ok-header.header put
+    (rw laid.names at c.in_ok-header.ensures.header) (rw laid.names at c.in_ok-header.ensures.bytes)).1

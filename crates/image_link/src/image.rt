@@ -1,0 +1,128 @@
+// The image of a unit.
+ghost use Rattle.std.specs.Prelude.{◌≡◌, ◌++◌, ◌+◌, ◌*◌, ◌<◌, ◌≤◌, ◌^◌, flat_map, length, map, IfOk, OnOk};
+ghost use Rattle.std.specs.Int.{w32, to_le_bytes};
+ghost use Rattle.eh_bytes.specs.Listed.{listed_unit, listed_function};
+ghost use Rattle.emission_forms.specs.Emitted.{emitted_stubs};
+ghost use Rattle.elf_image.specs.Stands.{contents_of};
+ghost use Rattle.image_forms.specs.Linked.{linked, constant_bytes, header_at, contents_for};
+ghost use Rattle.image_forms.specs.Linkable.{IsLinkable};
+ghost use Rattle.image_link.specs.Laid.{IsLaid};
+
+use crate::NoMemory;
+use crate::frames::put_frames;
+use crate::laid::layout_of;
+use crate::layout::Layout;
+use crate::memory::{Contents, segments};
+use crate::records::{globals_bytes, put_names, records_bytes};
+use crate::tables::{Ground, fill, put_tables};
+use eh_bytes::{Emitted, RuntimeRecord};
+use elf_image::{ImageParts, write_elf};
+use rt_stubs::stubs;
+use std::alloc::Global;
+
+// The bytes from the type record of std::bad_exception to the end of the records.
+const BAD_EXCEPTION: u64 = 48;
+
+fn put_words(out: &mut Vec<u8>, words: &[u32]) -> Result<(), NoMemory>
+    ensures { OnOk result (out.new.items ≡ out.old.items ++ flat_map (to_le_bytes w32) words.now) }
+{
+    let mut rest = words;
+    'words: while let Some((word, others)) = rest.split_first() {
+        out.extend_from_slice(word.to_le_bytes().as_slice())?;
+        rest = others;
+    }
+    Ok(())
+}
+
+fn code_bytes(alloc: Global, stubs: &Emitted, unit: &Emitted) -> Result<Vec<u8>, NoMemory>
+    ensures { IfOk result (λ bytes. bytes.items ≡ flat_map (to_le_bytes w32) (stubs.now.code.items ++ unit.now.code.items)) }
+{
+    let mut bytes = Vec::new(alloc);
+    put_words(&mut bytes, stubs.code.as_slice())?;
+    put_words(&mut bytes, unit.code.as_slice())?;
+    Ok(bytes)
+}
+
+// Names, tables, frames and their header, and where the header stands.
+#[derive(Drop)]
+struct Constants {
+    bytes: Vec<u8>,
+    header: u64,
+}
+
+fn constants_of(
+    alloc: Global,
+    layout: &Layout,
+    stubs: &Emitted,
+    unit: &Emitted,
+) -> Result<Constants, NoMemory>
+    requires laid { IsLaid (listed_unit unit.now) layout.now }
+    requires low { layout.now.names < 2 ^ 30 }
+    requires stubs { listed_unit stubs.now ≡ emitted_stubs }
+    ensures header { IfOk result (λ c. c.header ≡ header_at (listed_unit unit.now)) }
+    ensures bytes { IfOk result (λ c. c.bytes.items ≡ constant_bytes (listed_unit unit.now)) }
+{
+    let ground = Ground {
+        base: layout.names,
+        end: layout.code,
+    };
+    let mut bytes = Vec::new(alloc);
+    put_names(&mut bytes, unit.types.as_slice())?;
+    let size = bytes.len();
+    fill(&mut bytes, size)?;
+    let mut fdes = Vec::new(alloc);
+    put_tables(
+        alloc,
+        ground,
+        layout.code,
+        stubs.functions.as_slice(),
+        &mut bytes,
+        &mut fdes,
+    )?;
+    put_tables(
+        alloc,
+        ground,
+        layout.unit,
+        unit.functions.as_slice(),
+        &mut bytes,
+        &mut fdes,
+    )?;
+    let header = put_frames(alloc, layout.names, fdes, &mut bytes)?;
+    Ok(Constants { bytes, header })
+}
+
+// What the image is to hold.
+fn parts_of(alloc: Global, unit: &Emitted) -> Result<ImageParts, NoMemory>
+    ensures { IfOk result (λ parts. contents_of parts ≡ contents_for (listed_unit unit.now)) }
+{
+    let layout = layout_of(unit)?;
+    let placed = stubs(alloc, layout.code)?;
+    let constants = constants_of(alloc, &layout, &placed.emitted, unit)?;
+    let contents = Contents {
+        globals: globals_bytes(alloc, unit.globals.as_slice())?,
+        records: records_bytes(alloc, layout.code, layout.names, unit.types.as_slice())?,
+        code: code_bytes(alloc, &placed.emitted, unit)?,
+        constants: constants.bytes,
+    };
+    Ok(ImageParts {
+        entry: placed.start,
+        segments: segments(alloc, &layout, contents)?,
+        frame_header: constants.header,
+        runtime: RuntimeRecord {
+            terminate: placed.terminate,
+            bad_exception: layout.code - BAD_EXCEPTION,
+        },
+    })
+}
+
+/// The image of a unit, as an ELF file: globals, type records, the runtime's own functions with the
+/// unit's code, and names, exception tables, frames and their header, with the record for the runtime.
+///
+/// The same unit gives the same bytes. Where code would stand at or above 2^30, memory is wanting.
+pub fn link(alloc: Global, emitted: &Emitted) -> Result<Vec<u8>, NoMemory>
+    ensures bytes { IfOk result (λ file. file.items ≡ linked (listed_unit emitted.now)) }
+    ensures few { IsLinkable (listed_unit emitted.now) → IfOk result (λ file. length file.items ≤ 768 * emitted.now.tokens + 131072) }
+{
+    let parts = parts_of(alloc, emitted)?;
+    write_elf(alloc, &parts)
+}
