@@ -1,5 +1,5 @@
 -- A whole image by its steps.
-use Rattle.std.proofs.Common.{◌≡◌, ◌+◌, ℕ, false, List, [], ◌∷◌, map, Ok, Err, Result, refl, ap, sym, subst, ◌∙◌, arith}
+use Rattle.std.proofs.Common.{◌≡◌, ◌+◌, ℕ, Bool, List, [], ◌∷◌, map, Ok, Err, Result, refl, ap, sym, subst, ◌∙◌, arith}
 use Rattle.std.specs.List.{sum_by}
 use Rattle.std.specs.Prelude.{Option, IsErrAnd}
 use Rattle.std.proofs.lemmas.List.Sums.{sum_by-cons}
@@ -13,7 +13,7 @@ use Rattle.elf_image.specs.declared.error.ImageError.TheVariants as errors
 use Rattle.elf_image.specs.Elf.{Image, elf}
 use Rattle.elf_image.specs.Reads.{ReadsImage}
 use Rattle.elf_image.specs.Reports.{reported}
-use Rattle.elf_image.specs.Clean.{Function, CleanImage, table_named, functions_of, judged, clean}
+use Rattle.elf_image.specs.Clean.{Function, CleanImage, table_named, functions_of, judged}
 use Rattle.frame_read.specs.Listed.{fde_listed}
 use Rattle.frame_read.specs.ReadsFrames.{ReadsFrames}
 use Rattle.frame_read.specs.declared.error.FrameError.{FrameError}
@@ -57,32 +57,32 @@ tallied_functions memory tables sites (f ∷ fs) = by (λ t s. tallied_functions
 abbrev pub made : Image → Frames → List Function → CleanImage
 made i d fs = record { image = i; cies = d.cies; functions = fs }
 
-elf_refused : (file : List ℕ) (f : Fault) → elf file false ≡ Err f → clean file ≡ Err f
+elf_refused : (file : List ℕ) (run : Bool) (f : Fault) → elf file run ≡ Err f → judged file run ≡ Err f
 unfolding judged
-elf_refused file f e = ap (λ r. r >>= λ i. frames i.memory i.frame_header >>= λ d. functions_of i.memory (sorted d.fdes) >>= λ fs. Ok (made i d fs)) e
+elf_refused file run f e = ap (λ r. r >>= λ i. frames i.memory i.frame_header >>= λ d. functions_of i.memory (sorted d.fdes) >>= λ fs. Ok (made i d fs)) e
 
-frames_refused : (file : List ℕ) (i : Image) (f : Fault) → elf file false ≡ Ok i → frames i.memory i.frame_header ≡ Err f → clean file ≡ Err f
+frames_refused : (file : List ℕ) (run : Bool) (i : Image) (f : Fault) → elf file run ≡ Ok i → frames i.memory i.frame_header ≡ Err f → judged file run ≡ Err f
 unfolding judged
-frames_refused file i f e d = ap (λ r. r >>= λ i. frames i.memory i.frame_header >>= λ d. functions_of i.memory (sorted d.fdes) >>= λ fs. Ok (made i d fs)) e ∙
+frames_refused file run i f e d = ap (λ r. r >>= λ i. frames i.memory i.frame_header >>= λ d. functions_of i.memory (sorted d.fdes) >>= λ fs. Ok (made i d fs)) e ∙
     ap (λ r. r >>= λ d. functions_of i.memory (sorted d.fdes) >>= λ fs. Ok (made i d fs)) d
 
-pub behind_frames : (file : List ℕ) (i : Image) (d : Frames) (r : Result (List Function) Fault) → elf file false ≡ Ok i → frames i.memory i.frame_header ≡ Ok d →
-    functions_of i.memory (sorted d.fdes) ≡ r → clean file ≡ (r >>= λ fs. Ok (made i d fs))
+pub behind_frames : (file : List ℕ) (run : Bool) (i : Image) (d : Frames) (r : Result (List Function) Fault) → elf file run ≡ Ok i → frames i.memory i.frame_header ≡ Ok d →
+    functions_of i.memory (sorted d.fdes) ≡ r → judged file run ≡ (r >>= λ fs. Ok (made i d fs))
 unfolding judged
-behind_frames file i d r e is t = ap (λ r. r >>= λ i. frames i.memory i.frame_header >>= λ d. functions_of i.memory (sorted d.fdes) >>= λ fs. Ok (made i d fs)) e ∙
+behind_frames file run i d r e is t = ap (λ r. r >>= λ i. frames i.memory i.frame_header >>= λ d. functions_of i.memory (sorted d.fdes) >>= λ fs. Ok (made i d fs)) e ∙
     ap (λ r. r >>= λ d. functions_of i.memory (sorted d.fdes) >>= λ fs. Ok (made i d fs)) is ∙ ap (λ r. r >>= λ fs. Ok (made i d fs)) t
 
 pub reports : {X : Type 0} (f : Fault) (e : ImageError) (read : Result X Fault) → read ≡ Err f → e ≡ reported f → IsReported e read
 reports f e read refused is = subst (λ x. IsReported x read) (sym is) (subst (λ x. IsErrAnd x (λ g. reported f ≡ reported g)) (sym refused) refl)
 
-pub reports_elf : (file : List ℕ) (e : ImageError) → ReadsImage (Err e) (elf file false) → IsReported e (clean file)
-reports_elf file (errors.Refused number place location other) (f, refused, is) = reports f (errors.Refused number place location other) (clean file) (elf_refused file f refused) (sym is)
-reports_elf file errors.NoMemory read = tt
+pub reports_elf : (file : List ℕ) (run : Bool) (e : ImageError) → ReadsImage (Err e) (elf file run) → IsReported e (judged file run)
+reports_elf file run (errors.Refused number place location other) (f, refused, is) = reports f (errors.Refused number place location other) (judged file run) (elf_refused file run f refused) (sym is)
+reports_elf file run errors.NoMemory read = tt
 
-pub reports_frames : (file : List ℕ) (i : Image) (e : FrameError) → elf file false ≡ Ok i → ReadsFrames (Err e) (frames i.memory i.frame_header) → IsReported (of_frames e) (clean file)
-reports_frames file i (causes.Refused number place location other) is read = by (frames i.memory i.frame_header) refl read
+pub reports_frames : (file : List ℕ) (run : Bool) (i : Image) (e : FrameError) → elf file run ≡ Ok i → ReadsFrames (Err e) (frames i.memory i.frame_header) → IsReported (of_frames e) (judged file run)
+reports_frames file run i (causes.Refused number place location other) is read = by (frames i.memory i.frame_header) refl read
   where
-    by : (r : Result Frames Fault) → frames i.memory i.frame_header ≡ r → ReadsFrames (Err (causes.Refused number place location other)) r → IsReported (errors.Refused number place location other) (clean file)
-    by (Err f) refused said = reports f (errors.Refused number place location other) (clean file) (frames_refused file i f is refused) (ap of_frames said)
+    by : (r : Result Frames Fault) → frames i.memory i.frame_header ≡ r → ReadsFrames (Err (causes.Refused number place location other)) r → IsReported (errors.Refused number place location other) (judged file run)
+    by (Err f) refused said = reports f (errors.Refused number place location other) (judged file run) (frames_refused file run i f is refused) (ap of_frames said)
     by (Ok d) refused said = absurd said
-reports_frames file i causes.NoMemory is read = tt
+reports_frames file run i causes.NoMemory is read = tt

@@ -1,5 +1,5 @@
 -- What is read of a clean image.
-use Rattle.std.proofs.Common.{◌≡◌, ◌+◌, ◌≤◌, ◌^◌, ℕ, false, List, [], ◌∷◌, map, Ok, Err, Result, refl, ap, sym, subst, ◌∙◌, arith, length}
+use Rattle.std.proofs.Common.{◌≡◌, ◌+◌, ◌≤◌, ◌^◌, ℕ, Bool, List, [], ◌∷◌, map, Ok, Err, Result, refl, ap, sym, subst, ◌∙◌, arith, length}
 use Rattle.std.specs.List.{sum_by, AllByRecursion}
 use Rattle.std.specs.Prelude.{Option, IsErrAnd, IsOkAnd, Vec}
 use Rattle.std.specs.Global.{Global}
@@ -14,7 +14,7 @@ use Rattle.elf_image.specs.declared.error.ImageError.{ImageError}
 use Rattle.elf_image.specs.Elf.{elf}
 use Rattle.elf_image.specs.Reads.{image_seen}
 use Rattle.elf_image.specs.Reports.{reported}
-use Rattle.elf_image.specs.Clean.{Function, table_named, functions_of, clean}
+use Rattle.elf_image.specs.Clean.{Function, table_named, functions_of, judged}
 use Rattle.elf_image.specs.Loads.{IsSmall}
 use Rattle.elf_image.proofs.Sizes.{small_parts}
 use Rattle.frame_read.specs.Listed.{cie_listed, fde_listed}
@@ -61,49 +61,49 @@ fits_listed : (fs : List forms.Fde) → AllByRecursion Ends fs → AllByRecursio
 fits_listed [] all = tt
 fits_listed (f ∷ fs) all = (all.0, fits_listed fs all.1)
 
-pub memory_small : (file : List ℕ) (e : Elf) → elf file false ≡ Ok (image_seen e) → AllByRecursion IsSmall (memory_of e.segments)
-memory_small file e is = small_parts file false (image_seen e) is
+pub memory_small : (file : List ℕ) (run : Bool) (e : Elf) → elf file run ≡ Ok (image_seen e) → AllByRecursion IsSmall (memory_of e.segments)
+memory_small file run e is = small_parts file run (image_seen e) is
 
-sound : (file : List ℕ) (e : Elf) (d : Frames) → elf file false ≡ Ok (image_seen e) → frames (memory_of e.segments) e.frame_header ≡ Ok d → AreSound (sorted d.fdes)
-sound file e d is read = order_sound (memory_of e.segments) e.frame_header d (memory_small file e is) read
+sound : (file : List ℕ) (run : Bool) (e : Elf) (d : Frames) → elf file run ≡ Ok (image_seen e) → frames (memory_of e.segments) e.frame_header ≡ Ok d → AreSound (sorted d.fdes)
+sound file run e d is read = order_sound (memory_of e.segments) e.frame_header d (memory_small file run e is) read
 
 -- for each reading
 with_frames : {Q : Type 0} (l : Listing) (r : Result Frames Fault) → IsOkAnd r (λ d. l ≡ listing d) → ((d : Frames) → r ≡ Ok d → l ≡ listing d → Q) → Q
 with_frames l (Ok d) seen step = step d refl seen
 with_frames l (Err f) seen step = absurd seen
 
-pub order_fits : (file : List ℕ) (e : Elf) (l : Listing) (order : List Fde) → elf file false ≡ Ok (image_seen e) →
+pub order_fits : (file : List ℕ) (run : Bool) (e : Elf) (l : Listing) (order : List Fde) → elf file run ≡ Ok (image_seen e) →
     IsOkAnd (frames (memory_of e.segments) e.frame_header) (λ d. l ≡ listing d) → IsOrder l order → AllByRecursion IsFit order
-order_fits file e l order is read ordered =
+order_fits file run e l order is read ordered =
     with_frames l (frames (memory_of e.segments) e.frame_header) read (λ d r seen.
-    subst (AllByRecursion IsFit) (sym (ordered d.fdes (ap (λ (x : Listing). x.fdes) seen))) (fits_listed (sorted d.fdes) (sound file e d is r).end))
+    subst (AllByRecursion IsFit) (sym (ordered d.fdes (ap (λ (x : Listing). x.fdes) seen))) (fits_listed (sorted d.fdes) (sound file run e d is r).end))
 
-pub order_few : (file : List ℕ) (e : Elf) (l : Listing) (order : List Fde) → elf file false ≡ Ok (image_seen e) →
+pub order_few : (file : List ℕ) (run : Bool) (e : Elf) (l : Listing) (order : List Fde) → elf file run ≡ Ok (image_seen e) →
     IsOkAnd (frames (memory_of e.segments) e.frame_header) (λ d. l ≡ listing d) → IsOrder l order → length order ≤ 2 ^ 30
-order_few file e l order is read ordered =
+order_few file run e l order is read ordered =
     with_frames l (frames (memory_of e.segments) e.frame_header) read (λ d r seen.
-    let s = sound file e d is r in let few = s.few in
+    let s = sound file run e d is r in let few = s.few in
     omega (arith, few, ap length (ordered d.fdes (ap (λ (x : Listing). x.fdes) seen)), length-map (sorted d.fdes) fde_listed))
 
 -- ---- its answers
-pub reports_tables : (file : List ℕ) (e : Elf) (l : Listing) (order : List Fde) (x : ImageError) → elf file false ≡ Ok (image_seen e) →
+pub reports_tables : (file : List ℕ) (run : Bool) (e : Elf) (l : Listing) (order : List Fde) (x : ImageError) → elf file run ≡ Ok (image_seen e) →
     IsOkAnd (frames (memory_of e.segments) e.frame_header) (λ d. l ≡ listing d) → IsOrder l order →
-    IsErrAnd (tallied (memory_of e.segments) 0 0 order) (λ f. x ≡ reported f) → IsReported x (clean file)
-reports_tables file e l order x is read ordered said =
+    IsErrAnd (tallied (memory_of e.segments) 0 0 order) (λ f. x ≡ reported f) → IsReported x (judged file run)
+reports_tables file run e l order x is read ordered said =
     with_frames l (frames (memory_of e.segments) e.frame_header) read (λ d r seen. by d r (functions_of (memory_of e.segments) (sorted d.fdes)) refl
     (subst (λ o. IsErrAnd o (λ f. x ≡ reported f)) (ap (tallied (memory_of e.segments) 0 0) (ordered d.fdes (ap (λ (y : Listing). y.fdes) seen)) ∙ tallied_functions (memory_of e.segments) 0 0 (sorted d.fdes)) said))
   where
     by : (d : Frames) → frames (memory_of e.segments) e.frame_header ≡ Ok d → (r : Result (List Function) Fault) → functions_of (memory_of e.segments) (sorted d.fdes) ≡ r →
-        IsErrAnd (r >>= sums 0 0) (λ f. x ≡ reported f) → IsReported x (clean file)
+        IsErrAnd (r >>= sums 0 0) (λ f. x ≡ reported f) → IsReported x (judged file run)
     by d r (Ok fs) t said = absurd said
-    by d r (Err f) t said = reports f x (clean file) (behind_frames file (image_seen e) d (Err f) is r t) said
+    by d r (Err f) t said = reports f x (judged file run) (behind_frames file run (image_seen e) d (Err f) is r t) said
 
-pub reads_clean : (file : List ℕ) (e : Elf) (l : Listing) (order : Vec Fde Global) (n k tables sites : ℕ) → elf file false ≡ Ok (image_seen e) →
+pub reads_clean : (file : List ℕ) (run : Bool) (e : Elf) (l : Listing) (order : Vec Fde Global) (n k tables sites : ℕ) → elf file run ≡ Ok (image_seen e) →
     IsOkAnd (frames (memory_of e.segments) e.frame_header) (λ d. l ≡ listing d) → IsOrder l order.items → tallied (memory_of e.segments) 0 0 order.items ≡ Ok (tables, sites) →
     n ≡ length l.cies → k ≡ length order.items →
-    ReadsClean (Ok (record { elf = e; frames = l; order = order; summary = record { cies = n; frames = k; tables = tables; sites = sites } })) (clean file)
+    ReadsClean (Ok (record { elf = e; frames = l; order = order; summary = record { cies = n; frames = k; tables = tables; sites = sites } })) (judged file run)
 unfolding counts
-reads_clean file e l order n k tables sites is read ordered counted cies fdes =
+reads_clean file run e l order n k tables sites is read ordered counted cies fdes =
     with_frames l (frames (memory_of e.segments) e.frame_header) read (λ d r seen. by d r seen (functions_of (memory_of e.segments) (sorted d.fdes)) refl
     (sym (tallied_functions (memory_of e.segments) 0 0 (sorted d.fdes)) ∙ sym (ap (tallied (memory_of e.segments) 0 0) (ordered d.fdes (ap (λ (y : Listing). y.fdes) seen))) ∙ counted))
   where
@@ -111,7 +111,7 @@ reads_clean file e l order n k tables sites is read ordered counted cies fdes =
     pair a b r p q = cc
 
     by : (d : Frames) → frames (memory_of e.segments) e.frame_header ≡ Ok d → l ≡ listing d → (r : Result (List Function) Fault) → functions_of (memory_of e.segments) (sorted d.fdes) ≡ r →
-        (r >>= sums 0 0) ≡ Ok (tables, sites) → ReadsClean (Ok (record { elf = e; frames = l; order = order; summary = record { cies = n; frames = k; tables = tables; sites = sites } })) (clean file)
+        (r >>= sums 0 0) ≡ Ok (tables, sites) → ReadsClean (Ok (record { elf = e; frames = l; order = order; summary = record { cies = n; frames = k; tables = tables; sites = sites } })) (judged file run)
     by d r seen (Err f) t said = absurd cc
     by d r seen (Ok fs) t said =
         let those : order.items ≡ map (λ (f : Function). fde_listed f.fde) fs = ordered d.fdes (ap (λ (y : Listing). y.fdes) seen) ∙ sym (functions_fdes (memory_of e.segments) (sorted d.fdes) fs t) in
@@ -121,7 +121,7 @@ reads_clean file e l order n k tables sites is read ordered counted cies fdes =
         let first : tables ≡ sum_by (λ (g : Function). tables_in g.table) fs = let t = ap (λ (p : ℕ × ℕ). p.0) two in omega (arith, t) in
         let second : sites ≡ sum_by (λ (g : Function). sites_in g.table) fs = let t = ap (λ (p : ℕ × ℕ). p.1) two in omega (arith, t) in (
           made (image_seen e) d fs,
-          behind_frames file (image_seen e) d (Ok fs) is r t,
+          behind_frames file run (image_seen e) d (Ok fs) is r t,
           record {
             image = refl;
             frames_read = read;

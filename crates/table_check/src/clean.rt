@@ -1,6 +1,6 @@
 // Whole images.
 ghost use Rattle.std.specs.Prelude.{◌≡◌};
-ghost use Rattle.elf_image.specs.Clean.{clean};
+ghost use Rattle.elf_image.specs.Clean.{clean, judged};
 ghost use Rattle.table_check.specs.Checks.{ReadsClean, ChecksImage};
 
 use crate::order::in_order;
@@ -21,14 +21,14 @@ pub struct CleanImage {
     pub summary: Summary,
 }
 
-/// The clean image in a file, or the first of its refusals: those of the file, then of the header
-/// and the frames, then of each exception table in the order of its function's region
-/// (docs/TABLES.md), or memory ran out. It takes time in proportion to the file, the memory of its
-/// segments and the tables, and n log n in the number of FDEs.
-pub fn read_image(alloc: Global, bytes: &[u8]) -> Result<CleanImage, ImageError>
-    ensures { ReadsClean result (clean bytes.now) }
+/// The clean image in a file, or the first of its refusals: those of the file, with `run` also those
+/// of one that is to run, then of the header and the frames, then of each exception table in the
+/// order of its function's region (docs/TABLES.md), or memory ran out. It takes time in proportion
+/// to the file, the memory of its segments and the tables, and n log n in the number of FDEs.
+pub fn read_image(alloc: Global, bytes: &[u8], run: bool) -> Result<CleanImage, ImageError>
+    ensures { ReadsClean result (judged bytes.now run) }
 {
-    let elf = read_elf(alloc, bytes, false)?;
+    let elf = read_elf(alloc, bytes, run)?;
     let frames = match read_frames(alloc, &elf.segments, elf.frame_header) {
         Err(e) => return Err(of_frames(e)),
         Ok(frames) => frames,
@@ -53,5 +53,5 @@ pub fn read_image(alloc: Global, bytes: &[u8]) -> Result<CleanImage, ImageError>
 pub fn check_image(alloc: Global, bytes: &[u8]) -> Result<Summary, ImageError>
     ensures { ChecksImage result (clean bytes.now) }
 {
-    Ok(read_image(alloc, bytes)?.summary)
+    Ok(read_image(alloc, bytes, false)?.summary)
 }

@@ -67,6 +67,6 @@ fn text_of(alloc: Global, image: &CleanImage) -> Result<Vec<u8>, AllocError>
 pub fn dump_image(alloc: Global, bytes: &[u8]) -> Result<Vec<u8>, ImageError>
     ensures { DumpsImage result (images.clean bytes.now) }
 {
-    let image = read_image(alloc, bytes)?;
+    let image = read_image(alloc, bytes, false)?;
     Ok(text_of(alloc, &image)?)
 }
