@@ -1,0 +1,13 @@
+pub mod Alike
+pub mod SameFrames
+pub mod SameTables
+pub mod Low
+pub mod Readable
+pub mod FramesStart
+pub mod Writable
+pub mod Lasting
+pub mod Runnable
+pub mod Tallies
+pub mod Turning
+pub mod Going
+pub mod Budgets

@@ -1,0 +1,16 @@
+//! Loads an image for the ABI machine, and runs it.
+#![tactic(auto)]
+
+mod laws;
+mod loaded;
+mod loading;
+mod running;
+mod start;
+mod written;
+
+pub use cxa_runtime::End;
+pub use elf_image::ImageError;
+pub use laws::a_greater_budget_goes_on;
+pub use loaded::Loaded;
+pub use loading::load;
+pub use running::{Ran, run};
