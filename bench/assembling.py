@@ -61,21 +61,21 @@ def exception_table(sites, catches):
     return b"\xff\x1b" + uleb(len(back) + 4) + back + bytes(4)
 
 
-def frame_tables(functions):
+def frame_tables(functions, frames_at=FRAMES, header_at=HEADER):
     """The frames and their header, of functions with start, length and table, each of 16 bytes from its 8th byte on."""
     cie = b"\x14\0\0\0\0\0\0\0\x01zLR\0\x04\x78\x01\x02\x1b\x1b\x0c\x02\0".ljust(24, b"\0")
     frames, rows = cie, []
     for at, (start, length, table) in enumerate(functions):
-        place = FRAMES + len(frames)
+        place = frames_at + len(frames)
         rows.append((start, place))
         saved = b"\x07\x01" if at == 0 else b"\x81\x01"
-        body = struct.pack("<IiI", place + 4 - FRAMES, start - place - 8, length)
+        body = struct.pack("<IiI", place + 4 - frames_at, start - place - 8, length)
         body += b"\x04" + struct.pack("<i", table - place - 17 if table else 0) + b"\x42\x0e\x10" + saved
         body = body.ljust(24, b"\0")
         frames += struct.pack("<I", len(body)) + body
-    header = b"\x01\x1b\x03\x3b" + struct.pack("<iI", FRAMES - HEADER - 4, len(rows))
+    header = b"\x01\x1b\x03\x3b" + struct.pack("<iI", frames_at - header_at - 4, len(rows))
     for start, place in rows:
-        header += struct.pack("<ii", start - HEADER, place - HEADER)
+        header += struct.pack("<ii", start - header_at, place - header_at)
     return frames + bytes(4), header
 
 
@@ -95,3 +95,16 @@ def image(codes, tables):
     out[HEADER - START:HEADER - START + len(header)] = header
     struct.pack_into("<QQQ", out, 0x4000, 1, 0, 0)
     return bytes(out)
+
+
+def elf(entry, segments, header, size, record):
+    """A file of segments with address, flags and bytes, with the frames' header and the record for the runtime."""
+    count, front = len(segments) + 2, 64 + 56 * (len(segments) + 2) + 24
+    out = b"\x7fELF\x02\x01\x01".ljust(16, b"\0") + struct.pack("<HHIQQQIHHHHHH", 2, 243, 1, entry, 64, 0, 0, 64, 56, count, 0, 0, 0)
+    place, memory = front, b""
+    for address, flags, data in segments:
+        out += struct.pack("<IIQQQQQQ", 1, flags, place + len(memory), address, address, len(data), len(data), 0)
+        memory += data
+    out += struct.pack("<IIQQQQQQ", 0x6474E550, 4, 0, header, header, size, size, 0)
+    out += struct.pack("<IIQQQQQQ", 0x6E485831, 4, front - 24, 0, 0, 24, 24, 0)
+    return out + struct.pack("<QQQ", 1, *record) + memory
