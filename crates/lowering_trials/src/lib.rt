@@ -6,6 +6,14 @@ mod layouts;
 #[cfg(test)]
 mod lowered;
 #[cfg(test)]
+mod rows;
+#[cfg(test)]
+mod sizes;
+#[cfg(test)]
 mod small_regions;
+#[cfg(test)]
+mod sources;
+#[cfg(test)]
+mod tables;
 #[cfg(test)]
 mod tests;

@@ -1,5 +1,6 @@
 // What becomes of sources, counted by hand.
 use crate::lowered::lowered;
+use crate::sources::{many_functions, repeated};
 use landing_pads::pads;
 use std::alloc::Global;
 use std::test::Fail;
@@ -75,38 +76,6 @@ fn small_sources(rt: HostRuntime) -> Result<(), Fail> {
         );
     }
     Ok(())
-}
-
-// A class with a constructor and a destructor, a function, and so many functions with an object, a try block and two returns.
-fn many_functions(alloc: Global, count: u32) -> Result<String, Fail> {
-    let mut source = String::from_str(
-        alloc,
-        "struct A { int n; A(int k) { n = k; } ~A() { } }; int g(int a) { return a; } ",
-    )?;
-    for number in 0..count {
-        let function = format!(in alloc;
-            "int f{number}(int a) {{ A b(a); try {{ if (a) throw a; g(a); }} catch (int e) {{ return e; }} return a + 1; }} "
-        )?;
-        source.push_str(function.as_str())?;
-    }
-    source.push_str("int main() { return 0; }")?;
-    Ok(source)
-}
-
-// A text that stands so many times between two others.
-fn repeated(
-    alloc: Global,
-    before: &str,
-    piece: &str,
-    count: u32,
-    behind: &str,
-) -> Result<String, Fail> {
-    let mut source = String::from_str(alloc, before)?;
-    for _ in 0..count {
-        source.push_str(piece)?;
-    }
-    source.push_str(behind)?;
-    Ok(source)
 }
 
 // 44 tokens for each of 1,480 functions, the most statements, and the deepest blocks with an object in each.
