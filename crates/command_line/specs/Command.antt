@@ -5,7 +5,7 @@ use Rattle.std.specs.Option.{option_and_then}
 use Rattle.eh_outer.specs.declared.module.Reply.{Reply}
 use Rattle.command_line.specs.declared.command.Command.{Command}
 use Rattle.command_line.specs.declared.command.Verb.{Verb}
-use Rattle.command_line.specs.declared.command.Verb.TheVariants.{Run, Mean, Check, Dump}
+use Rattle.command_line.specs.declared.command.Verb.TheVariants.{Compile, Run, Exec, Mean, Check, Dump}
 use Rattle.command_line.specs.declared.setting.Setting.{Setting}
 use Rattle.command_line.specs.declared.setting.Setting.TheVariants.{Input, Max, Trace, Count, Foreign}
 use Rattle.command_line.specs.Number.{count_up_to}
@@ -61,7 +61,7 @@ exactly count names = if (length names == count) && are_named names then Some na
 abbrev pub at_most_one : List (List ℕ) → Option (List (List ℕ))
 at_most_one names = if nat_le (length names) 1 && are_named names then Some names else None
 
--- the most turns, 1 to 2^40
+-- the most turns or steps, 1 to 2^40
 abbrev pub max_in : List ℕ → Option ℕ
 max_in text = count_up_to 1099511627776 text
 
@@ -129,7 +129,9 @@ command_taking verb settings most words = option_and_then (λ pieces. command_fr
 -- the word that a command begins with
 abbrev pub verb_of : List ℕ → Option Verb
 verb_of word =
-    if bytes_eq word (codes "run") then Some Run
+    if bytes_eq word (codes "compile") then Some Compile
+    else if bytes_eq word (codes "run") then Some Run
+    else if bytes_eq word (codes "exec") then Some Exec
     else if bytes_eq word (codes "mean") then Some Mean
     else if bytes_eq word (codes "check") then Some Check
     else if bytes_eq word (codes "dump") then Some Dump
@@ -137,10 +139,12 @@ verb_of word =
 
 -- what the command of a verb takes: its options, and how many operands
 abbrev pub settings_of : Verb → List Setting
+settings_of Exec = Input ∷ Max ∷ Trace ∷ Count ∷ Foreign ∷ []
 settings_of Mean = Input ∷ Max ∷ Trace ∷ Foreign ∷ []
 settings_of verb = []
 
 abbrev pub operand_count : Verb → ℕ
+operand_count Compile = 2
 operand_count verb = 1
 
 -- the command that words are, if they are one

@@ -4,8 +4,12 @@ use eh_outer::Reply;
 /// What a command does.
 #[derive(Clone, Copy, Debug, PartialEq, Eq)]
 pub enum Verb {
+    /// Compile a source, and store its image.
+    Compile,
     /// Compile a source and run it.
     Run,
+    /// Run an image.
+    Exec,
     /// Print what a source means.
     Mean,
     /// Judge an image, and count what it has.
@@ -22,7 +26,7 @@ pub struct Command {
     pub operands: Vec<String>,
     /// The names of the files that are its input, in order; at most one.
     pub inputs: Vec<String>,
-    /// The most turns, 1 to 2^40.
+    /// The most turns or steps, 1 to 2^40.
     pub max: u64,
     /// Whether events are printed.
     pub trace: bool,

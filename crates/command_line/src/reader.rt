@@ -34,6 +34,20 @@ impl Verb {
                 ],
                 operands: 1,
             },
+            Verb::Exec => Takes {
+                settings: &[
+                    Setting::Input,
+                    Setting::Max,
+                    Setting::Trace,
+                    Setting::Count,
+                    Setting::Foreign,
+                ],
+                operands: 1,
+            },
+            Verb::Compile => Takes {
+                settings: &[],
+                operands: 2,
+            },
             Verb::Run | Verb::Check | Verb::Dump => Takes {
                 settings: &[],
                 operands: 1,
@@ -47,7 +61,9 @@ fn verb_of(word: &str) -> Option<Verb>
     ensures { result ≡ verb_of word.now }
 {
     match word {
+        "compile" => Some(Verb::Compile),
         "run" => Some(Verb::Run),
+        "exec" => Some(Verb::Exec),
         "mean" => Some(Verb::Mean),
         "check" => Some(Verb::Check),
         "dump" => Some(Verb::Dump),

@@ -7,7 +7,7 @@ ghost use Rattle.command_line.specs.Setting.{name_of, value_count};
 pub enum Setting {
     /// The file that is a program's input.
     Input,
-    /// The most turns.
+    /// The most turns or steps.
     Max,
     /// Whether events are printed.
     Trace,

@@ -192,6 +192,21 @@ static WORDS: &[(&[&str], &str)] = &[
     (&["run", "f", "--max=1"], USAGE),
     (&["run", "f", "--trace"], USAGE),
     (&["", "f"], USAGE),
+    (
+        &["compile", "f", "g"],
+        "Compile [\"f\", \"g\"] [] 10000000 false false []",
+    ),
+    (&["compile", "f"], USAGE),
+    (&["compile", "f", "g", "h"], USAGE),
+    (&["compile", "f", "g", "--trace"], USAGE),
+    (&["exec", "f"], "Exec [\"f\"] [] 10000000 false false []"),
+    (
+        &["exec", "--count", "f", "--trace", "--in=g", "--max=7"],
+        "Exec [\"f\"] [\"g\"] 7 true true []",
+    ),
+    (&["exec", "f", "--count", "--count"], USAGE),
+    (&["exec", "f", "--foreign"], USAGE),
+    (&["exec"], USAGE),
     (&["mean", "f"], "Mean [\"f\"] [] 10000000 false false []"),
     (
         &["mean", "--max=5", "f", "--trace", "--in=g"],

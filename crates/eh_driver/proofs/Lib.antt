@@ -16,4 +16,10 @@ pub mod MeanCauses
 pub mod Named
 pub mod Sources
 pub mod MeanPromised
+pub mod Bounded
+pub mod RunLines
+pub mod ExecCauses
+pub mod ExecPromised
+pub mod CompileCauses
+pub mod CompilePromised
 pub mod Promised

@@ -72,7 +72,7 @@ abbrev pub InputFrom : Option (List ℕ) → StoreView → List ℕ → Type 0
 InputFrom None store input = input ≡ []
 InputFrom (Some name) store input = (length input ≤ input_limit) × IfSome store.files (λ m. get m name ≡ Some input)
 
-told_input : (name : Option (List ℕ)) (store : StoreView) (input : List ℕ) (P : List ℕ → Type 0) → InputFrom name store input → P input → ToldInput store name P
+pub told_input : (name : Option (List ℕ)) (store : StoreView) (input : List ℕ) (P : List ℕ → Type 0) → InputFrom name store input → P input → ToldInput store name P
 told_input None store input P e holds = subst P e holds
 told_input (Some name) store input P from holds = told_from input_limit store.files name input P from.0 from.1 holds
 
@@ -124,19 +124,19 @@ unread_source a old new out (MachineFault kind place) why = absurd why
 unread_source a old new out Undefined why = absurd why
 
 -- the store between the two readings is as good as the one at first
-refused_since : (kind : RefusalKind) (name : List ℕ) (old mid new : StoreView) → old.faults ≤ mid.faults → Refuses mid new kind name → Refuses old new kind name
+pub refused_since : (kind : RefusalKind) (name : List ℕ) (old mid new : StoreView) → old.faults ≤ mid.faults → Refuses mid new kind name → Refuses old new kind name
 refused_since kind name old mid new later why = record { rose = (let rose = why.rose in omega (arith, later, rose)); last = why.last }
 
-fault_since : (i : Option (List ℕ)) (old mid new : StoreView) → old.faults ≤ mid.faults → UnreadInput i mid new ReadFault → UnreadInput i old new ReadFault
+pub fault_since : (i : Option (List ℕ)) (old mid new : StoreView) → old.faults ≤ mid.faults → UnreadInput i mid new ReadFault → UnreadInput i old new ReadFault
 fault_since None old mid new later why = why
 fault_since (Some name) old mid new later why = refused_since _ name old mid new later why
 
-length_since : (i : Option (List ℕ)) (old mid new : StoreView) → old.faults ≤ mid.faults → mid.files ≡ old.files → UnreadInput i mid new TooLong → UnreadInput i old new TooLong
+pub length_since : (i : Option (List ℕ)) (old mid new : StoreView) → old.faults ≤ mid.faults → mid.files ≡ old.files → UnreadInput i mid new TooLong → UnreadInput i old new TooLong
 length_since None old mid new later same why = why
 length_since (Some name) old mid new later same (n, above, why, long) =
     (n, above, refused_since _ name old mid new later why, subst (λ f. IfSome f (λ files. IsSomeAnd (get files name) (λ file. input_limit < length file))) same long)
 
-told_since : (i : Option (List ℕ)) (old mid : StoreView) (P : List ℕ → Type 0) → mid.files ≡ old.files → ToldInput mid i P → ToldInput old i P
+pub told_since : (i : Option (List ℕ)) (old mid : StoreView) (P : List ℕ → Type 0) → mid.files ≡ old.files → ToldInput mid i P → ToldInput old i P
 told_since None old mid P same h = h
 told_since (Some name) old mid P same h = subst (λ f. IfSome f (λ files. (file : List ℕ) × (get files name ≡ Some file) × (length file ≤ input_limit) × P file)) same h
 

@@ -18,25 +18,25 @@ use Rattle.eh_driver.specs.Promise.{MeanUndisturbed, InputIs, MeanPromise, Shows
 use Rattle.eh_driver.proofs.Sources.{told_of, valid_same, not_refused, same_refusal}
 
 -- the input of which something is told
-input_of : (i : Option (List ℕ)) (store : StoreView) (files : Files) (input : List ℕ) (P : List ℕ → Type 0) → store.files ≡ Some files → InputIs i files input → ToldInput store i P → P input
+pub input_of : (i : Option (List ℕ)) (store : StoreView) (files : Files) (input : List ℕ) (P : List ℕ → Type 0) → store.files ≡ Some files → InputIs i files input → ToldInput store i P → P input
 input_of None store files input P is e told = subst P (sym e) told
 input_of (Some name) store files input P is there told = told_of input_limit store name input files P is there.0 told
 
 -- the store refused nothing
-not_unread : (i : Option (List ℕ)) (old new : StoreView) → (Rose old.faults new.faults → ⊥) → UnreadInput i old new ReadFault → ⊥
+pub not_unread : (i : Option (List ℕ)) (old new : StoreView) → (Rose old.faults new.faults → ⊥) → UnreadInput i old new ReadFault → ⊥
 not_unread None old new calm why = why
 not_unread (Some name) old new calm why = calm why.rose
 
-not_long : (i : Option (List ℕ)) (old new : StoreView) → (Rose old.faults new.faults → ⊥) → UnreadInput i old new TooLong → ⊥
+pub not_long : (i : Option (List ℕ)) (old new : StoreView) → (Rose old.faults new.faults → ⊥) → UnreadInput i old new TooLong → ⊥
 not_long None old new calm why = why
 not_long (Some name) old new calm (n, above, why, long) = calm why.rose
 
 module _ (a : Asked) (source input : List ℕ) (old new : StoreView) (out out' : SinkView) (u : MeanUndisturbed a source input old new out out') where
-  read_so : UnreadEither a old new ReadFault → ⊥
+  read_so : UnreadEither source_limit a old new ReadFault → ⊥
   read_so (inl why) = u.calm.store why.rose
   read_so (inr why) = not_unread a.input old new u.calm.store why
 
-  short_so : UnreadEither a old new TooLong → ⊥
+  short_so : UnreadEither source_limit a old new TooLong → ⊥
   short_so (inl (n, above, why, long)) = u.calm.store why.rose
   short_so (inr why) = not_long a.input old new u.calm.store why
 

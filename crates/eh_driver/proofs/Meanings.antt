@@ -17,7 +17,7 @@ pub record ItemsSoFar (trace : Bool) (all rest : List Item) (old now : SinkView)
   pub split : all ≡ gone ++ rest
   pub puts : TakesAll (lines_of trace gone) old now
 
-lines_more : (trace : Bool) (a b : List Item) → lines_of trace (a ++ b) ≡ lines_of trace a ++ lines_of trace b
+pub lines_more : (trace : Bool) (a b : List Item) → lines_of trace (a ++ b) ≡ lines_of trace a ++ lines_of trace b
 lines_more trace a b = ap (map line_of) (filter-append (is_printed trace) a b) ∙ map-append line_of (filter (is_printed trace) a) (filter (is_printed trace) b)
 
 pub none_gone : (trace : Bool) (all : List Item) (old : SinkView) → ItemsSoFar trace all all old old

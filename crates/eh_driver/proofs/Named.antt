@@ -11,7 +11,9 @@ use Rattle.eh_driver.specs.File.{NamesRefusal, Unread, refused_name}
 use Rattle.eh_driver.specs.Image.{ImageCause}
 use Rattle.eh_driver.specs.Mean.{Asked, SourceMeans}
 use Rattle.eh_driver.specs.Status.{text_of_status}
+use Rattle.eh_driver.specs.Exec.{ImageRuns}
 use Rattle.eh_driver.proofs.MeanCauses.{no_fault, no_length}
+use Rattle.eh_driver.proofs.ExecCauses.{no_run_fault, no_run_length}
 
 -- the text of a status names the file that the store refused last
 pub text_named : (status : Status) (name : List ℕ) (store : StoreView) → NamesRefusal status name store → text_of_status name status ≡ text_of_status (refused_name store) status
@@ -92,3 +94,19 @@ source_named a source input name store old new Budget h = tt
 source_named a source input name store old new Stack h = tt
 source_named a source input name store old new (MachineFault kind place) h = tt
 source_named a source input name store old new Undefined h = tt
+
+-- nor do an image that was read, and its input
+pub image_runs_named : (a : Asked) (file input name : List ℕ) (store : StoreView) (old new : SinkView) (status : Status) → ImageRuns a file input old new status → NamesRefusal status name store
+image_runs_named a file input name store old new ReadFault (r, this, h) = absurd (no_run_fault r.end h.0)
+image_runs_named a file input name store old new TooLong (r, this, h) = absurd (no_run_length r.end h.0)
+image_runs_named a file input name store old new Done h = tt
+image_runs_named a file input name store old new Usage h = tt
+image_runs_named a file input name store old new (SourceRefused number place) h = tt
+image_runs_named a file input name store old new (ImageRefused number place location other) h = tt
+image_runs_named a file input name store old new WriteFault h = tt
+image_runs_named a file input name store old new NoMemory h = tt
+image_runs_named a file input name store old new Aborted h = tt
+image_runs_named a file input name store old new Budget h = tt
+image_runs_named a file input name store old new Stack h = tt
+image_runs_named a file input name store old new (MachineFault kind place) h = tt
+image_runs_named a file input name store old new Undefined h = tt

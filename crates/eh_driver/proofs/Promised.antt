@@ -16,13 +16,15 @@ use Rattle.table_forms.specs.Fault.{Fault}
 use Rattle.elf_image.specs.Clean.{CleanImage, clean}
 use Rattle.elf_image.specs.Reports.{reported}
 use Rattle.command_line.specs.declared.command.Verb.{Verb}
-use Rattle.command_line.specs.declared.command.Verb.TheVariants.{Run, Mean, Check, Dump}
+use Rattle.command_line.specs.declared.command.Verb.TheVariants.{Compile, Run, Exec, Mean, Check, Dump}
 use Rattle.command_line.specs.Command.{CommandView}
 use Rattle.eh_outer.specs.Module.{ModuleView}
 use Rattle.eh_driver.specs.Words.{asked}
 use Rattle.eh_driver.specs.Mean.{Asked}
 use Rattle.eh_driver.proofs.Sources.{some_same, told_of, valid_same, not_refused, same_refusal}
 use Rattle.eh_driver.proofs.MeanPromised.{mean_promised}
+use Rattle.eh_driver.proofs.ExecPromised.{exec_promised}
+use Rattle.eh_driver.proofs.CompilePromised.{compile_promised}
 use Rattle.eh_driver.specs.File.{Told, source_limit}
 use Rattle.eh_driver.specs.Image.{ImageCause, ImagePromise, Judged, check_lines, dump_lines, image_limit, status_of}
 use Rattle.eh_driver.specs.Answer.{Builds, IsRefusedBy, RunCause, CommandCause, Cause}
@@ -64,7 +66,7 @@ built_not_left source ls a (p, only, is) means =
     let none : ◌≡◌ {A = Option (List ℕ × ℕ)} (Some (ls, a)) None = sym is ∙ one_program source p None only means in
     cc
 
-module _ (name : List ℕ) (old new : StoreView) (out out' : SinkView) (source : List ℕ) (calm : Undisturbed name source old new out out') where
+module _ (name : List ℕ) (old new : StoreView) (out out' : SinkView) (source : List ℕ) (calm : Undisturbed source_limit name source old new out out') where
   told : (P : List ℕ → Type 0) → Told source_limit old name P → P source
   told P = told_of source_limit old name source calm.files P calm.told calm.there
 
@@ -138,7 +140,9 @@ image_kept lines name old new out out' (MachineFault kind place) h files file is
 image_kept lines name old new out out' Undefined h files file is there short store sink = absurd h
 
 command_promised : (verb : Verb) (a : Asked) (old new : StoreView) (out out' : SinkView) (status : Status) → CommandCause verb a old new out out' status → CommandPromise verb a old new out out' status
+command_promised Compile a old new out out' status cause = compile_promised a old new out out' status cause.0
 command_promised Run a old new out out' status cause = run_promised a.source old new out out' status cause
+command_promised Exec a old new out out' status cause = exec_promised a old new out out' status cause
 command_promised Mean a old new out out' status cause = mean_promised a old new out out' status cause
 command_promised Check a old new out out' status cause = image_kept check_lines a.source old new out out' status cause
 command_promised Dump a old new out out' status cause = image_kept dump_lines a.source old new out out' status cause

@@ -1,17 +1,19 @@
 -- When each status comes, and what it leaves.
-use Rattle.std.specs.Prelude.{◌≡◌, ◌⊎◌, ◌≤◌, ℕ, List, length, Option, Some, None}
+use Rattle.std.specs.Prelude.{◌≡◌, ◌⊎◌, ◌≤◌, ⊤, ℕ, List, length, Option, Some, None}
 use Rattle.eh_outer.specs.Store.{StoreView, Rose}
 use Rattle.eh_outer.specs.Sink.{SinkView, Gains}
 use Rattle.eh_driver.specs.declared.status.Status.{Status}
 use Rattle.eh_driver.specs.declared.status.Status.TheVariants.{Done, Usage, SourceRefused, ReadFault, TooLong, WriteFault, NoMemory}
 use Rattle.command_line.specs.declared.command.Verb.{Verb}
-use Rattle.command_line.specs.declared.command.Verb.TheVariants.{Run, Mean, Check, Dump}
+use Rattle.command_line.specs.declared.command.Verb.TheVariants.{Compile, Run, Exec, Mean, Check, Dump}
 use Rattle.command_line.specs.declared.error.WordsError.{WordsError}
 use Rattle.command_line.specs.declared.error.WordsError.TheVariants as words
 use Rattle.command_line.specs.Command.{CommandView}
 use Rattle.eh_outer.specs.Module.{ModuleView}
 use Rattle.eh_driver.specs.Words.{asked}
 use Rattle.eh_driver.specs.Mean.{Asked, MeanCause}
+use Rattle.eh_driver.specs.Exec.{ExecCause}
+use Rattle.eh_driver.specs.Compile.{CompileCause}
 use Rattle.cxx_ast.specs.Limits.{most_tokens}
 use Rattle.cxx_ast.specs.Plain.{Program}
 use Rattle.cxx_ast.specs.Checked.{checked}
@@ -81,10 +83,17 @@ RunCause name old new out out' status = ⊥
 
 -- when each command gives each status
 abbrev pub CommandCause : Verb → Asked → StoreView → StoreView → SinkView → SinkView → Status → Type 0
-CommandCause Run a = RunCause a.source
-CommandCause Mean a = MeanCause a
-CommandCause Check a = ImageCause check_lines a.source
-CommandCause Dump a = ImageCause dump_lines a.source
+CommandCause Compile a old new out out' status = CompileCause a old new status × (out' ≡ out)
+CommandCause Run a old new out out' status = RunCause a.source old new out out' status
+CommandCause Exec a old new out out' status = ExecCause a old new out out' status
+CommandCause Mean a old new out out' status = MeanCause a old new out out' status
+CommandCause Check a old new out out' status = ImageCause check_lines a.source old new out out' status
+CommandCause Dump a old new out out' status = ImageCause dump_lines a.source old new out out' status
+
+-- the told files that a command leaves with a status
+abbrev pub KeptBy : Verb → Status → StoreView → StoreView → Type 0
+KeptBy Compile Done old new = ⊤
+KeptBy verb status old new = new.files ≡ old.files
 
 -- the status of words that are read as no command
 abbrev pub status_of_words : WordsError → Status
@@ -95,6 +104,11 @@ status_of_words words.NoMemory = NoMemory
 abbrev pub Cause : List ModuleView → Option CommandView → StoreView → StoreView → SinkView → SinkView → Status → Type 0
 Cause modules None old new out out' status = ((status ≡ Usage) ⊎ (status ≡ NoMemory)) × (new ≡ old) × (out' ≡ out)
 Cause modules (Some command) old new out out' status = CommandCause command.verb (asked modules command) old new out out' status
+
+-- no told file changes, but for the image that `compile` stores
+abbrev pub KeepsFiles : Option CommandView → StoreView → StoreView → Status → Type 0
+KeepsFiles None old new status = new.files ≡ old.files
+KeepsFiles (Some command) old new status = KeptBy command.verb status old new
 
 -- a told sink gained exactly the text, or the sink's count of faults rose
 abbrev pub Reports : List ℕ → SinkView → SinkView → Type 0

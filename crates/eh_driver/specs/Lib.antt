@@ -8,6 +8,9 @@ pub mod Lines
 pub mod File
 pub mod Image
 pub mod Mean
+pub mod RunEnd
+pub mod Exec
+pub mod Compile
 pub mod Question
 pub mod Words
 pub mod Answer

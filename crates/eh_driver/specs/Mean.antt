@@ -43,12 +43,15 @@ mean_lines trace items end = lines_of trace items ++ end_line end ∷ []
 abbrev pub input_limit : ℕ
 input_limit = 2 ^ 20
 
--- what a command asks of a source: its name, that of its input if it has one, the most turns, whether events are printed, and the modules
+-- what a command asks of a file: its name, that of the image to be stored, that of its input if it has one, the most turns or steps, whether events are printed, whether
+-- steps are counted, and the modules
 pub record Asked : Type 0 where
   pub source : List ℕ
+  pub image : List ℕ
   pub input : Option (List ℕ)
   pub turns : ℕ
   pub trace : Bool
+  pub count : Bool
   pub modules : List ModuleView
 
 -- the source is a valid program, which with the input means this
@@ -89,14 +92,14 @@ WithInput a source old new out out' (SourceRefused number place) = HasOnly sourc
 WithInput a source old new out out' NoMemory = out' ≡ out
 WithInput a source old new out out' status = (m : Meaning) × ToldInput old a.input (MeansThis a m source) × MeaningEnds a.trace m out out' status
 
--- the source is not read, or its input is not
-abbrev pub UnreadEither : Asked → StoreView → StoreView → Status → Type 0
-UnreadEither a old new status = Unread source_limit a.source old new status ⊎ UnreadInput a.input old new status
+-- the file is not read within its limit, or its input is not
+abbrev pub UnreadEither : ℕ → Asked → StoreView → StoreView → Status → Type 0
+UnreadEither limit a old new status = Unread limit a.source old new status ⊎ UnreadInput a.input old new status
 
 -- when `mean` gives each status, what it leaves of the store's refusals, and of `out`
 abbrev pub MeanCause : Asked → StoreView → StoreView → SinkView → SinkView → Status → Type 0
-MeanCause a old new out out' ReadFault = UnreadEither a old new ReadFault × (out' ≡ out)
-MeanCause a old new out out' TooLong = UnreadEither a old new TooLong × (out' ≡ out)
+MeanCause a old new out out' ReadFault = UnreadEither source_limit a old new ReadFault × (out' ≡ out)
+MeanCause a old new out out' TooLong = UnreadEither source_limit a old new TooLong × (out' ≡ out)
 MeanCause a old new out out' (SourceRefused number place) = Told source_limit old a.source (λ source. HasOnly source (refused number place)) × (out' ≡ out)
 MeanCause a old new out out' NoMemory = out' ≡ out
 MeanCause a old new out out' status = (m : Meaning) × ToldMeans a m old × MeaningEnds a.trace m out out' status

@@ -1,12 +1,12 @@
 -- What the commands promise where nothing fails.
-use Rattle.std.specs.Prelude.{◌≡◌, ◌≤◌, ◌⊎◌, ⊤, ℕ, Bool, List, [], length, Option, Some, None}
-use Rattle.std.specs.FinMap.{get}
+use Rattle.std.specs.Prelude.{◌≡◌, ◌≤◌, ◌⊎◌, ⊤, ℕ, Bool, List, [], length, Option, Some, None, Ok, Err}
+use Rattle.std.specs.FinMap.{get, insert}
 use Rattle.eh_outer.specs.Store.{Files, StoreView, Rose}
 use Rattle.eh_outer.specs.Sink.{SinkView, Gains}
 use Rattle.eh_driver.specs.declared.status.Status.{Status}
 use Rattle.eh_driver.specs.declared.status.Status.TheVariants.{Done, SourceRefused, NoMemory}
 use Rattle.command_line.specs.declared.command.Verb.{Verb}
-use Rattle.command_line.specs.declared.command.Verb.TheVariants.{Run, Mean, Check, Dump}
+use Rattle.command_line.specs.declared.command.Verb.TheVariants.{Compile, Run, Exec, Mean, Check, Dump}
 use Rattle.command_line.specs.Command.{CommandView}
 use Rattle.eh_outer.specs.Module.{ModuleView}
 use Rattle.scope_rules.specs.Meaning.{Meaning}
@@ -17,18 +17,27 @@ use Rattle.cxx_ast.specs.Plain.{Program}
 use Rattle.cxx_ast.specs.Broken.{Valid}
 use Rattle.cxx_ast.specs.Checked.{checked}
 use Rattle.cxx_front.specs.Source.{IsProgram, IsRefused}
+use Rattle.cxx_image.specs.Image.{image_for}
 use Rattle.eh_driver.specs.Source.{small_main}
 use Rattle.run_items.specs.Output.{bytes_of}
 use Rattle.eh_driver.specs.Output.{exit_pieces}
 use Rattle.eh_driver.specs.File.{source_limit}
-use Rattle.eh_driver.specs.Image.{ImagePromise, check_lines, dump_lines}
+use Rattle.table_forms.specs.Fault.{Fault}
+use Rattle.elf_image.specs.Clean.{CleanImage}
+use Rattle.elf_image.specs.Reports.{reported}
+use Rattle.elf_image.specs.Runnable.{runnable}
+use Rattle.cxa_runtime.specs.Run.{Ran}
+use Rattle.eh_run.specs.Program.{program_of}
+use Rattle.eh_run.specs.Runs.{IsRun}
+use Rattle.eh_driver.specs.Image.{ImagePromise, check_lines, dump_lines, image_limit, status_of}
+use Rattle.eh_driver.specs.RunEnd.{run_lines, status_of_run}
 
--- a told file of a name, where neither the store nor the sink fails
-pub record Undisturbed (name : List ℕ) (source : List ℕ) (old new : StoreView) (out out' : SinkView) : Type 0 where
+-- a told file of a name within a limit, where neither the store nor the sink fails
+pub record Undisturbed (limit : ℕ) (name source : List ℕ) (old new : StoreView) (out out' : SinkView) : Type 0 where
   pub files : Files
   pub told : old.files ≡ Some files
   pub there : get files name ≡ Some source
-  pub short : length source ≤ source_limit
+  pub short : length source ≤ limit
   pub store : Rose old.faults new.faults → ⊥
   pub sink : Rose out.faults out'.faults → ⊥
 
@@ -39,12 +48,20 @@ Means source main = (p : Program) × IsProgram source p × Valid p × (small_mai
 -- Where nothing disturbs: the lines and the end line of a source that is built go out, and the status is Done; one that is
 -- refused is refused by its number and place; any other is refused by 29 at 0. Or memory ran out.
 pub record RunPromise (name : List ℕ) (old new : StoreView) (out out' : SinkView) (status : Status) : Type 0 where
-  pub runs : (source lines : List ℕ) (answer : ℕ) → Undisturbed name source old new out out' → Means source (Some (lines, answer)) →
+  pub runs : (source lines : List ℕ) (answer : ℕ) → Undisturbed source_limit name source old new out out' → Means source (Some (lines, answer)) →
       (status ≡ NoMemory) ⊎ ((status ≡ Done) × Gains (bytes_of (exit_pieces lines answer)) out out')
-  pub refuses : (source : List ℕ) (number place : ℕ) → Undisturbed name source old new out out' → IsRefused source number place →
+  pub refuses : (source : List ℕ) (number place : ℕ) → Undisturbed source_limit name source old new out out' → IsRefused source number place →
       (status ≡ NoMemory) ⊎ (status ≡ SourceRefused number place)
-  pub leaves : (source : List ℕ) → Undisturbed name source old new out out' → Means source None →
+  pub leaves : (source : List ℕ) → Undisturbed source_limit name source old new out out' → Means source None →
       (status ≡ NoMemory) ⊎ (status ≡ SourceRefused 29 0)
+
+-- Where nothing disturbs: the image of a valid source is stored under its name, and the told files are else as before; a source that is
+-- refused is refused by its number and place, and nothing is stored. Or memory ran out, and nothing is stored either.
+pub record CompilePromise (a : Asked) (old new : StoreView) (out out' : SinkView) (status : Status) : Type 0 where
+  pub stores : (source : List ℕ) (p : Program) (u : Undisturbed source_limit a.source source old new out out') → IsProgram source p → Valid p →
+      ((status ≡ NoMemory) × (new.files ≡ old.files)) ⊎ ((status ≡ Done) × (new.files ≡ Some (insert u.files a.image (image_for (checked p)))))
+  pub refuses : (source : List ℕ) (number place : ℕ) → Undisturbed source_limit a.source source old new out out' → IsRefused source number place →
+      ((status ≡ NoMemory) ⊎ (status ≡ SourceRefused number place)) × (new.files ≡ old.files)
 
 -- the input is that of the file, or empty where none is named
 abbrev pub InputIs : Option (List ℕ) → Files → List ℕ → Type 0
@@ -53,7 +70,7 @@ InputIs (Some name) files input = (get files name ≡ Some input) × (length inp
 
 -- a told source and its told input, where neither the store nor the sink fails
 pub record MeanUndisturbed (a : Asked) (source input : List ℕ) (old new : StoreView) (out out' : SinkView) : Type 0 where
-  pub calm : Undisturbed a.source source old new out out'
+  pub calm : Undisturbed source_limit a.source source old new out out'
   pub given : InputIs a.input calm.files input
 
 -- the lines of a meaning went out, and the status is that of its end
@@ -68,12 +85,32 @@ pub record MeanPromise (a : Asked) (old new : StoreView) (out out' : SinkView) (
   pub refuses : (source input : List ℕ) (number place : ℕ) → MeanUndisturbed a source input old new out out' → IsRefused source number place →
       (status ≡ NoMemory) ⊎ (status ≡ SourceRefused number place)
 
+-- a told image and its told input, where neither the store nor the sink fails
+pub record ExecUndisturbed (a : Asked) (file input : List ℕ) (old new : StoreView) (out out' : SinkView) : Type 0 where
+  pub calm : Undisturbed image_limit a.source file old new out out'
+  pub given : InputIs a.input calm.files input
+
+-- the lines of a run of the program went out, and the status is that of its end
+abbrev pub ShowsRun : Asked → CleanImage → List ℕ → SinkView → SinkView → Status → Type 0
+ShowsRun a i input out out' status =
+    (r : Ran) × IsRun (program_of i) input a.modules a.turns r × (status ≡ status_of_run r.end) × Gains (bytes_of (run_lines a.trace a.count r)) out out'
+
+-- Where nothing disturbs: the lines of a run of a runnable image go out, and the status is that of its end; any other image is refused by
+-- its first refusal, and nothing is written. Or memory ran out.
+pub record ExecPromise (a : Asked) (old new : StoreView) (out out' : SinkView) (status : Status) : Type 0 where
+  pub shows : (file input : List ℕ) (i : CleanImage) → ExecUndisturbed a file input old new out out' → runnable file ≡ Ok i →
+      (status ≡ NoMemory) ⊎ ShowsRun a i input out out' status
+  pub refuses : (file input : List ℕ) (fault : Fault) → ExecUndisturbed a file input old new out out' → runnable file ≡ Err fault →
+      (status ≡ NoMemory) ⊎ ((status ≡ status_of (reported fault)) × (out' ≡ out))
+
 -- what each command promises
 abbrev pub CommandPromise : Verb → Asked → StoreView → StoreView → SinkView → SinkView → Status → Type 0
-CommandPromise Run a = RunPromise a.source
-CommandPromise Mean a = MeanPromise a
-CommandPromise Check a = ImagePromise check_lines a.source
-CommandPromise Dump a = ImagePromise dump_lines a.source
+CommandPromise Compile a old new out out' status = CompilePromise a old new out out' status
+CommandPromise Run a old new out out' status = RunPromise a.source old new out out' status
+CommandPromise Exec a old new out out' status = ExecPromise a old new out out' status
+CommandPromise Mean a old new out out' status = MeanPromise a old new out out' status
+CommandPromise Check a old new out out' status = ImagePromise check_lines a.source old new out out' status
+CommandPromise Dump a old new out out' status = ImagePromise dump_lines a.source old new out out' status
 
 -- what words promise
 abbrev pub Promise : List ModuleView → Option CommandView → StoreView → StoreView → SinkView → SinkView → Status → Type 0

@@ -1,4 +1,4 @@
--- What is asked of a source.
+-- What is asked of a file.
 use Rattle.std.specs.Prelude.{List, option_map}
 use Rattle.eh_outer.specs.Module.{ModuleView}
 use Rattle.eh_driver.specs.declared.mean.Question.{Question}
@@ -8,8 +8,10 @@ use Rattle.eh_driver.specs.Mean.{Asked}
 abbrev pub asked_by : Question → List ModuleView → Asked
 asked_by q modules = record {
   source = q.source.now;
+  image = q.image.now;
   input = option_map (λ name. name.now) q.input;
   turns = q.turns;
   trace = q.trace;
+  count = q.count;
   modules = modules;
 }

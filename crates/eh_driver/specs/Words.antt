@@ -14,6 +14,11 @@ abbrev pub first_of : List (List ℕ) → List ℕ
 first_of [] = []
 first_of (name ∷ names) = name
 
+-- the second
+abbrev pub second_of : List (List ℕ) → List ℕ
+second_of [] = []
+second_of (name ∷ names) = first_of names
+
 -- the file that a command is given
 abbrev pub file_of : CommandView → List ℕ
 file_of command = first_of command.operands
@@ -22,8 +27,10 @@ file_of command = first_of command.operands
 abbrev pub asked : List ModuleView → CommandView → Asked
 asked modules command = record {
   source = file_of command;
+  image = second_of command.operands;
   input = slice_get command.inputs 0;
   turns = command.max;
   trace = command.trace;
+  count = command.count;
   modules = modules;
 }

@@ -36,7 +36,7 @@ impl From<ImageError> for Status {
 }
 
 /// The largest image, in bytes.
-const IMAGE_LIMIT: u64 = 0x400_0000;
+pub const IMAGE_LIMIT: u64 = 0x400_0000;
 
 // Counts what an image has.
 fn check_bytes<Out: Sink>(alloc: Global, image: &[u8], out: &mut Out) -> Status

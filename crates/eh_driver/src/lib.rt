@@ -4,6 +4,8 @@
 #![tactic(auto)]
 
 mod code;
+mod compile;
+mod exec;
 mod file;
 mod image;
 mod line;
@@ -11,6 +13,7 @@ mod lines;
 mod mean;
 mod report;
 mod run;
+mod run_end;
 mod source;
 mod status;
 mod top;
@@ -18,12 +21,3 @@ mod top;
 pub use run::End;
 pub use status::Status;
 pub use top::ehc;
-
-#[cfg(test)]
-mod image_tests;
-#[cfg(test)]
-mod mean_rows;
-#[cfg(test)]
-mod mean_tests;
-#[cfg(test)]
-mod tests;

@@ -23,13 +23,16 @@ use std::alloc::Global;
 /// The longest input, in bytes.
 const INPUT_LIMIT: u64 = 0x10_0000;
 
-/// What is asked of a source: its name, that of its input if it has one, the most turns, and whether events are printed.
+/// What is asked of a file: its name, that of the image to be stored, that of its input if it has one, the most turns or steps, whether events are printed, and
+/// whether steps are counted.
 #[derive(Clone, Copy, Debug)]
 pub struct Question<'a> {
     pub source: &'a str,
+    pub image: &'a str,
     pub input: Option<&'a str>,
     pub turns: u64,
     pub trace: bool,
+    pub count: bool,
 }
 
 // Puts the lines of items.
@@ -123,8 +126,8 @@ fn mean_of_source<Out: Sink, M: Module>(
     }
 }
 
-// The input of a name; empty where none is named.
-fn read_input<St: Store>(
+/// The input of a name; empty where none is named.
+pub fn read_input<St: Store>(
     alloc: Global,
     name: Option<&str>,
     store: &mut St,

@@ -8,11 +8,13 @@ ghost use Rattle.eh_outer.specs.Module.{ModuleView};
 ghost use Rattle.eh_driver.specs.File.{NamesRefusal, refused_name, source_limit};
 ghost use Rattle.eh_driver.specs.Question.{asked_by};
 ghost use Rattle.eh_driver.specs.Words.{asked, texts};
-ghost use Rattle.eh_driver.specs.Answer.{AreFew, Cause, CheckedEnds, CommandCause, MainEnds, Reports, RunCause, SourceEnds};
+ghost use Rattle.eh_driver.specs.Answer.{AreFew, Cause, CheckedEnds, CommandCause, KeepsFiles, KeptBy, MainEnds, Reports, RunCause, SourceEnds};
 ghost use Rattle.eh_driver.specs.Status.{text_of_status};
 ghost use Rattle.eh_driver.specs.Promise.{Promise};
 
 use crate::code::machine_of;
+use crate::compile::compile_file;
+use crate::exec::exec_file;
 use crate::file::{Ended, SOURCE_LIMIT, read};
 use crate::image::{check_file, dump_file};
 use crate::line::put_int;
@@ -100,38 +102,56 @@ fn first_of(names: &[String]) -> Option<&str>
     }
 }
 
-// What a command asks of a source.
+// The second of some names.
+fn second_of(names: &[String]) -> Option<&str>
+    ensures { option_map (λ name. name.now) result ≡ slice_get (map string_bytes names.now) 1 }
+{
+    match names {
+        [_, name, ..] => Some(name.as_str()),
+        _ => None,
+    }
+}
+
+// What a command asks of its files.
 fn question_of(command: &Command) -> Question<'_>
     ensures { (modules : List ModuleView) → asked_by result modules ≡ asked modules (command_seen command.now) }
 {
     Question {
         source: first_of(command.operands.as_slice()).unwrap_or(""),
+        image: second_of(command.operands.as_slice()).unwrap_or(""),
         input: first_of(command.inputs.as_slice()),
         turns: command.max,
         trace: command.trace,
+        count: command.count,
     }
 }
 
-// Does what a command does with the file that it is given.
+// Does what a command does with the files that it is given.
 fn execute<'a, St: Store, Out: Sink, M: Module>(
     alloc: Global,
     verb: Verb,
     question: Question<'a>,
     store: &mut St,
     out: &mut Out,
-    modules: &mut Vec<M>,
+    modules: Vec<M>,
 ) -> Ended<'a>
-    ensures cause { CommandCause verb (asked_by question.entry (map M.view modules.old.items)) (St.view store.old) (St.view store.new) (Out.view out.old) (Out.view out.new) result.status }
-    ensures files { (St.view store.new).files ≡ (St.view store.old).files }
+    requires turns { question.turns ≤ 2 ^ 40 }
+    ensures cause { CommandCause verb (asked_by question.entry (map M.view modules.items)) (St.view store.old) (St.view store.new) (Out.view out.old) (Out.view out.new) result.status }
+    ensures files { KeptBy verb result.status (St.view store.old) (St.view store.new) }
     ensures name { NamesRefusal result.status result.file.now (St.view store.new) }
 {
     let file = question.source;
     match verb {
+        Verb::Compile => compile_file(alloc, question, store),
         Verb::Run => Ended {
             status: run_file(alloc, file, store, out),
             file,
         },
-        Verb::Mean => mean_file(alloc, question, store, out, modules),
+        Verb::Exec => exec_file(alloc, question, store, out, modules),
+        Verb::Mean => {
+            let mut modules = modules;
+            mean_file(alloc, question, store, out, &mut modules)
+        }
         Verb::Check => Ended {
             status: check_file(alloc, file, store, out),
             file,
@@ -150,10 +170,10 @@ fn answer<St: Store, Out: Sink, Er: Sink, M: Module>(
     store: &mut St,
     out: &mut Out,
     err: &mut Er,
-    modules: &mut Vec<M>,
+    modules: Vec<M>,
 ) -> Status
-    ensures cause { Cause (map M.view modules.old.items) (command_of (texts words.now.items)) (St.view store.old) (St.view store.new) (Out.view out.old) (Out.view out.new) result }
-    ensures files { (St.view store.new).files ≡ (St.view store.old).files }
+    ensures cause { Cause (map M.view modules.items) (command_of (texts words.now.items)) (St.view store.old) (St.view store.new) (Out.view out.old) (Out.view out.new) result }
+    ensures files { KeepsFiles (command_of (texts words.now.items)) (St.view store.old) (St.view store.new) result }
     ensures report { Reports (text_of_status (refused_name (St.view store.new)) result) (Er.view err.old) (Er.view err.new) }
 {
     match read_words(alloc, words) {
@@ -173,9 +193,11 @@ fn answer<St: Store, Out: Sink, Er: Sink, M: Module>(
 
 /// Does all that the program does with its words, and answers its status.
 ///
-/// `run FILE` reads a source of at most 1 MiB, refuses it by the number and the place of what it breaks, or compiles it, runs
-/// the code on the machine, and puts each line that it writes and `= exit N` on `out`. `mean FILE` puts what the source means
-/// with its input and the modules: each line that it writes, under `--trace` each event, and its end. `check FILE` and
+/// `compile FILE IMAGE` reads a source of at most 1 MiB, refuses it by the number and the place of what it breaks, or stores its
+/// image. `run FILE` reads a source of at most 1 MiB, refuses it by the number and the place of what it breaks, or compiles it, runs
+/// the code on the machine, and puts each line that it writes and `= exit N` on `out`. `exec FILE` reads an image of at most
+/// 64 MiB and runs it with its input and the modules: it puts each line that it writes, under `--trace` each event, its end, and
+/// under `--count` how many steps it took. `mean FILE` puts what the source means with the same: lines, events and end. `check FILE` and
 /// `dump FILE` read an image of at most 64 MiB, and put how much it has, or its tables, on `out` where it is clean. Whatever else
 /// comes is one line on `err`. The modules are dropped.
 pub fn ehc<St: Store, Out: Sink, Er: Sink>(
@@ -191,11 +213,8 @@ pub fn ehc<St: Store, Out: Sink, Er: Sink>(
 
     // When each status comes, and what it leaves of the store's refusals and of `out`.
     ensures cause { Cause (map (λ b. (Module-box b).view b.value) modules.items) (command_of (texts words.now.items)) (St.view store.old) (St.view store.new) (Out.view out.old) (Out.view out.new) result }
-    ensures files { (St.view store.new).files ≡ (St.view store.old).files }
+    ensures files { KeepsFiles (command_of (texts words.now.items)) (St.view store.old) (St.view store.new) result }
     ensures report { Reports (text_of_status (refused_name (St.view store.new)) result) (Er.view err.old) (Er.view err.new) }
 {
-    let mut modules = modules;
-    let status = answer(alloc, words, store, out, err, &mut modules);
-    drop(modules);
-    status
+    answer(alloc, words, store, out, err, modules)
 }

@@ -85,11 +85,13 @@ static MOVES: [FrameMove; 2] = [
 
 // The function begins at the third word.
 fn is_expected(alloc: Global, function: &EmittedFunc) -> Result<bool, AllocError> {
-    Ok(function.name.as_bytes() == b"main".as_slice()
-        && function.first == 2
-        && function.words == 37
-        && function.table == table(alloc)?
-        && function.moves.as_slice() == MOVES.as_slice())
+    Ok(
+        function.name.as_bytes() == b"main".as_slice()
+            && function.first == 2
+            && function.words == 37
+            && function.table == table(alloc)?
+            && function.moves.as_slice() == MOVES.as_slice(),
+    )
 }
 
 #[test]

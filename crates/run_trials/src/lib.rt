@@ -10,6 +10,8 @@ mod code;
 #[cfg(test)]
 mod damaged;
 #[cfg(test)]
+mod exec;
+#[cfg(test)]
 mod file;
 #[cfg(test)]
 mod refusals;

@@ -1,8 +1,10 @@
-use Rattle.std.proofs.Common.{subst, map}
-use Rattle.command_line.specs.Command.{command_of}
+use Rattle.std.proofs.Common.{◌≤◌, ◌^◌, [], subst, sym, ap, map}
+use Rattle.command_line.specs.Command.{command_of, command_seen}
 use Rattle.eh_driver.specs.Answer.{Reports}
 use Rattle.eh_driver.specs.File.{refused_name}
 use Rattle.eh_driver.specs.Words.{texts}
+use Rattle.eh_driver.specs.Mean.{Asked}
+use Rattle.eh_driver.proofs.Bounded.{turns_few}
 use Rattle.eh_driver.proofs.Named.{text_named}
 use Rattle.eh_driver.proofs.Words.{no_name, unread}
 use Rattle.eh_driver.proofs.top.answer.Goals as goal
@@ -21,10 +23,15 @@ returns-in-Err-clause-report g c =
 
 pub returns-in-Ok-clause-cause : goal.returns-in-Ok-clause-cause
 returns-in-Ok-clause-cause g c =
-    let cause = rw (c.question_of-question.ensures (map g.M.Module.view c.args.modules.now.items)) at c.execute-ended.ensures.cause in
+    let cause = rw (c.question_of-question.ensures (map g.M.Module.view c.args.modules.items)) at c.execute-ended.ensures.cause in
     rw c.in-Ok.ensures cause
 
 pub returns-in-Err-clause-cause : goal.returns-in-Err-clause-cause
 returns-in-Err-clause-cause g c =
     rw c.from-status.ensures
-    (unread (map g.M.Module.view c.args.modules.now.items) (command_of (texts c.args.words.now.items)) c.in-Err.error (g.St.Store.view c.args.store.now) (g.Out.Sink.view c.args.out.now) c.in-Err.ensures)
+    (unread (map g.M.Module.view c.args.modules.items) (command_of (texts c.args.words.now.items)) c.in-Err.error (g.St.Store.view c.args.store.now) (g.Out.Sink.view c.args.out.now) c.in-Err.ensures)
+
+pub execute-ended-requires : goal.execute-ended-requires
+execute-ended-requires g c =
+    let few = turns_few (texts c.args.words.now.items) (command_seen c.in-Ok.command) c.in-Ok.ensures in
+    record { turns = subst (λ n. n ≤ 2 ^ 40) (sym (ap (λ (a : Asked). a.turns) (c.question_of-question.ensures []))) few }

@@ -1,5 +1,5 @@
 // What a user sees of `ehc`, over a store and sinks in memory.
-use crate::{Status, ehc};
+use eh_driver::{Status, ehc};
 use eh_outer::{MemSink, MemStore, Module};
 use std::alloc::Global;
 use std::test::Fail;

@@ -1,5 +1,5 @@
 // Worked programs, and what `mean` prints of them.
-use crate::Status;
+use eh_driver::Status;
 
 /// A program with the options and the input that it is given, and what is printed.
 pub struct Row {

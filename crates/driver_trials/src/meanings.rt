@@ -1,12 +1,12 @@
 // What `mean` prints of worked programs, with each event and without.
 ghost use Rattle.std.specs.Prelude.{[], option_to_list};
 
-use crate::Status;
 use crate::mean_rows::{
     Row, modules, objects, specifications, terminates, throws, undefined, values,
 };
-use crate::tests::{Outside, Seen, answer, answer_with, holding};
+use crate::outside::{Outside, Seen, answer, answer_with, holding};
 use command_line::scripts;
+use eh_driver::Status;
 use eh_outer::{Module, Reply, Runs};
 use std::alloc::Global;
 use std::cell::Cell;

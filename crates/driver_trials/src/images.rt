@@ -1,7 +1,7 @@
 // What a user sees of `check` and `dump`, over a store and sinks in memory: a worked image by hand from the ELF-64 Object
 // File Format, DWARF 5 and the LSB Core's "Exception Frames", and changes of it.
-use crate::Status;
-use crate::tests::{Outside, answer, holding};
+use crate::outside::{Outside, answer, holding};
+use eh_driver::Status;
 use std::alloc::Global;
 use std::test::Fail;
 

@@ -1,0 +1,27 @@
+// The passes from a checked program to its image.
+ghost use Rattle.std.specs.Prelude.{◌≡◌, IfOk};
+ghost use Rattle.cxx_ast.specs.Checked.{IsChecked};
+ghost use Rattle.cxx_ast.specs.View.{checked_of};
+ghost use Rattle.cxx_image.specs.Image.{image_for};
+
+use crate::NoMemory;
+use class_layout::layout;
+use cxx_ast::program::Checked;
+use image_link::link;
+use landing_pads::pads;
+use region_ir::regions;
+use rv64_emit::emit;
+use std::alloc::Global;
+
+/// The bytes of the image of a checked program: an ELF file to run, the same for the same program. A number that does not fit
+/// its field is want of memory.
+pub fn image_of(alloc: Global, program: &Checked) -> Result<Vec<u8>, NoMemory>
+    requires { IsChecked (checked_of program.now) }
+    ensures { IfOk result (λ bytes. bytes.items ≡ image_for (checked_of program.now)) }
+{
+    let layout = layout(alloc, &program.classes)?;
+    let regions = regions(alloc, program, &layout)?;
+    let unit = pads(alloc, &regions)?;
+    let emitted = emit(alloc, &unit)?;
+    link(alloc, &emitted)
+}

@@ -1,0 +1,7 @@
+//! The image of a checked program: the compiler behind the front end, pass by pass.
+#![tactic(auto)]
+
+mod image;
+
+pub use cxx_ast::NoMemory;
+pub use image::image_of;

@@ -1,0 +1,162 @@
+// Sources that are compiled, and their images run: each prints what the source means, with each event, and ends so.
+use crate::mean_rows::{Row, modules, objects, specifications, terminates, throws, values};
+use command_line::scripts;
+use eh_driver::{Status, ehc};
+use eh_outer::{MemSink, MemStore, Module, Runs};
+use std::alloc::{AllocError, Global};
+use std::test::Fail;
+
+/// What a command answered, and what it left.
+#[derive(Drop)]
+struct Answer {
+    status: Status,
+    out: MemSink,
+    err: MemSink,
+}
+
+fn owned(alloc: Global, words: &[&str]) -> Result<Vec<String>, AllocError> {
+    let mut list = Vec::new(alloc);
+    for word in words {
+        list.push(String::from_str(alloc, word)?)?;
+    }
+    Ok(list)
+}
+
+// What a command answers over a store, with the modules that its words ask for.
+fn answer(alloc: Global, words: &[&str], store: &mut MemStore) -> Result<Answer, Fail> {
+    let words = owned(alloc, words)?;
+    let mut guests: Vec<Box<dyn Module>> = Vec::new(alloc);
+    for script in scripts(alloc, &words)? {
+        guests.push(Box::new(alloc, Runs::new(alloc, script)?)?)?;
+    }
+    let mut out = MemSink::new(alloc, 0x1000, Vec::new(alloc))?;
+    let mut err = MemSink::new(alloc, 0x100, Vec::new(alloc))?;
+    let status = ehc(alloc, &words, store, &mut out, &mut err, guests);
+    Ok(Answer { status, out, err })
+}
+
+// A store with a source and an input, whose calls of these numbers fail.
+fn holding(
+    alloc: Global,
+    source: &str,
+    input: &[u8],
+    fails: &[u64],
+) -> Result<MemStore, AllocError> {
+    let mut files = Vec::new(alloc);
+    files.push((
+        String::from_str(alloc, "SRC")?,
+        source.as_bytes().to_vec(alloc)?,
+    ))?;
+    files.push((String::from_str(alloc, "IN")?, input.to_vec(alloc)?))?;
+    Ok(MemStore::new(files, fails.to_vec(alloc)?))
+}
+
+// What the image of a row's source does, with the row's options.
+fn ran(alloc: Global, row: &Row) -> Result<Answer, Fail> {
+    let mut store = holding(alloc, row.source, row.input, &[])?;
+    let compiled = answer(alloc, &["compile", "SRC", "IMG"], &mut store)?;
+    if compiled.status != Status::Done {
+        return Ok(compiled);
+    }
+    let mut words = vec![in alloc; "exec", "IMG", "--in=IN"]?;
+    for option in row.options {
+        words.push(*option)?;
+    }
+    answer(alloc, words.as_slice(), &mut store)
+}
+
+// The meaning ends as `= stack` at the 129th open call; a compiled program has room for more.
+fn is_shared(row: &Row) -> bool {
+    row.status == Status::Done || row.status == Status::Aborted
+}
+
+#[test]
+fn worked_programs(rt: HostRuntime) -> Result<(), Fail> {
+    let alloc = rt.alloc();
+    let mut count = 0;
+    for table in [
+        values(),
+        objects(),
+        throws(),
+        specifications(),
+        terminates(),
+        modules(),
+    ] {
+        for row in table {
+            if is_shared(row) {
+                let seen = ran(alloc, row)?;
+                assert_eq!(rt; seen.out.bytes(), row.lines.as_bytes(), "{}", row.source);
+                assert_eq!(rt; seen.status, row.status, "{}", row.source);
+                assert_eq!(rt; seen.err.bytes(), b"".as_slice(), "{}", row.source);
+                count += 1;
+            }
+        }
+    }
+    assert!(rt; count > 60, "{count}");
+    Ok(())
+}
+
+/// A source with the calls of the store that fail, and what `compile` answers.
+struct Trial {
+    source: &'static str,
+    fails: &'static [u64],
+    status: Status,
+    text: &'static str,
+}
+
+static TRIALS: &[Trial] = &[
+    Trial {
+        source: "int main() { return 1; }",
+        fails: &[],
+        status: Status::Done,
+        text: "",
+    },
+    Trial {
+        source: "int main() { return x; }",
+        fails: &[],
+        status: Status::SourceRefused(30, 20),
+        text: "ehc: source refused: 30 at 20\n",
+    },
+    Trial {
+        source: "int main() { return 1; }",
+        fails: &[1],
+        status: Status::ReadFault,
+        text: "ehc: read fault: SRC\n",
+    },
+    Trial {
+        source: "int main() { return 1; }",
+        fails: &[2],
+        status: Status::WriteFault,
+        text: "ehc: write fault\n",
+    },
+];
+
+#[test]
+fn answers(rt: HostRuntime) -> Result<(), Fail> {
+    for trial in TRIALS {
+        let mut store = holding(rt.alloc(), trial.source, b"", trial.fails)?;
+        let seen = answer(rt.alloc(), &["compile", "SRC", "IMG"], &mut store)?;
+        assert_eq!(rt; seen.status, trial.status);
+        assert_eq!(rt; seen.err.bytes(), trial.text.as_bytes());
+        assert_eq!(rt; seen.out.bytes(), b"".as_slice());
+        let stored = store.file("IMG").is_some();
+        assert_eq!(rt; stored, trial.status == Status::Done, "{}", trial.text);
+        assert_eq!(rt; store.file("SRC"), Some(trial.source.as_bytes()));
+    }
+    Ok(())
+}
+
+// The same source gives the same bytes.
+#[test]
+fn again(rt: HostRuntime) -> Result<(), Fail> {
+    let source =
+        "struct A { ~A() { write_int(1); } }; int main() { try { A a; throw 2; } catch (int e) { return e; } }";
+    let mut store = holding(rt.alloc(), source, b"", &[])?;
+    for name in ["ONE", "TWO"] {
+        let seen = answer(rt.alloc(), &["compile", "SRC", name], &mut store)?;
+        assert_eq!(rt; seen.status, Status::Done);
+    }
+    assert!(rt; store.file("ONE").is_some());
+    assert_eq!(rt; store.file("ONE"), store.file("TWO"));
+    Ok(())
+}
