@@ -35,20 +35,17 @@ pub struct Frame<'a> {
 }
 
 impl<'a> Model for Frame<'a> {
-    ghost use Rattle.std.specs.Prelude.{◌≡◌, ◌-◌, map};
     ghost use Rattle.emission_forms.specs.Shape.{Shape};
 
     ghost Value = { Shape };
 
-    ghost use Rattle.linear_forms.specs.Frame.{rounded_up, slot_bytes};
-    ghost use Rattle.region_ir.specs.View.{slot_of};
     ghost use Rattle.landing_pads.specs.View.{code_of};
     ghost use Rattle.emission_forms.specs.Emitted.{shape_of};
-    ghost use Rattle.rv64_emit.specs.Offsets.{offsets_below};
+    ghost use Rattle.rv64_emit.specs.Offsets.{HasOffsets};
 
     ghost view = { λ f. shape_of (code_of f.function.now) };
 
-    ghost invariant = { λ f. (f.offsets.items ≡ offsets_below f.function.now.frame (map slot_of f.function.now.slots.items)) × (f.lowest ≡ f.function.now.frame - slot_bytes (map slot_of f.function.now.slots.items)) };
+    ghost invariant = { λ f. HasOffsets (code_of f.function.now) f.offsets.items f.lowest };
 }
 
 // The offset of a slot of so many bytes that ends at a byte; each slot's size is rounded up to 8.

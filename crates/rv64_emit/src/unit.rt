@@ -126,8 +126,8 @@ fn rows_copied(alloc: Global, rows: &[TypeRow]) -> Result<Vec<TypeRow>, NoMemory
 
 /// The machine code of a program's linear code, which can stand at any address that is a multiple of 8, with its tables and frames.
 ///
-/// It is to stand behind the runtime's own functions, and below these the records of its types and its globals. Where memory runs out it
-/// is not made, nor where the number of a word is none of 32 bits or a jump inside a value goes over 2^19 words or more.
+/// It is to stand behind the runtime's own functions, and below these the records of its types and its globals. Want of memory is also the
+/// answer where a number, as that of a word, is none of 32 bits, and where a jump inside a value would go over 2^19 words or more.
 pub fn emit(alloc: Global, unit: &UnitCode) -> Result<Emitted, NoMemory>
     ensures { IfOk result (λ e. listed_unit e ≡ rules.emitted_of (unit_view unit.now)) }
 {

@@ -10,5 +10,5 @@ returns c =
     let f = c.self.inside in
     let s = c.args.slot in
     c.unwrap_or.ensures ∙ (ap (λ o. unwrap_or o f.lowest) c.copied.ensures ∙ (c.get.ensures.lookup.4 (omega arith) f.lowest ∙ (ap (λ l. get_or l s f.lowest) c.deref.ensures.value
-    ∙ (offset_of f.function.now.frame (map slot_of f.function.now.slots.items) f.offsets.items f.lowest s c.self.invariant.0 c.self.invariant.1
+    ∙ (offset_of f.function.now.frame (map slot_of f.function.now.slots.items) f.offsets.items f.lowest s c.self.invariant.offsets c.self.invariant.lowest
     ∙ ap (λ x. slot_offset x s) c.self.view_is))))
