@@ -9,6 +9,7 @@ pub mod Inside
 pub mod Listed
 pub mod Moves
 pub mod Offset
+pub mod SameChain
 pub mod SitesInside
 pub mod Turns
 pub mod Weight

@@ -18,13 +18,7 @@ use std::alloc::Global;
 fn is_same_chain(chain: &[i64], other: &[i64]) -> bool
     ensures { result ≡ same_chain chain.now other.now }
 {
-    match (chain.split_first(), other.split_first()) {
-        (None, None) => true,
-        (Some((filter, filters)), Some((first, others))) => {
-            filter == first && is_same_chain(filters, others)
-        }
-        _ => false,
-    }
+    chain == other
 }
 
 // The number of a chain among others; behind the last one it is not there.
