@@ -148,8 +148,8 @@ start_read memory header part d read is =
     let none = nothing_refused memory p part parts d (sym (ap (frames_from memory header) is) ∙ read) in
     header_read part p (none_first (header_at part p).faults parts.faults none)
 
-abbrev pub FieldAt : ℕ → Part → Reading Pointer
-FieldAt header part = at (encoded pcrel (part.address + (header - part.address + 4))) part.bytes (header - part.address + 4)
+abbrev pub field_at : ℕ → Part → Reading Pointer
+field_at header part = at (encoded pcrel (part.address + (header - part.address + 4))) part.bytes (header - part.address + 4)
 
 pub start_cut : (memory : Memory) (header : ℕ) (part : Part) (d : Frames) → frames memory header ≡ Ok d → part_with memory header ≡ Some part →
     length part.bytes - (header - part.address) < 4 → None ≡ frames_start memory header
@@ -158,13 +158,13 @@ start_cut memory header part d read is short =
     let room = leads.4 in absurd (omega (arith, room, short))
 
 pub start_refused : (memory : Memory) (header : ℕ) (part : Part) (d : Frames) (cause : ByteError) → frames memory header ≡ Ok d → part_with memory header ≡ Some part →
-    FieldAt header part ≡ Err cause → None ≡ frames_start memory header
+    field_at header part ≡ Err cause → None ≡ frames_start memory header
 start_refused memory header part d cause read is failed =
     let leads = start_read memory header part d read is in
     let both : ◌≡◌ {A = Reading Pointer} (Ok (leads.0, leads.1)) (Err cause) = sym leads.2 ∙ failed in absurd cc
 
 pub start_taken : (memory : Memory) (header : ℕ) (part : Part) (d : Frames) (pointer : Pointer) (next : ℕ) → frames memory header ≡ Ok d → part_with memory header ≡ Some part →
-    FieldAt header part ≡ Ok (pointer, next) → Some pointer.value ≡ frames_start memory header
+    field_at header part ≡ Ok (pointer, next) → Some pointer.value ≡ frames_start memory header
 start_taken memory header part d pointer next read is took =
     let leads = start_read memory header part d read is in
     let both : ◌≡◌ {A = Reading Pointer} (Ok (leads.0, leads.1)) (Ok (pointer, next)) = sym leads.2 ∙ took in
