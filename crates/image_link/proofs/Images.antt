@@ -56,7 +56,7 @@ front_length u =
     omega (arith, length-append (front ++ programs) (record_bytes c.runtime), length-append front programs, flat_length program_bytes 56 header_size (headers_for c), few)
 
 -- names, tables, frames and their header
-constants_length : (u : ListedUnit) →
+pub constants_length : (u : ListedUnit) →
     length (constant_bytes u) ≤ length (names_bytes u.types) + 43 + sum_by (λ f. function_room f.function) (all_functions u)
 constants_length u =
     let frames = unit_frames u in
@@ -76,7 +76,7 @@ stub_room : sum_by function_room emitted_stubs.functions ≡ 212
 unfolding uleb_spelling uleb_spelling_within sleb_spelling sleb_spelling_within base_offset table_bytes fde_body fde_bytes
 stub_room = refl
 
-functions_sum : (u : ListedUnit) → sum_by (λ f. function_room f.function) (all_functions u) ≡ 212 + sum_by function_room u.functions
+pub functions_sum : (u : ListedUnit) → sum_by (λ f. function_room f.function) (all_functions u) ≡ 212 + sum_by function_room u.functions
 functions_sum u =
     let stubs = placed_from (code_at u) emitted_stubs.functions in
     let own = placed_from (unit_at u) u.functions in
@@ -88,7 +88,7 @@ functions_sum u =
       stub_room,
     )
 
-stub_words : length emitted_stubs.code ≡ 100
+pub stub_words : length emitted_stubs.code ≡ 100
 stub_words = refl
 
 words : (u : ListedUnit) → IsLinkable u → length (all_code u) ≤ 128 * u.tokens + 4096

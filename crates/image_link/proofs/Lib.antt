@@ -3,3 +3,4 @@ pub mod Entries
 pub mod Bounds
 pub mod Images
 pub mod Whole
+pub mod Stands

@@ -1,9 +1,9 @@
 // The image of a unit.
-ghost use Rattle.std.specs.Prelude.{◌≡◌, ◌++◌, ◌+◌, ◌*◌, ◌<◌, ◌≤◌, ◌^◌, flat_map, length, map, IfOk, OnOk};
+ghost use Rattle.std.specs.Prelude.{◌≡◌, ◌++◌, ◌+◌, ◌*◌, ◌<◌, ◌≤◌, ◌^◌, flat_map, length, map, true, IfOk, OnOk};
 ghost use Rattle.std.specs.Int.{w32, to_le_bytes};
 ghost use Rattle.eh_bytes.specs.Listed.{listed_unit, listed_function};
 ghost use Rattle.emission_forms.specs.Emitted.{emitted_stubs};
-ghost use Rattle.elf_image.specs.Stands.{contents_of};
+ghost use Rattle.elf_image.specs.Stands.{contents_of, WritesImage};
 ghost use Rattle.image_forms.specs.Linked.{linked, constant_bytes, header_at, contents_for};
 ghost use Rattle.image_forms.specs.Linkable.{IsLinkable};
 ghost use Rattle.image_link.specs.Laid.{IsLaid};
@@ -118,9 +118,12 @@ fn parts_of(alloc: Global, unit: &Emitted) -> Result<ImageParts, NoMemory>
 /// The image of a unit, as an ELF file: globals, type records, the runtime's own functions with the
 /// unit's code, and names, exception tables, frames and their header, with the record for the runtime.
 ///
-/// The same unit gives the same bytes. Where code would stand at or above 2^30, memory is wanting.
+/// The same unit gives the same bytes. Where code would stand at or above 2^30, memory is wanting. Of a
+/// unit that is within the bounds of its source the file is that of an image to run: `read_elf` refuses
+/// nothing of it, and reads these parts.
 pub fn link(alloc: Global, emitted: &Emitted) -> Result<Vec<u8>, NoMemory>
     ensures bytes { IfOk result (λ file. file.items ≡ linked (listed_unit emitted.now)) }
+    ensures stands { IsLinkable (listed_unit emitted.now) → OnOk result (WritesImage (contents_for (listed_unit emitted.now)) true (linked (listed_unit emitted.now))) }
     ensures few { IsLinkable (listed_unit emitted.now) → IfOk result (λ file. length file.items ≤ 768 * emitted.now.tokens + 131072) }
 {
     let parts = parts_of(alloc, emitted)?;

@@ -1,6 +1,9 @@
+use Rattle.std.proofs.Common.{true}
 use Rattle.eh_bytes.specs.Listed.{listed_unit}
-use Rattle.image_forms.specs.Linked.{linked}
+use Rattle.elf_image.specs.Stands.{WritesImage}
+use Rattle.image_forms.specs.Linked.{contents_for, linked}
 use Rattle.image_link.proofs.Images.{few_of}
+use Rattle.image_link.proofs.Stands.{stands_of}
 use Rattle.image_link.proofs.image.link.Goals as goal
 
 pub returns : goal.returns
@@ -8,4 +11,8 @@ unfolding linked
 returns c =
     let u = listed_unit c.args.emitted.now in
     let bytes = rw c.in_ok-parts.ensures at c.write_elf.ensures.bytes in
-    record { bytes = bytes; few = few_of u c.write_elf.result bytes }
+    record {
+      bytes = bytes;
+      stands = stands_of u c.write_elf.result (WritesImage (contents_for u) true (linked u)) (rw c.in_ok-parts.ensures at c.write_elf.ensures.runs);
+      few = few_of u c.write_elf.result bytes;
+    }
