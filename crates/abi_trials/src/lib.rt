@@ -12,6 +12,8 @@ mod handlers;
 #[cfg(test)]
 mod image;
 #[cfg(test)]
+mod linked_runs;
+#[cfg(test)]
 mod op;
 #[cfg(test)]
 mod run;

@@ -15,12 +15,13 @@ use raise_core::tables_are_readable;
 use rv64_machine::Machine;
 use std::alloc::{AllocError, Global};
 
-/// The memory from `START` on, where a run begins, and the places of the terminate stub and of the type
-/// record of std::bad_exception.
+/// The memory from `START` on, where a run begins, the header of the frames, and the places of the
+/// terminate stub and of the type record of std::bad_exception.
 #[derive(Drop)]
 pub struct Image {
     pub bytes: Vec<u8>,
     pub entry: u64,
+    pub header: u64,
     pub places: RuntimeRecord,
 }
 
@@ -48,10 +49,10 @@ fn tables_last(machine: &Machine, frames: &Frames) -> bool
 }
 
 // The frames of a machine whose tables can be read.
-fn frames_of(alloc: Global, machine: &Machine) -> Option<Frames>
+fn frames_of(alloc: Global, machine: &Machine, header: u64) -> Option<Frames>
     ensures { IfSome result (λ frames. AreLasting machine.now frames) }
 {
-    match read_frames(alloc, machine.tables(), HEADER) {
+    match read_frames(alloc, machine.tables(), header) {
         Err(_) => None,
         Ok(frames) => {
             if tables_last(machine, &frames) {
@@ -67,8 +68,9 @@ fn runtime_of(alloc: Global, image: Image) -> Result<Option<Runtime>, AllocError
     ensures { IfOk result (λ made. IfSome made (λ runtime. runtime.turns ≡ 0)) }
 {
     let places = image.places;
+    let header = image.header;
     let machine = machine_of(alloc, image)?;
-    match frames_of(alloc, &machine) {
+    match frames_of(alloc, &machine, header) {
         None => Ok(None),
         Some(frames) => Ok(Some(Runtime::new(alloc, machine, frames, places)?)),
     }
@@ -132,6 +134,7 @@ pub fn runs_as(alloc: Global, code: &Code, end: End, lines: &str) -> Result<bool
     let image = Image {
         bytes: bytes_of(alloc, code)?,
         entry: START,
+        header: HEADER,
         places: RuntimeRecord {
             terminate: STUB,
             bad_exception: BAD_EXCEPTION,

@@ -49,7 +49,8 @@ fn stub_routines(emitted: Emitted, alloc: Global) -> Result<Vec<Routine>, AllocE
     Ok(routines)
 }
 
-fn table_of(alloc: Global, function: &Function) -> Result<LsdaList, AllocError> {
+/// The table of a function of the unit.
+pub fn table_of(alloc: Global, function: &Function) -> Result<LsdaList, AllocError> {
     let mut sites = Vec::new(alloc);
     for (start, length, pad, chain) in function.sites {
         sites.push(ListSite {
@@ -75,8 +76,9 @@ fn table_of(alloc: Global, function: &Function) -> Result<LsdaList, AllocError> 
     })
 }
 
-// Behind the first two words of a frame's function the return address is saved.
-fn frame_of(alloc: Global, start: u64, size: i64) -> Result<Vec<FrameMove>, AllocError> {
+/// The changes of the frame of a function of the unit, behind whose first two words the return address is
+/// saved.
+pub fn frame_of(alloc: Global, start: u64, size: i64) -> Result<Vec<FrameMove>, AllocError> {
     if size == 0 {
         return Ok(Vec::new(alloc));
     }

@@ -1,4 +1,5 @@
 // Runs through each way of the runtime's own functions, with lines worked out by hand.
+use crate::image::HEADER;
 use crate::run::{Image, image_runs_as};
 use crate::stub_image::{STUBS, bytes_of};
 use crate::stub_unit::BAD_EXCEPTION;
@@ -16,13 +17,13 @@ use std::test::Fail;
 /// unexpected handler that comes back (`r`), throws an int (`i`), throws an object of a class (`c`),
 /// or cancels (`x`), or with none (`-`). Main's handler prints its selector, 1 for an int and 2 for
 /// `std::bad_exception`.
-struct Trial {
-    input: &'static str,
-    lines: &'static str,
-    end: End,
+pub struct Trial {
+    pub input: &'static str,
+    pub lines: &'static str,
+    pub end: End,
 }
 
-static TRIALS: &[Trial] = &[
+pub static TRIALS: &[Trial] = &[
     Trial {
         input: "d",
         lines: "! make 1\n! enter 1\n! leave 1\n! destroy 1\n! make 2\n! free 1\n! enter 2\n! leave 2\n! destroy 2\n! free 2\n2\n",
@@ -69,6 +70,7 @@ fn image_of(alloc: Global) -> Result<Image, AllocError> {
     let placed = stubs(alloc, STUBS)?;
     Ok(Image {
         entry: placed.start,
+        header: HEADER,
         places: RuntimeRecord {
             terminate: placed.terminate,
             bad_exception: BAD_EXCEPTION,

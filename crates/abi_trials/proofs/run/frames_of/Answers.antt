@@ -17,5 +17,5 @@ returns-then-tables_last c =
     let frames = c.in-Ok.frames in
     let same : tables_of m ≡ memory_of c.tables.result.now = tables_same m c.tables.result.now c.tables.ensures in
     let both = and_true (is_constant m) (are_readable m frames) (sym c.tables_last.ensures ∙ c.if-tables_last.true) in
-    let reads = subst (λ (k : Memory). ReadsFrames (Ok frames) (forms.frames k 0x1_2800)) (sym same) c.in-Ok.ensures in
-    constant_lasts m both.0 frames (are_tables m frames 0x1_2800 reads both.1)
+    let reads = subst (λ (k : Memory). ReadsFrames (Ok frames) (forms.frames k c.args.header)) (sym same) c.in-Ok.ensures in
+    constant_lasts m both.0 frames (are_tables m frames c.args.header reads both.1)
