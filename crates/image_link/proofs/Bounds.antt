@@ -37,7 +37,7 @@ entries_length : (place : ℕ) (ts : List ℕ) → length (entries_from place ts
 entries_length place [] = refl
 entries_length place (t ∷ ts) = omega (arith, entries_length (place + 4) ts, entry_length place t, length-append (entry_bytes place t) (entries_from (place + 4) ts))
 
-table_length : (list : ListedTable) (address : ℕ) →
+pub table_length : (list : ListedTable) (address : ℕ) →
     length (table_bytes list address) ≡ length (front_bytes list) + 4 * length list.types + length (lists_bytes list.lists)
 unfolding table_bytes
 table_length list address =

@@ -4,3 +4,6 @@ pub mod Bounds
 pub mod Images
 pub mod Whole
 pub mod Stands
+pub mod Row
+pub mod Writers
+pub mod Handed

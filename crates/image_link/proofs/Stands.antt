@@ -34,15 +34,13 @@ there : (p : Part) (ps : Memory) (a : ℕ) → covers p a ≡ false → part_wit
 there p ps a e = ap (λ t. if t then Some p else part_with ps a) e
 
 -- the names, tables and frames stand before the header
-before_header : ListedUnit → List ℕ
+abbrev pub before_header : ListedUnit → List ℕ
 before_header u = unit_names u ++ unit_tables u ++ frames_written u
 
-header_place : (u : ListedUnit) → names_at u + length (before_header u) ≡ header_at u
-unfolding before_header
+pub header_place : (u : ListedUnit) → names_at u + length (before_header u) ≡ header_at u
 header_place u = omega (arith, length-append (unit_names u ++ unit_tables u) (frames_written u), length-append (unit_names u) (unit_tables u))
 
 constants_end : (u : ListedUnit) → header_at u + 12 ≤ names_at u + length (constant_bytes u)
-unfolding before_header
 constants_end u = omega (arith, header_place u, length-append (before_header u) (header_written u), header_length (header_rows (frames_at u) (unit_frames u)) (frames_at u) (header_at u))
 
 -- the bytes of all segments
@@ -103,20 +101,21 @@ unfolding header_bytes
 header_byte u = refl
 
 table_byte : (u : ListedUnit) → byte_of (memory_for u) (header_at u + 2) ≡ 3
-unfolding before_header
 table_byte u =
     let a = header_at u + 2 in
     let place : a - names_at u ≡ length (before_header u) + 2 = omega (arith, header_place u) in
     ap (λ o. unwrap_or (option_map (λ part. slice_index part.bytes (a - part.address)) o) 0) (found u 2 (omega arith))
     ∙ (ap (λ n. slice_index (constant_bytes u) n) place ∙ (get_or-append-add (before_header u) (header_written u) 2 0 ∙ header_byte u))
 
+pub constants_low : (u : ListedUnit) → IsLinkable u → names_at u + length (constant_bytes u) ≤ 0x60000000
+constants_low u can = omega (arith, few u can)
+
 pub can_run : (u : ListedUnit) → IsLinkable u → CanRunImage (contents_for u)
 can_run u can =
-    let all = few u can in
     let globals = globals_end u in
     let records = records_end u in
     let code = code_end u in
-    let constants : names_at u + length (constant_bytes u) ≤ 0x60000000 = omega (arith, all) in
+    let constants = constants_low u can in
     let next = byte_of (memory_for u) (header_at u + 3) in
     record {
       low = (

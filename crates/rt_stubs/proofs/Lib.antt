@@ -1,1 +1,1 @@
-mod StubLaws
+pub mod StubLaws
