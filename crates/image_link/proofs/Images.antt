@@ -1,6 +1,6 @@
 -- The bounds of linked images.
 use Rattle.std.proofs.Common.{◌≡◌, ◌≤◌, ℕ, ◌+◌, ◌*◌, [], ◌∷◌, ◌++◌, length, length-append, refl, sym, subst, arith}
-use Rattle.std.specs.Prelude.{flat_map, sum_by, replicate, Result, Ok, Err, IfOk}
+use Rattle.std.specs.Prelude.{flat_map, sum_by, replicate, Result, Ok, Err, IfOk, OnOk}
 use Rattle.std.specs.declared.vec.Vec.{Vec}
 use Rattle.std.specs.declared.alloc.Global.{Global}
 use Rattle.std.proofs.lemmas.List.{length-replicate}
@@ -118,6 +118,11 @@ pub few_of : {E : Type 0} (u : ListedUnit) (r : Result (Vec ℕ Global) E) → I
     IfOk r (λ file. length file.items ≤ 768 * u.tokens + 131072)
 few_of u (Ok file) is can = subst (λ bytes. length bytes ≤ 768 * u.tokens + 131072) (sym is) (few_bytes u can)
 few_of u (Err e) is can = tt
+
+-- what holds of every answer holds of a good one
+pub lists_of : {A E : Type 0} (r : Result A E) (fact : Type 0) → fact → OnOk r fact
+lists_of (Ok x) fact holds = holds
+lists_of (Err e) fact holds = tt
 
 pub images_are_small : ImagesAreSmall
 images_are_small = record { words = words; bytes = few_bytes }

@@ -5,7 +5,7 @@ use Rattle.image_forms.specs.Placed.{PlacedFunction}
 use Rattle.image_forms.specs.Tables.{placed_table, tables_bytes, linked_frame, linked_frames}
 
 -- behind the first tables
-behind : (end a : ℕ) (f : PlacedFunction) (fs : List PlacedFunction) →
+pub behind : (end a : ℕ) (f : PlacedFunction) (fs : List PlacedFunction) →
     a + length (placed_table end a f) + length (tables_bytes end (a + length (placed_table end a f)) fs) ≡ a + length (tables_bytes end a (f ∷ fs))
 behind end a f fs = omega (arith, length-append (placed_table end a f) (tables_bytes end (a + length (placed_table end a f)) fs))
 

@@ -7,3 +7,4 @@ pub mod Stands
 pub mod Row
 pub mod Writers
 pub mod Handed
+pub mod Lists

@@ -67,17 +67,32 @@ pub record Put (u : ListedUnit) (second : List ℕ) (after : List ListedFrame) :
   pub frames : after ≡ unit_frames u
   pub end : names_at u + length second ≡ frames_at u
 
+-- where the tables of the runtime's own functions begin, and those of the unit's
+pub record Begins (u : ListedUnit) (filled_up first : List ℕ) : Type 0 where
+  pub start : names_at u + length filled_up ≡ tables_at u
+  pub first_are : first ≡ unit_names u ++ tables_bytes (code_at u) (tables_at u) (placed_from (code_at u) emitted_stubs.functions)
+  pub next : names_at u + length first ≡ tables_at u + length (tables_bytes (code_at u) (tables_at u) (placed_from (code_at u) emitted_stubs.functions))
+
+pub begins : (u : ListedUnit) (named filled_up first second : List ℕ) (before after : List ListedFrame) → Puts u named filled_up first second before after → Begins u filled_up first
+begins u named filled_up first second before after p =
+    let stubs = placed_from (code_at u) emitted_stubs.functions in
+    let stub_tables = tables_bytes (code_at u) (tables_at u) stubs in
+    let names : filled_up ≡ unit_names u = p.fill ∙ ap filled p.names in
+    let start : names_at u + length filled_up ≡ tables_at u = ap (λ bytes. names_at u + length bytes) names in
+    let one : first ≡ unit_names u ++ stub_tables = p.stubs ∙ (ap (λ bytes. bytes ++ tables_bytes (code_at u) (names_at u + length filled_up) stubs) names
+    ∙ ap (λ a. unit_names u ++ tables_bytes (code_at u) a stubs) start) in
+    record { start = start; first_are = one; next = omega (arith, ap length one, length-append (unit_names u) stub_tables) }
+
 pub put_whole : (u : ListedUnit) (named filled_up first second : List ℕ) (before after : List ListedFrame) → Puts u named filled_up first second before after → Put u second after
 put_whole u named filled_up first second before after p =
     let stubs = placed_from (code_at u) emitted_stubs.functions in
     let own = placed_from (unit_at u) u.functions in
     let own_tables : ℕ → List ℕ = λ a. tables_bytes (code_at u) a own in
-    let names : filled_up ≡ unit_names u = p.fill ∙ ap filled p.names in
     let stub_tables = tables_bytes (code_at u) (tables_at u) stubs in
-    let start : names_at u + length filled_up ≡ tables_at u = ap (λ bytes. names_at u + length bytes) names in
-    let one : first ≡ unit_names u ++ stub_tables = p.stubs ∙ (ap (λ bytes. bytes ++ tables_bytes (code_at u) (names_at u + length filled_up) stubs) names
-    ∙ ap (λ a. unit_names u ++ tables_bytes (code_at u) a stubs) start) in
-    let next : names_at u + length first ≡ tables_at u + length stub_tables = omega (arith, ap length one, length-append (unit_names u) stub_tables) in
+    let from = begins u named filled_up first second before after p in
+    let start = from.start in
+    let one = from.first_are in
+    let next = from.next in
     let two : second ≡ unit_names u ++ unit_tables u = p.own ∙ (ap (λ a. first ++ own_tables a) next ∙ (ap (λ bytes. bytes ++ own_tables (tables_at u + length stub_tables)) one
     ∙ (append_assoc (unit_names u) stub_tables (own_tables (tables_at u + length stub_tables)) ∙ ap (λ bytes. unit_names u ++ bytes) (sym (unit_tables_are u))))) in
     record {

@@ -4,8 +4,9 @@ ghost use Rattle.std.specs.Int.{w32, to_le_bytes};
 ghost use Rattle.eh_bytes.specs.Listed.{listed_unit, listed_function};
 ghost use Rattle.emission_forms.specs.Emitted.{emitted_stubs};
 ghost use Rattle.elf_image.specs.Stands.{contents_of, WritesImage};
-ghost use Rattle.image_forms.specs.Linked.{linked, constant_bytes, header_at, contents_for};
+ghost use Rattle.image_forms.specs.Linked.{linked, contents_for};
 ghost use Rattle.image_forms.specs.Linkable.{IsLinkable};
+ghost use Rattle.image_link.specs.Standing.{AreConstants, ListsStand};
 ghost use Rattle.image_link.specs.Laid.{IsLaid};
 
 use crate::NoMemory;
@@ -59,8 +60,7 @@ fn constants_of(
     requires laid { IsLaid (listed_unit unit.now) layout.now }
     requires low { layout.now.names < 2 ^ 30 }
     requires stubs { listed_unit stubs.now ≡ emitted_stubs }
-    ensures header { IfOk result (λ c. c.header ≡ header_at (listed_unit unit.now)) }
-    ensures bytes { IfOk result (λ c. c.bytes.items ≡ constant_bytes (listed_unit unit.now)) }
+    ensures { IfOk result (λ c. AreConstants (listed_unit unit.now) c.header c.bytes.items) }
 {
     let ground = Ground {
         base: layout.names,
@@ -93,7 +93,8 @@ fn constants_of(
 
 // What the image is to hold.
 fn parts_of(alloc: Global, unit: &Emitted) -> Result<ImageParts, NoMemory>
-    ensures { IfOk result (λ parts. contents_of parts ≡ contents_for (listed_unit unit.now)) }
+    ensures contents { IfOk result (λ parts. contents_of parts ≡ contents_for (listed_unit unit.now)) }
+    ensures lists { IsLinkable (listed_unit unit.now) → OnOk result (ListsStand (listed_unit unit.now)) }
 {
     let layout = layout_of(unit)?;
     let placed = stubs(alloc, layout.code)?;
@@ -120,10 +121,12 @@ fn parts_of(alloc: Global, unit: &Emitted) -> Result<ImageParts, NoMemory>
 ///
 /// The same unit gives the same bytes. Where code would stand at or above 2^30, memory is wanting. Of a
 /// unit that is within the bounds of its source the file is that of an image to run: `read_elf` refuses
-/// nothing of it, and reads these parts.
+/// nothing of it, and reads these parts; and in each memory that has them the tables, the frames and
+/// their header stand for the lists that `emitted` has.
 pub fn link(alloc: Global, emitted: &Emitted) -> Result<Vec<u8>, NoMemory>
     ensures bytes { IfOk result (λ file. file.items ≡ linked (listed_unit emitted.now)) }
     ensures stands { IsLinkable (listed_unit emitted.now) → OnOk result (WritesImage (contents_for (listed_unit emitted.now)) true (linked (listed_unit emitted.now))) }
+    ensures lists { IsLinkable (listed_unit emitted.now) → OnOk result (ListsStand (listed_unit emitted.now)) }
     ensures few { IsLinkable (listed_unit emitted.now) → IfOk result (λ file. length file.items ≤ 768 * emitted.now.tokens + 131072) }
 {
     let parts = parts_of(alloc, emitted)?;

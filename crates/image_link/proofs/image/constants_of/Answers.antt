@@ -3,11 +3,12 @@ use Rattle.std.specs.Prelude.{replicate}
 use Rattle.eh_bytes.specs.Listed.{listed_function, listed_frame, listed_unit}
 use Rattle.emission_forms.specs.Emitted.{emitted_stubs}
 use Rattle.image_forms.specs.Records.{names_bytes}
+use Rattle.image_link.proofs.Lists.{lists_stand}
 use Rattle.image_link.proofs.Whole.{Puts, put_whole, constants_whole}
 use Rattle.image_link.proofs.image.constants_of.Goals as goal
 
-pub returns-clause-bytes : goal.returns-clause-bytes
-returns-clause-bytes c =
+pub returns : goal.returns
+returns c =
     let u = listed_unit c.args.unit.now in
     let laid = c.requires.laid in
     let named = c.put_names.new.out.items in
@@ -27,5 +28,15 @@ returns-clause-bytes c =
     } in
     let put = put_whole u named c.fill.new.out.items c.put_tables.new.out.items c.put_tables-2.new.out.items
     (map listed_frame c.put_tables.new.fdes.items) (map listed_frame c.put_tables-2.new.fdes.items) puts in
-    (constants_whole u c.put_tables-2.new.out.items (map listed_frame c.put_tables-2.new.fdes.items) c.put_frames.new.out.items c.in_ok-header.header put
-    (rw laid.names at c.in_ok-header.ensures.header) (rw laid.names at c.in_ok-header.ensures.bytes)).1
+    let second = c.put_tables-2.new.out.items in
+    let after = map listed_frame c.put_tables-2.new.fdes.items in
+    let whole = constants_whole u second after c.put_frames.new.out.items c.in_ok-header.header put
+    (rw laid.names at c.in_ok-header.ensures.header) (rw laid.names at c.in_ok-header.ensures.bytes) in
+    record {
+      place = whole.0;
+      content = whole.1;
+      stand = lists_stand u named c.fill.new.out.items c.put_tables.new.out.items second (map listed_frame c.put_tables.new.fdes.items) after c.in_ok-header.header puts whole.0
+          (rw (laid.code, laid.names, stubs) at c.in_ok-put_tables.ensures.stand)
+          (rw (laid.code, laid.unit, laid.names, own) at c.in_ok-put_tables-2.ensures.stand)
+          (rw laid.names at c.in_ok-header.ensures.frames) (rw laid.names at c.in_ok-header.ensures.heads);
+    }

@@ -30,8 +30,8 @@ segments-requires-clause-code c =
     = c.in_ok-code_bytes.ensures ∙ ap (λ s. flat_map (to_le_bytes w32) (s.code ++ u.code)) c.in_ok-placed.ensures.emitted in
     omega (arith, laid.code, laid.names, ap length bytes, code_end u)
 
-pub returns : goal.returns
-returns c =
+pub returns-clause-contents : goal.returns-clause-contents
+returns-clause-contents c =
     let u = listed_unit c.args.unit.now in
     let laid = c.in_ok-layout.ensures.laid in
     let l = c.in_ok-layout.layout in
@@ -42,6 +42,9 @@ returns c =
     let code : c.in_ok-code_bytes.field-0.items ≡ flat_map (to_le_bytes w32) (all_code u)
     = c.in_ok-code_bytes.ensures ∙ ap (λ s. flat_map (to_le_bytes w32) (s.code ++ u.code)) placed.ensures.emitted in
     let memory = c.in_ok-segments.ensures ∙ memory_same u l.globals l.records l.code l.names c.in_ok-globals_bytes.field-0.items c.in_ok-records_bytes.field-0.items
-    c.in_ok-code_bytes.field-0.items c.in_ok-constants.constants.bytes.items laid.globals laid.records laid.code laid.names globals records code c.in_ok-constants.ensures.bytes in
+    c.in_ok-code_bytes.field-0.items c.in_ok-constants.constants.bytes.items laid.globals laid.records laid.code laid.names globals records code c.in_ok-constants.ensures.content in
     contents_same u placed.placed.start c.in_ok-constants.constants.header placed.placed.terminate (l.code - 48) _ (placed.ensures.start ∙ laid.code) memory
-    c.in_ok-constants.ensures.header (rw laid.code at placed.ensures.terminate) (ap (λ a. a - 48) laid.code)
+    c.in_ok-constants.ensures.place (rw laid.code at placed.ensures.terminate) (ap (λ a. a - 48) laid.code)
+
+pub returns-clause-lists : goal.returns-clause-lists
+returns-clause-lists c can = c.in_ok-constants.ensures.stand can
