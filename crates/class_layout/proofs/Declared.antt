@@ -35,7 +35,7 @@ pub record Matches (env : Environment) (laid : List ClassLayout) : Type 0 where
   pub some : 0 < length env.classes
 
 -- a class has the same size here and there
-size_same : (es : List ClassEntry) (ls : List ClassLayout) → map (λ c. c.size) es ≡ map (λ c. c.size) ls → (k : ℕ) → k < length es →
+pub size_same : (es : List ClassEntry) (ls : List ClassLayout) → map (λ c. c.size) es ≡ map (λ c. c.size) ls → (k : ℕ) → k < length es →
     elim (slice_get es k) [ None ↦ 0 | Some c ↦ c.size ] ≡ (layout_at ls k).size
 size_same [] ls h k lt = absurd (omega (arith, lt))
 size_same (e ∷ es) [] h k lt = absurd (cc h)
@@ -137,11 +137,11 @@ module _ (env : Environment) (laid : List ClassLayout) (matching : Matches env l
     whole_is (Some b) ps m s = with_base b ps m s
 
 -- the environment behind a declaration of no class
-record SameClasses (env next : Environment) : Type 0 where
-  classes : next.classes ≡ env.classes
-  known : (n : ℕ) → Known n env.names → Known n next.names
+pub record SameClasses (env next : Environment) : Type 0 where
+  pub classes : next.classes ≡ env.classes
+  pub known : (n : ℕ) → Known n env.names → Known n next.names
 
-kept : (env next : Environment) (laid : List ClassLayout) → SameClasses env next → Matches env laid → Matches next laid
+pub kept : (env next : Environment) (laid : List ClassLayout) → SameClasses env next → Matches env laid → Matches next laid
 kept env next laid s m = record {
   sizes = ap (λ cs. map (λ c. c.size) cs) s.classes ∙ m.sizes;
   count = ap length s.classes ∙ m.count;
@@ -153,21 +153,21 @@ kept env next laid s m = record {
 abbrev named : Environment → List ℕ → Thing → Option Entry → Environment
 named env text t o = elim o [ Some e ↦ env | None ↦ record env { names = env.names ++ record { text = text; thing = t } ∷ [] } ]
 
-named_classes : (env : Environment) (text : List ℕ) (t : Thing) → (with_name env text t).classes ≡ env.classes
+pub named_classes : (env : Environment) (text : List ℕ) (t : Thing) → (with_name env text t).classes ≡ env.classes
 named_classes env text t = go (entry_of env text)
   where
     go : (o : Option Entry) → (named env text t o).classes ≡ env.classes
     go (Some e) = refl
     go None = refl
 
-named_known : (n : ℕ) (env : Environment) (text : List ℕ) (t : Thing) → ThingBelow n t → Known n env.names → Known n (with_name env text t).names
+pub named_known : (n : ℕ) (env : Environment) (text : List ℕ) (t : Thing) → ThingBelow n t → Known n env.names → Known n (with_name env text t).names
 named_known n env text t below known = go (entry_of env text)
   where
     go : (o : Option Entry) → Known n (named env text t o).names
     go (Some e) = known
     go None = known_and n env.names (record { text = text; thing = t }) known below
 
-behind_function : (env : Environment) (s : Signature) → SameClasses env (with_signature env s)
+pub behind_function : (env : Environment) (s : Signature) → SameClasses env (with_signature env s)
 behind_function env s = go (entry_of env s.name.text)
   where
     new : Environment

@@ -1,6 +1,6 @@
-mod Sound
-mod Named
-mod Declared
+pub mod Sound
+pub mod Named
+pub mod Declared
 pub mod Program
 mod Onward
 mod Members

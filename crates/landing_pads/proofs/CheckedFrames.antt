@@ -12,12 +12,13 @@ use Rattle.cxx_ast.specs.Declare.{at_the_start, declare_behind, body_environment
 use Rattle.cxx_ast.specs.Checked.{resolve_methods, resolve_declarations, classes_of, functions_of, checked, IsChecked}
 use Rattle.scope_rules.specs.Class.{class_at, no_class}
 use Rattle.region_forms.specs.Form.{RegionFunction}
-use Rattle.region_forms.specs.Layout.{Layout}
+use Rattle.region_forms.specs.Layout.{Layout, layout_of}
 use Rattle.region_forms.specs.LowerProgram.{declared_function, own_functions, functions_of_class, functions_of_classes, regions_of}
-use Rattle.linear_forms.specs.Unit.{function_code}
+use Rattle.linear_forms.specs.Unit.{function_code, unit_of}
 use Rattle.landing_pads.specs.Numbered.{VariablesAreNumbered}
-use Rattle.landing_pads.specs.Frames.{laid_bytes, CheckedFramesFit}
+use Rattle.landing_pads.specs.Frames.{VariablesAreSmall, laid_bytes, AllCheckedFramesFit}
 use Rattle.landing_pads.proofs.Resolved.{function_numbered}
+use Rattle.landing_pads.proofs.CheckedBytes.{checked_within}
 use Rattle.landing_pads.proofs.SourceFrames.{source_frames_fit}
 
 -- the functions of a program whose names are bound
@@ -119,9 +120,14 @@ coded : (fs : List RegionFunction) → AllByRecursion Small fs → AllByRecursio
 coded [] h = tt
 coded (f ∷ fs) h = (h.0, coded fs h.1)
 
-pub checked_frames_fit : CheckedFramesFit
-checked_frames_fit p l h small =
+checked_small : (p : Checked) (l : Layout) → IsChecked p → VariablesAreSmall p l → AllByRecursion (λ g. g.frame ≤ 2032) (unit_of (regions_of p l)).functions
+checked_small p l h small =
     let numbered = checked_numbered p h in
     coded (regions_of p l).functions
     (both_small (own_functions p l 0 p.functions) _ (own_small p l 0 p.functions numbered.functions small.functions)
     (classes_small p l 0 (length p.classes) numbered.classes small.methods))
+
+pub checked_frames_fit : AllCheckedFramesFit
+checked_frames_fit p h =
+    let within = checked_within p h in
+    record { variables = within; frames = checked_small p (layout_of p) h within }

@@ -13,7 +13,7 @@ use Rattle.landing_pads.specs.Frames.{FrameFits, AllFramesFit, between_calls}
 abbrev with_pads : Bool → List Slot → List Slot
 with_pads b slots = slots ++ (if b then help ∷ help ∷ help ∷ [] else [])
 
-bytes_append : (a b : List Slot) → slot_bytes (a ++ b) ≡ slot_bytes a + slot_bytes b
+pub bytes_append : (a b : List Slot) → slot_bytes (a ++ b) ≡ slot_bytes a + slot_bytes b
 bytes_append [] b = omega arith
 bytes_append (s ∷ a) b = omega (arith, bytes_append a b)
 

@@ -19,3 +19,5 @@ mod SourceFrames
 mod Looked
 mod Resolved
 mod CheckedFrames
+mod Counted
+mod CheckedBytes

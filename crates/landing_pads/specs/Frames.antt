@@ -6,7 +6,7 @@ use Rattle.cxx_ast.specs.Checked.{IsChecked}
 use Rattle.cxx_ast.specs.Plain.{Checked, Function}
 use Rattle.cxx_ast.specs.Sizes.{Most, more_of, initialisers_most, body_most}
 use Rattle.region_forms.specs.Form.{Region, RegionFunction}
-use Rattle.region_forms.specs.Layout.{Layout}
+use Rattle.region_forms.specs.Layout.{Layout, layout_of}
 use Rattle.region_forms.specs.LowerProgram.{own_slots, slot_for, declared_function, implicit_default_function, implicit_copy_function, implicit_destructor_function, regions_of}
 use Rattle.region_forms.specs.Mentioned.{slots_of}
 use Rattle.region_forms.specs.Numbering.{variables_of}
@@ -60,6 +60,11 @@ pub record VariablesAreSmall (p : Checked) (l : Layout) : Type 0 where
   pub functions : AllByRecursion (λ f. laid_bytes l f ≤ 1536) p.functions
   pub methods : AllByRecursion (λ c. AllByRecursion (λ f. laid_bytes l f ≤ 1536) c.functions) p.classes
 
--- so the frames of a checked program have at most 2,032 bytes
-abbrev pub CheckedFramesFit : Type 0
-CheckedFramesFit = (p : Checked) (l : Layout) → IsChecked p → VariablesAreSmall p l → AllByRecursion (λ g. g.frame ≤ 2032) (unit_of (regions_of p l)).functions
+-- By its layout the variables of a checked program have no more bytes than the limit allows, so its frames have at most 2,032 bytes.
+pub record CheckedFramesFit (p : Checked) : Type 0 where
+  pub variables : VariablesAreSmall p (layout_of p)
+  pub frames : AllByRecursion (λ g. g.frame ≤ 2032) (unit_of (regions_of p (layout_of p))).functions
+
+-- so of every checked program
+abbrev pub AllCheckedFramesFit : Type 0
+AllCheckedFramesFit = (p : Checked) → IsChecked p → CheckedFramesFit p

@@ -1,5 +1,5 @@
 //! Laws of linear code: calls of no effect, whose contracts state what holds of the code of all regions.
-ghost use Rattle.landing_pads.specs.Frames.{AllFramesFit, AllSourceFramesFit, CheckedFramesFit};
+ghost use Rattle.landing_pads.specs.Frames.{AllCheckedFramesFit, AllFramesFit, AllSourceFramesFit};
 ghost use Rattle.landing_pads.specs.Laws.{AllTablesAreShort, AllTablesStand};
 
 /// The call sites of a function stand in order and inside its operations, and what its tables name is there.
@@ -22,7 +22,7 @@ pub fn frames_of_sources_fit()
     ensures { AllSourceFramesFit }
 {}
 
-/// The frames of a checked program have at most 2,032 bytes where the variables of each function have 1,536 by the layout.
+/// The frames of a checked program have at most 2,032 bytes: by its layout the variables of a function have no more than the limit allows.
 pub fn frames_of_checked_fit()
-    ensures { CheckedFramesFit }
+    ensures { AllCheckedFramesFit }
 {}
