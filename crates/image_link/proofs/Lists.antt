@@ -1,17 +1,13 @@
 -- What `link` puts stands for its lists.
 use Rattle.std.proofs.Common.{◌≡◌, ℕ, ◌+◌, List, [], ◌∷◌, ◌++◌, length, sym, subst, arith}
 use Rattle.eh_bytes.specs.Listed.{ListedFrame, ListedUnit}
-use Rattle.eh_write.specs.CanWriteFrames.{CanWriteFrames}
-use Rattle.eh_write.specs.WrittenFrames.{frames_bytes}
-use Rattle.eh_write.specs.WrittenHeader.{CanWriteHeader, header_bytes}
-use Rattle.table_forms.specs.WrittenFrames.{WritesFrames, WritesHeader}
 use Rattle.emission_forms.specs.Emitted.{emitted_stubs}
 use Rattle.image_forms.specs.Placed.{code_at, unit_at, names_at, PlacedFunction, placed_from}
-use Rattle.image_forms.specs.Tables.{placed_table, tables_bytes, with_tables, header_rows}
+use Rattle.image_forms.specs.Tables.{placed_table, tables_bytes}
 use Rattle.image_forms.specs.Linked.{tables_at, unit_frames, frames_at, header_at}
 use Rattle.image_forms.specs.Linkable.{IsLinkable}
 use Rattle.image_link.specs.Laws.{TablesCanBeWritten}
-use Rattle.image_link.specs.Standing.{TablesStand, ListsStand}
+use Rattle.image_link.specs.Standing.{TablesStand, FramesWritten, HeaderWritten, TablesWritten, ListsStand}
 use Rattle.image_link.proofs.Joined.{behind}
 use Rattle.image_link.proofs.Handed.{writers_are_met}
 use Rattle.image_link.proofs.Whole.{Puts, put_whole, begins}
@@ -30,41 +26,24 @@ both_stand end a [] gs one two = let same : a + 0 ≡ a = omega arith in subst (
 both_stand end a (f ∷ fs) gs (first, rest) two =
     (first, both_stand end (a + length (placed_table end a f)) fs gs rest (subst (λ n. TablesStand end n gs) (sym (behind end a f fs)) two))
 
--- tables that can be written stand for their lists
-Stands : (end a : ℕ) → List PlacedFunction → Type 0
-Stands end a fs = TablesCanBeWritten end a fs → TablesStand end a fs
-
-FramesStand : (a : ℕ) → List ListedFrame → Type 0
-FramesStand a frames = CanWriteFrames (with_tables frames) a → WritesFrames (with_tables frames) a (frames_bytes (with_tables frames) a)
-
-HeaderStands : (a header : ℕ) → List ListedFrame → Type 0
-HeaderStands a header frames =
-    CanWriteHeader (header_rows a frames) a header → WritesHeader (header_rows a frames) a header (header_bytes (header_rows a frames) a header)
-
 pub lists_stand : (u : ListedUnit) (named filled_up first second : List ℕ) (before after : List ListedFrame) (header : ℕ) →
     Puts u named filled_up first second before after → header ≡ header_at u →
-    (TablesCanBeWritten (code_at u) (names_at u + length filled_up) (placed_from (code_at u) emitted_stubs.functions) →
-    TablesStand (code_at u) (names_at u + length filled_up) (placed_from (code_at u) emitted_stubs.functions)) →
-    (TablesCanBeWritten (code_at u) (names_at u + length first) (placed_from (unit_at u) u.functions) →
-    TablesStand (code_at u) (names_at u + length first) (placed_from (unit_at u) u.functions)) →
-    (CanWriteFrames (with_tables after) (names_at u + length second) →
-    WritesFrames (with_tables after) (names_at u + length second) (frames_bytes (with_tables after) (names_at u + length second))) →
-    (CanWriteHeader (header_rows (names_at u + length second) after) (names_at u + length second) header →
-    WritesHeader (header_rows (names_at u + length second) after) (names_at u + length second) header (header_bytes (header_rows (names_at u + length second) after) (names_at u + length second) header)) →
+    TablesWritten (code_at u) (names_at u + length filled_up) (placed_from (code_at u) emitted_stubs.functions) →
+    TablesWritten (code_at u) (names_at u + length first) (placed_from (unit_at u) u.functions) →
+    FramesWritten after (names_at u + length second) → HeaderWritten after (names_at u + length second) header →
     IsLinkable u → ListsStand u
-unfolding Stands FramesStand HeaderStands
 lists_stand u named filled_up first second before after header puts place stubs_stand own_stand frames_stand header_stands can =
     let end = code_at u in
     let stubs = placed_from (code_at u) emitted_stubs.functions in
     let own = placed_from (unit_at u) u.functions in
     let put = put_whole u named filled_up first second before after puts in
     let from = begins u named filled_up first second before after puts in
-    let one : Stands end (tables_at u) stubs = subst (λ n. Stands end n stubs) from.start stubs_stand in
-    let two : Stands end (tables_at u + length (tables_bytes end (tables_at u) stubs)) own = subst (λ n. Stands end n own) from.next own_stand in
+    let one : TablesWritten end (tables_at u) stubs = subst (λ n. TablesWritten end n stubs) from.start stubs_stand in
+    let two : TablesWritten end (tables_at u + length (tables_bytes end (tables_at u) stubs)) own = subst (λ n. TablesWritten end n own) from.next own_stand in
     let tables = writers_are_met.tables u can in
-    let frames : FramesStand (frames_at u) (unit_frames u) = subst (λ fs. FramesStand (frames_at u) fs) put.frames (subst (λ n. FramesStand n after) put.end frames_stand) in
-    let heads : HeaderStands (frames_at u) (header_at u) (unit_frames u) = subst (λ fs. HeaderStands (frames_at u) (header_at u) fs) put.frames
-    (subst (λ h. HeaderStands (frames_at u) h after) place (subst (λ n. HeaderStands n header after) put.end header_stands)) in
+    let frames : FramesWritten (unit_frames u) (frames_at u) = subst (λ fs. FramesWritten fs (frames_at u)) put.frames (subst (λ n. FramesWritten after n) put.end frames_stand) in
+    let heads : HeaderWritten (unit_frames u) (frames_at u) (header_at u) = subst (λ fs. HeaderWritten fs (frames_at u) (header_at u)) put.frames
+    (subst (λ h. HeaderWritten after (frames_at u) h) place (subst (λ n. HeaderWritten after n header) put.end header_stands)) in
     record {
       tables = both_stand end (tables_at u) stubs own (one (written_first end (tables_at u) stubs own tables)) (two (written_second end (tables_at u) stubs own tables));
       frames = frames (writers_are_met.frames u can);

@@ -16,6 +16,7 @@ use Rattle.image_forms.specs.Placed.{page_from, globals_at, records_at, code_at,
 use Rattle.image_forms.specs.Records.{names_bytes, records_bytes, globals_bytes}
 use Rattle.image_forms.specs.Tables.{filled, tables_bytes, linked_frames, with_tables, header_rows}
 use Rattle.image_forms.specs.Linked.{unit_names, tables_at, unit_tables, unit_frames, frames_at, header_at, constant_bytes, part_at, memory_for, contents_for}
+use Rattle.image_link.specs.Standing.{framed_bytes}
 use Rattle.image_link.proofs.Bounds.{code_length, globals_length, records_length}
 use Rattle.image_link.proofs.Joined.{tables_joined, frames_joined}
 
@@ -106,14 +107,17 @@ put_whole u named filled_up first second before after p =
 -- the frames and their header behind it are those of the unit
 pub constants_whole : (u : ListedUnit) (second : List ℕ) (after : List ListedFrame) (out : List ℕ) (header : ℕ) → Put u second after →
     header ≡ names_at u + length second + length (frames_bytes (with_tables after) (names_at u + length second)) →
-    out ≡ second ++ frames_bytes (with_tables after) (names_at u + length second) ++ header_bytes (header_rows (names_at u + length second) after) (names_at u + length second) header →
+    out ≡ second ++ framed_bytes after (names_at u + length second) header →
     (header ≡ header_at u) × (out ≡ constant_bytes u)
 constants_whole u second after out header p header_is out_is =
     let at_end = λ (frames : List ListedFrame) (a : ℕ). a + length (frames_bytes (with_tables frames) a) in
     let place : header ≡ header_at u = header_is ∙ (ap (λ a. at_end after a) p.end ∙ ap (λ frames. at_end frames (frames_at u)) p.frames) in
-    let tail = λ (frames : List ListedFrame) (a h : ℕ) (bytes : List ℕ). bytes ++ frames_bytes (with_tables frames) a ++ header_bytes (header_rows a frames) a h in (
+    let tail = λ (frames : List ListedFrame) (a h : ℕ) (bytes : List ℕ). bytes ++ frames_bytes (with_tables frames) a ++ header_bytes (header_rows a frames) a h in
+    let a = names_at u + length second in
+    let grouped : out ≡ tail after a header second
+    = out_is ∙ sym (append_assoc second (frames_bytes (with_tables after) a) (header_bytes (header_rows a after) a header)) in (
       place,
-      out_is ∙ (ap (λ a. tail after a header second) p.end ∙ (ap (λ frames. tail frames (frames_at u) header second) p.frames
+      grouped ∙ (ap (λ a. tail after a header second) p.end ∙ (ap (λ frames. tail frames (frames_at u) header second) p.frames
           ∙ (ap (λ h. tail (unit_frames u) (frames_at u) h second) place ∙ ap (λ bytes. tail (unit_frames u) (frames_at u) (header_at u) bytes) p.bytes))),
     )
 

@@ -3,9 +3,7 @@ ghost use Rattle.std.specs.Prelude.{◌≡◌, ◌++◌, ◌+◌, ◌<◌, ◌�
 ghost use Rattle.std.specs.Int.{w32, to_le_bytes, from_le_bytes};
 ghost use Rattle.eh_bytes.specs.Listed.{listed_frame};
 ghost use Rattle.eh_write.specs.WrittenFrames.{fdes_bytes, frames_bytes};
-ghost use Rattle.eh_write.specs.CanWriteFrames.{CanWriteFrames};
-ghost use Rattle.eh_write.specs.WrittenHeader.{header_bytes, CanWriteHeader};
-ghost use Rattle.table_forms.specs.WrittenFrames.{WritesFrames, WritesHeader};
+ghost use Rattle.image_link.specs.Standing.{FramesWritten, HeaderWritten, frames_end, framed_bytes};
 ghost use Rattle.image_forms.specs.Tables.{rows_from, header_rows, with_tables};
 
 use crate::NoMemory;
@@ -65,7 +63,7 @@ fn frames_at(
 ) -> Result<(Vec<u8>, Vec<HdrRow>), NoMemory>
     requires { frames.now.lsda ≡ true }
     ensures bytes { IfOk result (λ both. both.0.items ≡ frames_bytes (with_tables (map listed_frame frames.now.fdes.items)) address) }
-    ensures stands { OnOk result (CanWriteFrames (with_tables (map listed_frame frames.now.fdes.items)) address → WritesFrames (with_tables (map listed_frame frames.now.fdes.items)) address (frames_bytes (with_tables (map listed_frame frames.now.fdes.items)) address)) }
+    ensures stands { OnOk result (FramesWritten (map listed_frame frames.now.fdes.items) address) }
     ensures rows { IfOk result (λ both. both.1.items ≡ header_rows address (map listed_frame frames.now.fdes.items)) }
 {
     let mut bytes = Vec::new(alloc);
@@ -87,10 +85,11 @@ pub fn put_frames(
     fdes: Vec<ListFde>,
     out: &mut Vec<u8>,
 ) -> Result<u64, NoMemory>
-    ensures header { IfOk result (λ header. header ≡ base + length out.old.items + length (frames_bytes (with_tables (map listed_frame fdes.items)) (base + length out.old.items))) }
-    ensures frames { OnOk result (CanWriteFrames (with_tables (map listed_frame fdes.items)) (base + length out.old.items) → WritesFrames (with_tables (map listed_frame fdes.items)) (base + length out.old.items) (frames_bytes (with_tables (map listed_frame fdes.items)) (base + length out.old.items))) }
-    ensures heads { IfOk result (λ header. CanWriteHeader (header_rows (base + length out.old.items) (map listed_frame fdes.items)) (base + length out.old.items) header → WritesHeader (header_rows (base + length out.old.items) (map listed_frame fdes.items)) (base + length out.old.items) header (header_bytes (header_rows (base + length out.old.items) (map listed_frame fdes.items)) (base + length out.old.items) header)) }
-    ensures bytes { IfOk result (λ header. out.new.items ≡ out.old.items ++ frames_bytes (with_tables (map listed_frame fdes.items)) (base + length out.old.items) ++ header_bytes (header_rows (base + length out.old.items) (map listed_frame fdes.items)) (base + length out.old.items) header) }
+    ensures header { IfOk result (λ header. header ≡ frames_end (map listed_frame fdes.items) (base + length out.old.items)) }
+    ensures frames { OnOk result (FramesWritten (map listed_frame fdes.items) (base + length out.old.items)) }
+    ensures heads { IfOk result (λ header. HeaderWritten (map listed_frame fdes.items) (base + length out.old.items) header) }
+    ensures bytes { IfOk result (λ header. out.new.items ≡
+        out.old.items ++ framed_bytes (map listed_frame fdes.items) (base + length out.old.items) header) }
 {
     let address = base.checked_add(out.len() as u64).ok_or(AllocError)?;
     let frames = FrameList { lsda: true, fdes };

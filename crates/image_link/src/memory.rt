@@ -36,7 +36,11 @@ pub fn segments(alloc: Global, layout: &Layout, contents: Contents) -> Result<Se
     requires records { layout.now.records + length contents.records.items ≤ layout.now.code }
     requires code { layout.now.code + length contents.code.items ≤ layout.now.names }
     requires low { layout.now.names + length contents.constants.items < 2 ^ 64 }
-    ensures { IfOk result (λ s. memory_of s ≡ part_at layout.now.globals true false contents.globals.items ∷ part_at layout.now.records false false contents.records.items ∷ part_at layout.now.code false true contents.code.items ∷ part_at layout.now.names false false contents.constants.items ∷ []) }
+    ensures { IfOk result (λ s. memory_of s ≡
+        part_at layout.now.globals true false contents.globals.items ∷
+        part_at layout.now.records false false contents.records.items ∷
+        part_at layout.now.code false true contents.code.items ∷
+        part_at layout.now.names false false contents.constants.items ∷ []) }
 {
     let mut parts = Vec::new(alloc);
     parts.push(segment(layout.globals, contents.globals, true, false))?;

@@ -1,11 +1,7 @@
 // Exception tables at their addresses, and the frames that name them.
 ghost use Rattle.std.specs.Prelude.{◌≡◌, ◌++◌, ◌+◌, ◌*◌, ◌%◌, ◌-◌, ◌<◌, ◌^◌, length, map, replicate, IfOk, OnOk};
 ghost use Rattle.eh_bytes.specs.Listed.{listed_table, listed_frame, listed_function};
-ghost use Rattle.table_forms.specs.WrittenTable.{WritesTable};
-ghost use Rattle.eh_write.specs.CanWrite.{CanWrite};
-ghost use Rattle.eh_write.specs.Written.{table_bytes};
-ghost use Rattle.image_link.specs.Laws.{TablesCanBeWritten};
-ghost use Rattle.image_link.specs.Standing.{TablesStand};
+ghost use Rattle.image_link.specs.Standing.{TableWritten, TablesWritten};
 ghost use Rattle.image_forms.specs.Placed.{type_at, placed_at, placed_from};
 ghost use Rattle.image_forms.specs.Tables.{linked_table, filled, placed_table, tables_bytes, placed_moves, linked_frame, linked_frames};
 
@@ -121,9 +117,11 @@ fn put_table(
     out: &mut Vec<u8>,
 ) -> Result<ListFde, NoMemory>
     requires { code < 2 ^ 40 }
-    ensures bytes { OnOk result (out.new.items ≡ out.old.items ++ placed_table ground.end (ground.base + length out.old.items) (placed_at code (listed_function function.now))) }
-    ensures frame { IfOk result (λ fde. listed_frame fde ≡ linked_frame (ground.base + length out.old.items) (placed_at code (listed_function function.now))) }
-    ensures stands { OnOk result (CanWrite (linked_table ground.end (listed_table function.now.table)) (ground.base + length out.old.items) → WritesTable (linked_table ground.end (listed_table function.now.table)) (ground.base + length out.old.items) (table_bytes (linked_table ground.end (listed_table function.now.table)) (ground.base + length out.old.items))) }
+    ensures bytes { OnOk result (out.new.items ≡
+        out.old.items ++ placed_table ground.end (ground.base + length out.old.items) (placed_at code (listed_function function.now))) }
+    ensures frame { IfOk result (λ fde. listed_frame fde ≡
+        linked_frame (ground.base + length out.old.items) (placed_at code (listed_function function.now))) }
+    ensures stands { OnOk result (TableWritten (linked_table ground.end (listed_table function.now.table)) (ground.base + length out.old.items)) }
 {
     let start = code + 4 * u64::from(function.first);
     let before = out.len();
@@ -153,9 +151,12 @@ pub fn put_tables(
     fdes: &mut Vec<ListFde>,
 ) -> Result<(), NoMemory>
     requires { code < 2 ^ 40 }
-    ensures bytes { OnOk result (out.new.items ≡ out.old.items ++ tables_bytes ground.end (ground.base + length out.old.items) (placed_from code (map listed_function functions.now))) }
-    ensures frames { OnOk result (map listed_frame fdes.new.items ≡ map listed_frame fdes.old.items ++ linked_frames ground.end (ground.base + length out.old.items) (placed_from code (map listed_function functions.now))) }
-    ensures stand { OnOk result (TablesCanBeWritten ground.end (ground.base + length out.old.items) (placed_from code (map listed_function functions.now)) → TablesStand ground.end (ground.base + length out.old.items) (placed_from code (map listed_function functions.now))) }
+    ensures bytes { OnOk result (out.new.items ≡
+        out.old.items ++ tables_bytes ground.end (ground.base + length out.old.items) (placed_from code (map listed_function functions.now))) }
+    ensures frames { OnOk result (map listed_frame fdes.new.items ≡
+        map listed_frame fdes.old.items ++
+        linked_frames ground.end (ground.base + length out.old.items) (placed_from code (map listed_function functions.now))) }
+    ensures stand { OnOk result (TablesWritten ground.end (ground.base + length out.old.items) (placed_from code (map listed_function functions.now))) }
 {
     let mut rest = functions;
     'functions: while let Some((function, others)) = rest.split_first() {
