@@ -51,12 +51,16 @@ fn holding(
     Ok(MemStore::new(files, fails.to_vec(alloc)?))
 }
 
-// What the image of a row's source does, with the row's options.
+// What the image of a row's source does, with the row's options, where it is clean.
 fn ran(alloc: Global, row: &Row) -> Result<Answer, Fail> {
     let mut store = holding(alloc, row.source, row.input, &[])?;
     let compiled = answer(alloc, &["compile", "SRC", "IMG"], &mut store)?;
     if compiled.status != Status::Done {
         return Ok(compiled);
+    }
+    let judged = answer(alloc, &["check", "IMG"], &mut store)?;
+    if judged.status != Status::Done {
+        return Ok(judged);
     }
     let mut words = vec![in alloc; "exec", "IMG", "--in=IN"]?;
     for option in row.options {
@@ -158,5 +162,58 @@ fn again(rt: HostRuntime) -> Result<(), Fail> {
     }
     assert!(rt; store.file("ONE").is_some());
     assert_eq!(rt; store.file("ONE"), store.file("TWO"));
+    Ok(())
+}
+
+// 180 variables, of which each has its number, and their sum.
+fn variables(alloc: Global) -> Result<String, Fail> {
+    let mut source = String::from_str(alloc, "int main() { int s = 0; ")?;
+    for n in 0..180u32 {
+        source.push_str(format!(in alloc; "int v{n} = {n}; ")?.as_str())?;
+    }
+    for n in 0..90u32 {
+        let next = n.wrapping_add(90);
+        source.push_str(format!(in alloc; "s = s + v{n} + v{next}; ")?.as_str())?;
+    }
+    source.push_str("write_int(s); return 0; }")?;
+    Ok(source)
+}
+
+// Sums in sums, so deep that the tree has room for no more.
+fn sums(alloc: Global) -> Result<String, Fail> {
+    let mut source = String::from_str(alloc, "int main() { write_int(")?;
+    for _ in 0..28 {
+        source.push_str("1 + (")?;
+    }
+    source.push_str("1")?;
+    for _ in 0..28 {
+        source.push_str(")")?;
+    }
+    source.push_str("); return 0; }")?;
+    Ok(source)
+}
+
+static ARGUMENTS: &str =
+    "int f(int a, int b, int c, int d, int e, int g, int h, int i, int j, int k, int l, int m) \
+{ return a + 2 * b + 3 * c + 4 * d + 5 * e + 6 * g + 7 * h + 8 * i + 9 * j + 10 * k + 11 * l + 12 * m; } \
+int main() { write_int(f(1, 2, 3, 4, 5, 6, 7, 8, 9, 10, 11, 12)); return 0; }";
+
+// Many variables, deep sums and many arguments.
+#[test]
+fn near_the_limits(rt: HostRuntime) -> Result<(), Fail> {
+    let alloc = rt.alloc();
+    let arguments = String::from_str(alloc, ARGUMENTS)?;
+    let trials = [
+        (variables(alloc)?, "16110\n= exit 0\n"),
+        (sums(alloc)?, "29\n= exit 0\n"),
+        (arguments, "650\n= exit 0\n"),
+    ];
+    for (source, lines) in trials {
+        let mut store = holding(alloc, source.as_str(), b"", &[])?;
+        let compiled = answer(alloc, &["compile", "SRC", "IMG"], &mut store)?;
+        assert_eq!(rt; compiled.status, Status::Done, "{lines}");
+        let seen = answer(alloc, &["exec", "IMG"], &mut store)?;
+        assert_eq!(rt; seen.out.bytes(), lines.as_bytes(), "{lines}");
+    }
     Ok(())
 }
