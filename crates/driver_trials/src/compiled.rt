@@ -23,7 +23,7 @@ fn owned(alloc: Global, words: &[&str]) -> Result<Vec<String>, AllocError> {
 }
 
 // What a command answers over a store, with the modules that its words ask for.
-fn answer(alloc: Global, words: &[&str], store: &mut MemStore) -> Result<Answer, Fail> {
+fn answered(alloc: Global, words: &[&str], store: &mut MemStore) -> Result<Answer, Fail> {
     let words = owned(alloc, words)?;
     let mut guests: Vec<Box<dyn Module>> = Vec::new(alloc);
     for script in scripts(alloc, &words)? {
@@ -54,11 +54,11 @@ fn holding(
 // What the image of a row's source does, with the row's options, where it is clean.
 fn ran(alloc: Global, row: &Row) -> Result<Answer, Fail> {
     let mut store = holding(alloc, row.source, row.input, &[])?;
-    let compiled = answer(alloc, &["compile", "SRC", "IMG"], &mut store)?;
+    let compiled = answered(alloc, &["compile", "SRC", "IMG"], &mut store)?;
     if compiled.status != Status::Done {
         return Ok(compiled);
     }
-    let judged = answer(alloc, &["check", "IMG"], &mut store)?;
+    let judged = answered(alloc, &["check", "IMG"], &mut store)?;
     if judged.status != Status::Done {
         return Ok(judged);
     }
@@ -66,7 +66,7 @@ fn ran(alloc: Global, row: &Row) -> Result<Answer, Fail> {
     for option in row.options {
         words.push(*option)?;
     }
-    answer(alloc, words.as_slice(), &mut store)
+    answered(alloc, words.as_slice(), &mut store)
 }
 
 // The meaning ends as `= stack` at the 129th open call; a compiled program has room for more.
@@ -139,7 +139,7 @@ static TRIALS: &[Trial] = &[
 fn answers(rt: HostRuntime) -> Result<(), Fail> {
     for trial in TRIALS {
         let mut store = holding(rt.alloc(), trial.source, b"", trial.fails)?;
-        let seen = answer(rt.alloc(), &["compile", "SRC", "IMG"], &mut store)?;
+        let seen = answered(rt.alloc(), &["compile", "SRC", "IMG"], &mut store)?;
         assert_eq!(rt; seen.status, trial.status);
         assert_eq!(rt; seen.err.bytes(), trial.text.as_bytes());
         assert_eq!(rt; seen.out.bytes(), b"".as_slice());
@@ -157,7 +157,7 @@ fn again(rt: HostRuntime) -> Result<(), Fail> {
         "struct A { ~A() { write_int(1); } }; int main() { try { A a; throw 2; } catch (int e) { return e; } }";
     let mut store = holding(rt.alloc(), source, b"", &[])?;
     for name in ["ONE", "TWO"] {
-        let seen = answer(rt.alloc(), &["compile", "SRC", name], &mut store)?;
+        let seen = answered(rt.alloc(), &["compile", "SRC", name], &mut store)?;
         assert_eq!(rt; seen.status, Status::Done);
     }
     assert!(rt; store.file("ONE").is_some());
@@ -210,9 +210,9 @@ fn near_the_limits(rt: HostRuntime) -> Result<(), Fail> {
     ];
     for (source, lines) in trials {
         let mut store = holding(alloc, source.as_str(), b"", &[])?;
-        let compiled = answer(alloc, &["compile", "SRC", "IMG"], &mut store)?;
+        let compiled = answered(alloc, &["compile", "SRC", "IMG"], &mut store)?;
         assert_eq!(rt; compiled.status, Status::Done, "{lines}");
-        let seen = answer(alloc, &["exec", "IMG"], &mut store)?;
+        let seen = answered(alloc, &["exec", "IMG"], &mut store)?;
         assert_eq!(rt; seen.out.bytes(), lines.as_bytes(), "{lines}");
     }
     Ok(())
