@@ -77,7 +77,7 @@ fn is_shared(row: &Row) -> bool {
 #[test]
 fn worked_programs(rt: HostRuntime) -> Result<(), Fail> {
     let alloc = rt.alloc();
-    let mut count = 0;
+    let mut count = 0u32;
     for table in [
         values(),
         objects(),
@@ -92,7 +92,7 @@ fn worked_programs(rt: HostRuntime) -> Result<(), Fail> {
                 assert_eq!(rt; seen.out.bytes(), row.lines.as_bytes(), "{}", row.source);
                 assert_eq!(rt; seen.status, row.status, "{}", row.source);
                 assert_eq!(rt; seen.err.bytes(), b"".as_slice(), "{}", row.source);
-                count += 1;
+                count = count.wrapping_add(1);
             }
         }
     }

@@ -148,9 +148,9 @@ fn images(rt: HostRuntime) -> Result<(), Fail> {
 fn puts_that_fail(rt: HostRuntime) -> Result<(), Fail> {
     let row = &ROWS[1];
     let mut written = String::new(rt.alloc());
-    let mut number = 0;
+    let mut number = 0u64;
     for line in row.lines.lines() {
-        number += 1;
+        number = number.wrapping_add(1);
         let (status, out, err) = answer(rt.alloc(), row, &[number])?;
         assert_eq!(rt; status, Status::WriteFault, "{number}");
         assert_eq!(rt; out.bytes(), written.as_bytes(), "{number}");
