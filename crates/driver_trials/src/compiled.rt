@@ -63,8 +63,11 @@ fn ran(alloc: Global, row: &Row) -> Result<Answer, Fail> {
         return Ok(judged);
     }
     let mut words = vec![in alloc; "exec", "IMG", "--in=IN"]?;
+    // (the most turns of a meaning are no number of steps)
     for option in row.options {
-        words.push(*option)?;
+        if !option.starts_with("--max=") {
+            words.push(*option)?;
+        }
     }
     answered(alloc, words.as_slice(), &mut store)
 }
