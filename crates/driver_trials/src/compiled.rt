@@ -1,4 +1,4 @@
-// Sources that are compiled, and their images run: each prints what the source means, with each event, and ends so.
+// Sources that are compiled, and their images run: each prints what the source means, with the events that are asked for, and ends so.
 use crate::mean_rows::{Row, modules, objects, specifications, terminates, throws, values};
 use command_line::scripts;
 use eh_driver::{Status, ehc};
