@@ -2,6 +2,6 @@ pub mod Sound
 pub mod Named
 pub mod Declared
 pub mod Program
-mod Onward
-mod Members
-mod Apart
+pub mod Onward
+pub mod Members
+pub mod Apart

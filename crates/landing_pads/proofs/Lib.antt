@@ -5,19 +5,19 @@ pub mod Behind
 pub mod Past
 pub mod Weight
 pub mod Composed
-mod Sited
-mod Covered
-mod Sensed
-mod Indexed
-mod Framed
-mod Stood
-mod Short
-mod Mentions
-mod StatementSlots
-mod FunctionSlots
-mod SourceFrames
-mod Looked
-mod Resolved
-mod CheckedFrames
-mod Counted
-mod CheckedBytes
+pub mod Sited
+pub mod Covered
+pub mod Sensed
+pub mod Indexed
+pub mod Framed
+pub mod Stood
+pub mod Short
+pub mod Mentions
+pub mod StatementSlots
+pub mod FunctionSlots
+pub mod SourceFrames
+pub mod Looked
+pub mod Resolved
+pub mod CheckedFrames
+pub mod Counted
+pub mod CheckedBytes

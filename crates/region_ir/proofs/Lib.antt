@@ -1,35 +1,35 @@
 pub mod Rows
-mod Table
-mod Declared
-mod Offsets
-mod ByNumber
-mod Quiet
-mod Behind
-mod Helps
-mod Around
-mod Bodies
-mod Gathered
-mod Onward
-mod Callees
-mod Weight
-mod Stated
-mod Clauses
-mod ShapedRows
-mod ShapedExpressions
-mod ShapedStatements
-mod ShapedFunctions
-mod Sound
-mod JumpsStand
-mod BasesBefore
-mod ExitExpressions
-mod ExitStatements
-mod ExitFunctions
-mod EachFunction
-mod SlotCounts
-mod Joined
-mod MainOnce
-mod MainThere
-mod AtNumber
-mod DestructorsAlone
-mod Specials
-mod ImplicitLeaves
+pub mod Table
+pub mod Declared
+pub mod Offsets
+pub mod ByNumber
+pub mod Quiet
+pub mod Behind
+pub mod Helps
+pub mod Around
+pub mod Bodies
+pub mod Gathered
+pub mod Onward
+pub mod Callees
+pub mod Weight
+pub mod Stated
+pub mod Clauses
+pub mod ShapedRows
+pub mod ShapedExpressions
+pub mod ShapedStatements
+pub mod ShapedFunctions
+pub mod Sound
+pub mod JumpsStand
+pub mod BasesBefore
+pub mod ExitExpressions
+pub mod ExitStatements
+pub mod ExitFunctions
+pub mod EachFunction
+pub mod SlotCounts
+pub mod Joined
+pub mod MainOnce
+pub mod MainThere
+pub mod AtNumber
+pub mod DestructorsAlone
+pub mod Specials
+pub mod ImplicitLeaves
