@@ -34,6 +34,11 @@ fde_sized : (cie p : ℕ) (f : ListedFrame) → fde_bytes true cie p f ≡ sized
 unfolding fde_bytes sized entry
 fde_sized cie p f = refl
 
+-- an entry has more bytes than its length
+pub entry_some : (cie p : ℕ) (f : ListedFrame) → 4 < length (fde_bytes true cie p f)
+unfolding entry fde_body
+entry_some cie p f = omega (arith, ap length (fde_sized cie p f), sized_length (entry cie p f))
+
 -- of bytes that begin with an entry
 pub record Entry (cie p : ℕ) (f : ListedFrame) (bytes more : List ℕ) : Type 0 where
   pub four : 4 ≤ length bytes

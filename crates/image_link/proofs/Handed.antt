@@ -46,22 +46,29 @@ all_placed : (code rows : ℕ) (fs : List ListedFunction) → AllByRecursion (Fu
 all_placed code rows [] all = tt
 all_placed code rows (f ∷ fs) (first, rest) = (first, all_placed code rows fs rest)
 
-fit : (u : ListedUnit) → IsLinkable u → AllByRecursion (λ f. FunctionFits (length u.types) f.function) (all_functions u)
+pub fit : (u : ListedUnit) → IsLinkable u → AllByRecursion (λ f. FunctionFits (length u.types) f.function) (all_functions u)
 fit u can =
     let rows = length u.types in
     all_joined (λ f. FunctionFits rows f.function) (placed_from (code_at u) emitted_stubs.functions) (placed_from (unit_at u) u.functions)
     (all_placed (code_at u) rows emitted_stubs.functions (all_more rows emitted_stubs.functions stubs_fit.functions))
     (all_placed (unit_at u) rows u.functions can.functions)
 
-row : (u : ListedUnit) → IsLinkable u → InRow (code_at u) (names_at u) (all_functions u)
-row u can =
+-- all in the code
+pub code_row : (u : ListedUnit) → IsLinkable u → InRow (code_at u) (code_at u + 4 * length (all_code u)) (all_functions u)
+code_row u can =
     let stubs = placed_from (code_at u) emitted_stubs.functions in
     let own = placed_from (unit_at u) u.functions in
     let words = length emitted_stubs.code in
-    let end : unit_at u + 4 * length u.code ≤ names_at u = omega (arith, code_end u, code_length (all_code u), length-append emitted_stubs.code u.code) in
+    let limit = code_at u + 4 * length (all_code u) in
+    let end : unit_at u + 4 * length u.code ≤ limit = omega (arith, length-append emitted_stubs.code u.code) in
     let first = wider (code_at u + 4 * 0) (code_at u) (code_at u + 4 * words) (unit_at u) stubs (omega arith) (omega arith) (row_of (code_at u) 0 words emitted_stubs.functions stubs_fit.row) in
-    let second = wider (unit_at u + 4 * 0) (unit_at u) (unit_at u + 4 * length u.code) (names_at u) own (omega arith) end (row_of (unit_at u) 0 (length u.code) u.functions can.row) in
-    row_joined (code_at u) (unit_at u) (names_at u) stubs own first second
+    let second = wider (unit_at u + 4 * 0) (unit_at u) (unit_at u + 4 * length u.code) limit own (omega arith) end (row_of (unit_at u) 0 (length u.code) u.functions can.row) in
+    row_joined (code_at u) (unit_at u) limit stubs own first second
+
+row : (u : ListedUnit) → IsLinkable u → InRow (code_at u) (names_at u) (all_functions u)
+row u can =
+    wider (code_at u) (code_at u) (code_at u + 4 * length (all_code u)) (names_at u) (all_functions u) (omega arith)
+    (omega (arith, code_end u, code_length (all_code u))) (code_row u can)
 
 -- where the tables, frames and header stand
 record Order (u : ListedUnit) : Type 0 where

@@ -8,3 +8,8 @@ pub mod Row
 pub mod Writers
 pub mod Handed
 pub mod Lists
+pub mod Places
+pub mod ReadMemory
+pub mod ReadFrames
+pub mod ReadTables
+pub mod Runs

@@ -6,7 +6,7 @@ use Rattle.std.specs.Int.{w32, to_le_bytes}
 use Rattle.std.proofs.lemmas.Bool.Decides.{nat_tests}
 use Rattle.std.proofs.lemmas.List.{get_or-append-add}
 use Rattle.eh_bytes.specs.Listed.{ListedUnit}
-use Rattle.eh_bytes.specs.Memory.{Part, Memory, covers, part_with}
+use Rattle.eh_bytes.specs.Memory.{Part, Memory, covers, part_with, is_code}
 use Rattle.eh_write.specs.WrittenHeader.{header_bytes}
 use Rattle.elf_image.specs.CanWrite.{size_of, byte_of, CanWriteImage, CanRunImage}
 use Rattle.linear_forms.specs.Stub.{terminating}
@@ -60,14 +60,12 @@ records_part u = part_at (records_at u) false false (records_bytes (code_at u) (
 abbrev code_part : ListedUnit → Part
 code_part u = part_at (code_at u) false true (flat_map (to_le_bytes w32) (all_code u))
 
-abbrev constants_part : ListedUnit → Part
+abbrev pub constants_part : ListedUnit → Part
 constants_part u = part_at (names_at u) false false (constant_bytes u)
 
--- the last segment has the header's first bytes
-found : (u : ListedUnit) (n : ℕ) → n < 12 → part_with (memory_for u) (header_at u + n) ≡ Some (constants_part u)
-found u n little =
-    let a = header_at u + n in
-    let behind : names_at u ≤ a = omega (arith, header_place u) in
+-- the last segment has its own addresses
+pub last_found : (u : ListedUnit) (a : ℕ) → names_at u ≤ a → a < names_at u + length (constant_bytes u) → part_with (memory_for u) a ≡ Some (constants_part u)
+last_found u a behind inside =
     let g = globals_part u in
     let r = records_part u in
     let c = code_part u in
@@ -75,15 +73,23 @@ found u n little =
     there g (r ∷ c ∷ k ∷ []) a (passed g a (omega (arith, globals_end u, records_end u, code_end u, behind)))
     ∙ (there r (c ∷ k ∷ []) a (passed r a (omega (arith, records_end u, code_end u, behind)))
     ∙ (there c (k ∷ []) a (passed c a (omega (arith, code_end u, behind)))
-    ∙ here k [] a (covered k a behind (omega (arith, constants_end u, little)))))
+    ∙ here k [] a (covered k a behind inside)))
+
+-- also the header's first bytes
+found : (u : ListedUnit) (n : ℕ) → n < 12 → part_with (memory_for u) (header_at u + n) ≡ Some (constants_part u)
+found u n little = last_found u (header_at u + n) (omega (arith, header_place u)) (omega (arith, constants_end u, little))
+
+-- the words of the code are code
+pub code_found : (u : ListedUnit) (a : ℕ) → code_at u ≤ a → a < code_at u + 4 * length (all_code u) → is_code (memory_for u) a ≡ true
+code_found u a low high =
+    ap (λ t. t || list_any (λ part. part.exec && covers part a) (constants_part u ∷ []))
+    (covered (code_part u) a low (omega (arith, high, code_length (all_code u))))
 
 pub can_write : (u : ListedUnit) → IsLinkable u → CanWriteImage (contents_for u)
 can_write u can =
     let first : stub_first terminating ≡ 4 = refl in
     let a = code_at u + 4 * stub_first terminating in
-    let low : code_at u ≤ a = omega arith in
-    let high : a < code_at u + length (flat_map (to_le_bytes w32) (all_code u))
-    = omega (arith, first, code_length (all_code u), length-append emitted_stubs.code u.code, stub_words) in
+    let high : a < code_at u + 4 * length (all_code u) = omega (arith, first, length-append emitted_stubs.code u.code, stub_words) in
     let place : header_at u ≡ header_at u + 0 = omega arith in
     record {
       some = omega arith;
@@ -92,7 +98,7 @@ can_write u can =
       small = omega (arith, size u can);
       frames = subst (λ o. IsSomeAnd o (λ _. ⊤)) (sym (ap (part_with (memory_for u)) place ∙ found u 0 (omega arith))) tt;
       aligned = omega (arith, first);
-      code = ap (λ t. t || list_any (λ part. part.exec && covers part a) (constants_part u ∷ [])) (covered (code_part u) a low high);
+      code = code_found u a (omega arith) high;
     }
 
 -- the second encoding of the header's table is 3

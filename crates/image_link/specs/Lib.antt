@@ -1,3 +1,4 @@
 pub mod Laid
 pub mod Laws
 pub mod Standing
+pub mod Runs

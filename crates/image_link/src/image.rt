@@ -8,6 +8,7 @@ ghost use Rattle.image_forms.specs.Linked.{linked, contents_for};
 ghost use Rattle.image_forms.specs.Linkable.{IsLinkable};
 ghost use Rattle.image_link.specs.Standing.{AreConstants, ListsStand};
 ghost use Rattle.image_link.specs.Laid.{IsLaid};
+ghost use Rattle.image_link.specs.Runs.{RunsUnit};
 
 use crate::NoMemory;
 use crate::frames::put_frames;
@@ -122,11 +123,13 @@ fn parts_of(alloc: Global, unit: &Emitted) -> Result<ImageParts, NoMemory>
 /// The same unit gives the same bytes. Where code would stand at or above 2^30, memory is wanting. Of a
 /// unit that is within the bounds of its source the file is that of an image to run: `read_elf` refuses
 /// nothing of it, and reads these parts; and in each memory that has them the tables, the frames and
-/// their header stand for the lists that `emitted` has.
+/// their header stand for the lists that `emitted` has. So the image is clean and may run, with the
+/// frame and the table of each function.
 pub fn link(alloc: Global, emitted: &Emitted) -> Result<Vec<u8>, NoMemory>
     ensures bytes { IfOk result (λ file. file.items ≡ linked (listed_unit emitted.now)) }
     ensures stands { IsLinkable (listed_unit emitted.now) → OnOk result (WritesImage (contents_for (listed_unit emitted.now)) true (linked (listed_unit emitted.now))) }
     ensures lists { IsLinkable (listed_unit emitted.now) → OnOk result (ListsStand (listed_unit emitted.now)) }
+    ensures runs { IsLinkable (listed_unit emitted.now) → IfOk result (λ file. RunsUnit (listed_unit emitted.now) file.items) }
     ensures few { IsLinkable (listed_unit emitted.now) → IfOk result (λ file. length file.items ≤ 768 * emitted.now.tokens + 131072) }
 {
     let parts = parts_of(alloc, emitted)?;
