@@ -1,0 +1,16 @@
+pub mod Bound
+pub mod Budget
+pub mod Classes
+pub mod Counted
+pub mod Expressions
+pub mod Functions
+pub mod Operations
+pub mod Parts
+pub mod Regions
+pub mod Rows
+pub mod Specials
+pub mod Spelled
+pub mod Statements
+pub mod Sums
+pub mod Three
+pub mod Units

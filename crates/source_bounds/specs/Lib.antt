@@ -1,0 +1,5 @@
+pub mod LeastTokens
+pub mod NamedTypes
+pub mod OperationWords
+pub mod RegionWords
+pub mod WordLaws
