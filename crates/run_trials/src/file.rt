@@ -8,7 +8,7 @@ pub const START: u64 = 0x1_0100;
 const STUB: u64 = 0x1_0180;
 
 /// The header of the frames.
-const HEADER: u64 = 0x1_0248;
+pub const HEADER: u64 = 0x1_0248;
 
 // The stub of terminate, which aborts.
 static ABORTS: &[u8] = b"\x93\x08\0\x01\x73\0\0\0";

@@ -18,4 +18,6 @@ mod refusals;
 #[cfg(test)]
 mod runs;
 #[cfg(test)]
+mod segments;
+#[cfg(test)]
 mod write_faults;
