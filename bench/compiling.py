@@ -90,4 +90,5 @@ def main():
             print(f"{name:9}{turns:8}{steps:10}{steps / turns:8.1f}")
 
 
-main()
+if __name__ == "__main__":
+    main()
