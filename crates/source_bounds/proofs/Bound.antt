@@ -79,7 +79,7 @@ body_kept : (env : Environment) (sc : Scope) (o : Option Statements) → body_to
 body_kept env sc None = refl
 body_kept env sc (Some ss) = omega (arith, statements_kept env sc ss)
 
-function_kept : (head : Environment) (heads : Scope) (env : Environment) (sc : Scope) (b : Bound) (f : Function) →
+pub function_kept : (head : Environment) (heads : Scope) (env : Environment) (sc : Scope) (b : Bound) (f : Function) →
     function_tokens (resolve_function head heads env sc b f) ≡ function_tokens f
 function_kept head heads env sc b f =
     let there = declare_params env f.parameters sc in

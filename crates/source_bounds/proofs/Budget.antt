@@ -13,11 +13,11 @@ pub both_all : {A : Type 0} → (P : A → Type 0) (xs ys : List A) → AllByRec
 both_all P [] ys h k = k
 both_all P (x ∷ xs) ys h k = (h.0, both_all P xs ys h.1 k)
 
-first_all : {A : Type 0} → (P : A → Type 0) (xs ys : List A) → AllByRecursion P (xs ++ ys) → AllByRecursion P xs
+pub first_all : {A : Type 0} → (P : A → Type 0) (xs ys : List A) → AllByRecursion P (xs ++ ys) → AllByRecursion P xs
 first_all P [] ys h = tt
 first_all P (x ∷ xs) ys h = (h.0, first_all P xs ys h.1)
 
-second_all : {A : Type 0} → (P : A → Type 0) (xs ys : List A) → AllByRecursion P (xs ++ ys) → AllByRecursion P ys
+pub second_all : {A : Type 0} → (P : A → Type 0) (xs ys : List A) → AllByRecursion P (xs ++ ys) → AllByRecursion P ys
 second_all P [] ys h = h
 second_all P (x ∷ xs) ys h = second_all P xs ys h.1
 

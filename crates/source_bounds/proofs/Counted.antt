@@ -16,14 +16,14 @@ use Rattle.source_bounds.proofs.Regions.{functions_are_short}
 use Rattle.source_bounds.proofs.Units.{code_words, checked_fine}
 
 -- each piece counts
-counted_once : (xs : List Piece) → length xs ≤ counted xs
+pub counted_once : (xs : List Piece) → length xs ≤ counted xs
 counted_once [] = omega arith
 counted_once (x ∷ xs) = omega (arith, counted_once xs)
 
 nowhere : Target → ℤ
 nowhere t = pos 0
 
-pieces_counted : (r : Routine) → length (routine_pieces r) ≡ routine_words r
+pub pieces_counted : (r : Routine) → length (routine_pieces r) ≡ routine_words r
 pieces_counted r = sym (words_stand.pieces (routine_places nowhere 0 r) 0 (routine_pieces r)) ∙ words_stand.routine nowhere 0 r
 
 all_counted_once : (rs : List Routine) → all_words rs ≤ counted_all rs

@@ -31,7 +31,7 @@ all_alike n j [] = omega arith
 all_alike n j (t ∷ types) = omega (arith, all_alike n (j + 1) types)
 
 -- each initialiser is that of one part at most
-given_tokens : (p : Checked) (is : List Initialiser) (j n : ℕ) → sum_from (λ i. tokens_given (initialiser_for p is i)) j n ≤ initialisers_tokens is
+pub given_tokens : (p : Checked) (is : List Initialiser) (j n : ℕ) → sum_from (λ i. tokens_given (initialiser_for p is i)) j n ≤ initialisers_tokens is
 given_tokens p [] j n = nothing j n
   where
     nothing : (j n : ℕ) → sum_from (λ i. 0) j n ≤ 0

@@ -178,3 +178,7 @@ checked_named p h =
     let all = program_named h.program in
     subst (λ q. AllNamed (length (type_rows q)) q.classes q.functions) (sym h.resolved)
     (subst (λ n. AllNamed n (checked h.program).classes (checked h.program).functions) (sym (class_rows_counted h.program)) all)
+
+-- int and each class have a row
+pub rows_counted : (p : Checked) → IsChecked p → length (type_rows p) ≡ length p.classes + 1
+rows_counted p h = subst (λ q. length (type_rows q) ≡ length q.classes + 1) (sym h.resolved) (class_rows_counted h.program)

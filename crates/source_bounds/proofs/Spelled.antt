@@ -191,7 +191,7 @@ result_spelled Method t after = omega (arith, type_spelled t after)
 result_spelled Constructor t after = omega arith
 result_spelled Destructor t after = omega arith
 
-function_spelled : (f : Function) (after : List Piece) → IsFunction f → function_tokens f + length after ≤ length (spell_function f after)
+pub function_spelled : (f : Function) (after : List Piece) → IsFunction f → function_tokens f + length after ≤ length (spell_function f after)
 function_spelled f after h =
     let body = spell_body f.body after in
     let inits = spell_initialisers f.initialisers body in

@@ -63,23 +63,23 @@ with_more : {rows m : ℕ} {fs : List RegionFunction} (k : ℕ) → FineFunction
 with_more k h le = record { few = h.few; named = h.named; words = omega (arith, h.words, le) }
 
 -- a body has its statements' tokens, and one more
-body_counted : (o : Option Statements) → statements_tokens (statements_in o) + 1 ≤ body_tokens o
+pub body_counted : (o : Option Statements) → statements_tokens (statements_in o) + 1 ≤ body_tokens o
 body_counted None = omega arith
 body_counted (Some ss) = omega arith
 
-specification_counted : (o : Option (List Ty)) → specification_words o ≤ 128 * specification_tokens o
+pub specification_counted : (o : Option (List Ty)) → specification_words o ≤ 128 * specification_tokens o
 specification_counted None = omega arith
 specification_counted (Some types) = omega arith
 
-many_parameters : (n : ℕ) → 15 ≤ n → 29 ≤ parameters_tokens n
+pub many_parameters : (n : ℕ) → 15 ≤ n → 29 ≤ parameters_tokens n
 many_parameters zero h = absurd (omega (arith, h))
 many_parameters (suc n) h = omega (arith, h)
 
-not_small : (n : ℕ) → nat_lt n 15 ≡ false → 15 ≤ n
+pub not_small : (n : ℕ) → nat_lt n 15 ≡ false → 15 ≤ n
 not_small n e = grind (arith, nat_tests, e)
 
 -- what a kind of function does beside its statements is paid for, but for the extra words
-kind_counted : (k : FuncKind) (m : ℕ) (f : Function) → m ≤ 256 →
+pub kind_counted : (k : FuncKind) (m : ℕ) (f : Function) → m ≤ 256 →
     kind_words k m f + 14 ≤ 128 * (parameters_tokens (length f.parameters) + initialisers_tokens f.initialisers + 4) + extra_words k m (length f.parameters)
 kind_counted Plain m f h = omega arith
 kind_counted Method m f h = omega arith
@@ -90,6 +90,10 @@ kind_counted Constructor m f h = go (nat_lt (length f.parameters) 15) refl
         16 * m + 32 * initialisers_tokens f.initialisers + 14 ≤ 128 * (parameters_tokens (length f.parameters) + initialisers_tokens f.initialisers + 4) + (if b then 16 * m else 0)
     go true e = omega arith
     go false e = omega (arith, h, many_parameters (length f.parameters) (not_small (length f.parameters) e))
+
+pub base_counted : (o : Option Name) → (length (base_part o) ≤ 1) × (2 * length (base_part o) ≤ base_tokens o)
+base_counted None = (omega arith, omega arith)
+base_counted (Some b) = (omega arith, omega arith)
 
 module _ (rows : ℕ) (p : Checked) (layout : Layout) where
   declared_fine : (is_member is_main : Bool) (k : ℕ) (f : Function) {m : ℕ} (fs : List RegionFunction) → FunctionNamesRows rows f → length (parts_of p k) ≤ 256 → FineFunctions rows m fs →
@@ -123,10 +127,6 @@ module _ (rows : ℕ) (p : Checked) (layout : Layout) where
   methods_fine k (f ∷ fs) small h =
       with_more (128 * functions_tokens (f ∷ fs) + extras (length (parts_of p k)) (f ∷ fs))
       (declared_fine true false k f (map (declared_function p layout true false k) fs) h.0 small (methods_fine k fs small h.1)) (omega arith)
-
-  base_counted : (o : Option Name) → (length (base_part o) ≤ 1) × (2 * length (base_part o) ≤ base_tokens o)
-  base_counted None = (omega arith, omega arith)
-  base_counted (Some b) = (omega arith, omega arith)
 
   parts_counted : (c : Class) → 369 * length (class_parts c) + 30 ≤ 128 * (3 * length c.members + base_tokens c.base + 5)
   parts_counted c =
@@ -170,12 +170,12 @@ shifted g j (suc n) =
     let next : suc j + 1 ≡ suc (j + 1) = omega arith in
     ap (λ i. g (suc j) + sum_from g i n) next ∙ ap (λ s. g (suc j) + s) (shifted g (j + 1) n)
 
-summed : (cs : List Class) → sum_from (λ i. class_tokens (unwrap_or (slice_get cs i) no_class)) 0 (length cs) ≡ classes_tokens cs
+pub summed : (cs : List Class) → sum_from (λ i. class_tokens (unwrap_or (slice_get cs i) no_class)) 0 (length cs) ≡ classes_tokens cs
 summed [] = refl
 summed (c ∷ cs) =
     ap (λ s. class_tokens c + s) (shifted (λ i. class_tokens (unwrap_or (slice_get (c ∷ cs) i) no_class)) 0 (length cs) ∙ summed cs)
 
-at_or : {A : Type 0} → (P : A → Type 0) (xs : List A) (i : ℕ) (other : A) → AllByRecursion P xs → P other → P (unwrap_or (slice_get xs i) other)
+pub at_or : {A : Type 0} → (P : A → Type 0) (xs : List A) (i : ℕ) (other : A) → AllByRecursion P xs → P other → P (unwrap_or (slice_get xs i) other)
 at_or P [] zero other h k = k
 at_or P [] (suc i) other h k = k
 at_or P (x ∷ xs) zero other h k = h.0
@@ -187,7 +187,8 @@ no_parts : (p : Program) → length (parts_of (checked p) 0) ≡ 0
 unfolding checked
 no_parts p = refl
 
-program_tokens : (p : Program) → classes_tokens (checked p).classes + functions_tokens (checked p).functions ≤ declarations_tokens p.declarations + 5
+program_tokens : (p : Program) →
+    classes_tokens (checked p).classes + functions_tokens (checked p).functions + 3 * length (checked p).globals ≤ declarations_tokens p.declarations + 5
 unfolding checked
 program_tokens p = let kept = declarations_kept (at_the_start p.declarations) p.declarations in omega (arith, kept)
 
@@ -195,13 +196,17 @@ kept_tokens : (p : Program) → (checked p).program.tokens ≡ p.tokens
 unfolding checked
 kept_tokens p = refl
 
-checked_tokens : (p : Checked) → IsChecked p → classes_tokens p.classes + functions_tokens p.functions ≤ p.program.tokens + 5
+pub checked_tokens : (p : Checked) → IsChecked p → classes_tokens p.classes + functions_tokens p.functions + 3 * length p.globals ≤ p.program.tokens + 5
 checked_tokens p h =
     let tree = h.tree in
     let spelled = source_spelled h.tokens tree.written tree.grammatical tree.spelled in
     let same : declarations_tokens h.program.declarations ≡ declarations_tokens _ = ap declarations_tokens (sym tree.declarations) in
-    subst (λ q. classes_tokens q.classes + functions_tokens q.functions ≤ q.program.tokens + 5) (sym h.resolved)
+    subst (λ q. classes_tokens q.classes + functions_tokens q.functions + 3 * length q.globals ≤ q.program.tokens + 5) (sym h.resolved)
     (omega (arith, program_tokens h.program, same, spelled, kept_tokens h.program, tree.tokens_counted))
+
+-- a function of no class has no parts to build
+pub no_own_parts : (p : Checked) → IsChecked p → length (parts_of p 0) ≡ 0
+no_own_parts p h = subst (λ q. length (parts_of q 0) ≡ 0) (sym h.resolved) (no_parts h.program)
 
 pub checked_fine : CheckedClassesFit → (p : Checked) (l : Layout) → IsChecked p →
     FineFunctions (length (type_rows p)) (128 * p.program.tokens + 640) (regions_of p l).functions
@@ -210,12 +215,11 @@ checked_fine fit p l h =
     let named = checked_named p h in
     let parts = checked_parts fit p h in
     let few = checked_few p h in
-    let none : length (parts_of p 0) ≡ 0 = subst (λ q. length (parts_of q 0) ≡ 0) (sym h.resolved) (no_parts h.program) in
     let classes : (i : ℕ) → ClassFits rows p l (class_at p i) = λ i. record {
       parts = at_or (λ c. length (class_parts c) ≤ 256) p.classes i no_class parts (omega arith);
       named = at_or (λ c. AllByRecursion (FunctionNamesRows rows) c.functions) p.classes i no_class named.methods tt;
       few = at_or FewSpecials p.classes i no_class few (record { constructors = omega arith; destructors = omega arith });
     } in
     with_more (128 * p.program.tokens + 640)
-    (both_functions (own_functions p l 0 p.functions) (functions_of_classes p l 0 (length p.classes)) (own_fine rows p l 0 p.functions none named.own)
+    (both_functions (own_functions p l 0 p.functions) (functions_of_classes p l 0 (length p.classes)) (own_fine rows p l 0 p.functions (no_own_parts p h) named.own)
     (classes_fine rows p l 0 (length p.classes) classes)) (omega (arith, checked_tokens p h, summed p.classes))

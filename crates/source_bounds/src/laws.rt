@@ -1,5 +1,10 @@
 //! Laws of what is emitted for checked programs: calls of no effect, whose contracts state what holds of each program.
+ghost use Rattle.source_bounds.specs.Laws.{BadExceptionIsThere, BasesAreThere, CheckedIsLinkable, FunctionsFit, FunctionsStandInRow, RoomIsSmall, TokensAreFew, UnitsAreBounded};
 ghost use Rattle.source_bounds.specs.WordLaws.{FunctionsAreShort, OperationsAreShort, ProgramsAreShort};
+
+use landing_pads::laws::{frames_of_checked_fit, tables_are_short};
+use region_ir::laws::checked_bases_stand_before;
+use rv64_emit::laws::{functions_are_apart, moves_fit, tables_are_good};
 
 /// An operation of linear code has no more words than is said, whatever its function's frame.
 pub fn operations_are_short()
@@ -15,3 +20,64 @@ pub fn functions_are_short()
 pub fn programs_are_short()
     ensures { ProgramsAreShort }
 {}
+
+/// The unit of a checked program keeps the bounds of units: its frames are small, and its words few, as they are counted.
+pub fn units_are_bounded()
+    ensures { UnitsAreBounded }
+{
+    frames_of_checked_fit();
+}
+
+/// A checked program has at most 65,536 tokens.
+pub fn tokens_are_few()
+    ensures { TokensAreFew }
+{}
+
+/// The base of a type's record is the record of a type.
+pub fn bases_are_there()
+    ensures { BasesAreThere }
+{
+    checked_bases_stand_before();
+}
+
+/// The record of `std::bad_exception` is there, behind that of int.
+pub fn bad_exception_is_there()
+    ensures { BadExceptionIsThere }
+{}
+
+/// The functions of a unit stand in the order of their words, no two of them share a word, and all lie in its code.
+pub fn functions_stand_in_row()
+    ensures { FunctionsStandInRow }
+{
+    functions_are_apart();
+}
+
+/// Each function of a checked program has a word, and its table and its moves are as writers need them.
+pub fn functions_fit()
+    ensures { FunctionsFit }
+{
+    tables_are_good();
+    moves_fit();
+    frames_of_checked_fit();
+}
+
+/// A checked program takes at most 768 bytes of an image for each of its tokens, and 65,536 beside them.
+pub fn room_is_small()
+    ensures { RoomIsSmall }
+{
+    tables_are_short();
+    tables_are_good();
+}
+
+/// What is emitted for a checked program is what a linker needs for a clean and runnable image.
+pub fn checked_is_linkable()
+    ensures { CheckedIsLinkable }
+{
+    programs_are_short();
+    tokens_are_few();
+    bases_are_there();
+    bad_exception_is_there();
+    functions_stand_in_row();
+    functions_fit();
+    room_is_small();
+}
