@@ -7,19 +7,8 @@ use Rattle.linear_forms.specs.Exits.{inner, beyond, outs_of, outs_of_all, outs_o
 use Rattle.linear_forms.specs.Filters.{table_type, type_uses, type_uses_all, type_uses_clauses}
 use Rattle.source_bounds.specs.OperationWords.{value_words, op_words}
 use Rattle.source_bounds.specs.RegionWords.{cleanup_words, region_words, all_words, clauses_words, HasFewWays, AllHaveFewWays, ClausesHaveFewWays}
+use Rattle.source_bounds.proofs.Lists.{both_all, first_all, second_all}
 use Rattle.source_bounds.proofs.Three.{IsOneOf, at_most_three}
-
-pub both_all : {A : Type 0} → (P : A → Type 0) (xs ys : List A) → AllByRecursion P xs → AllByRecursion P ys → AllByRecursion P (xs ++ ys)
-both_all P [] ys h k = k
-both_all P (x ∷ xs) ys h k = (h.0, both_all P xs ys h.1 k)
-
-pub first_all : {A : Type 0} → (P : A → Type 0) (xs ys : List A) → AllByRecursion P (xs ++ ys) → AllByRecursion P xs
-first_all P [] ys h = tt
-first_all P (x ∷ xs) ys h = (h.0, first_all P xs ys h.1)
-
-pub second_all : {A : Type 0} → (P : A → Type 0) (xs ys : List A) → AllByRecursion P (xs ++ ys) → AllByRecursion P ys
-second_all P [] ys h = h
-second_all P (x ∷ xs) ys h = second_all P xs ys h.1
 
 -- An exit of what d regions hold goes to the end of the outermost one, to the end of the innermost loop's region, which has the number i
 -- from outside, or to the end of what that holds.

@@ -1,6 +1,6 @@
 -- How many bytes an exception table and a frame entry take at most.
 use Rattle.std.proofs.Common.{◌≡◌, ℕ, ℤ, zero, suc, ◌+◌, ◌-◌, ◌*◌, ◌/◌, ◌%◌, ◌<◌, ◌≤◌, ◌==◌, Bool, true, false, nat_lt, List, [], ◌∷◌, ◌++◌, length, Option, Some, None, refl, arith, if◌then◌else◌, length-append}
-use Rattle.std.specs.Prelude.{pos, negsuc, flat_map, reverse, replicate, slice_get, unwrap_or}
+use Rattle.std.specs.Prelude.{pos, negsuc, flat_map, reverse, replicate}
 use Rattle.std.specs.List.{AllByRecursion}
 use Rattle.std.specs.Int.{w32, to_le_bytes}
 use Rattle.std.proofs.lemmas.Bool.Decides.{nat_tests}
@@ -10,6 +10,7 @@ use Rattle.eh_bytes.specs.Listed.{ListedTable}
 use Rattle.eh_bytes.specs.Spelling.{uleb_spelling, uleb_spelling_within, sleb_spelling, sleb_spelling_within, fits_seven, low_seven, without_seven}
 use Rattle.eh_write.specs.Distance.{distance_bytes}
 use Rattle.eh_write.specs.Written.{displacement, chain_bytes, action_bytes, actions_from, action_of, site_bytes, sites_bytes, entry_bytes, entries_from, lists_bytes, body_bytes, is_aligned, offset_from, base_offset, least_offset, front_bytes, table_bytes}
+use Rattle.source_bounds.proofs.Lists.{at_or}
 
 -- numbers
 
@@ -104,16 +105,6 @@ actions_below n [] m h = tt
 actions_below n (c ∷ cs) m h =
     let split = length-append (chain_bytes c) (action_bytes cs) in
     (omega (arith, h), actions_below (n + length (chain_bytes c)) cs m (omega (arith, h, split)))
-
-at_or : {A : Type 0} → (P : A → Type 0) (xs : List A) (i : ℕ) (other : A) → AllByRecursion P xs → P other → P (unwrap_or (slice_get xs i) other)
-at_or P [] zero other h k = k
-at_or P [] (suc i) other h k = k
-at_or P (x ∷ xs) zero other h k = h.0
-at_or P (x ∷ xs) (suc i) other h k = at_or P xs i other h.1 k
-
-action_below : (actions : List ℕ) (chain : Option ℕ) (m : ℕ) → AllByRecursion (λ a. a ≤ m) actions → action_of actions chain ≤ m
-action_below actions None m h = omega arith
-action_below actions (Some c) m h = at_or (λ a. a ≤ m) actions c 0 h (omega arith)
 
 -- a site in the first two million bytes of a function
 pub record IsNearSite (s : ListSite) : Type 0 where

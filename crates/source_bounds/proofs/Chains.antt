@@ -19,7 +19,7 @@ use Rattle.linear_forms.proofs.Integers.{equal_is_same}
 use Rattle.landing_pads.proofs.Sited.{AllSites, both_covers, all_sited}
 use Rattle.landing_pads.proofs.Covered.{Inside, AllInside, ClausesInside, region_covered}
 use Rattle.emission_forms.specs.Routine.{is_empty, has_chain, chains_behind, chains_of}
-use Rattle.source_bounds.proofs.Budget.{both_all, first_all, second_all}
+use Rattle.source_bounds.proofs.Lists.{both_all, first_all, second_all}
 
 -- when chains are the same
 

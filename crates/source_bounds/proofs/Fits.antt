@@ -19,8 +19,9 @@ use Rattle.emission_forms.specs.Routine.{listed_routine, listed_routines, routin
 use Rattle.image_forms.specs.Function.{SiteIsInside, FunctionFits}
 use Rattle.rv64_emit.specs.Laws.{AllMovesFit, MovesFit, SiteIsInside as SiteInside, TableIsGood, TablesAreGood}
 use Rattle.source_bounds.specs.Laws.{FunctionsFit}
-use Rattle.source_bounds.proofs.Budget.{AreNamed, both_all}
+use Rattle.source_bounds.proofs.Budget.{AreNamed}
 use Rattle.source_bounds.proofs.Units.{checked_fine}
+use Rattle.source_bounds.proofs.Lists.{both_all}
 
 sites_inside : (words : ℕ) (sites : List ListSite) → AllByRecursion (SiteInside words) sites → AllByRecursion (SiteIsInside (4 * words)) sites
 sites_inside words [] h = tt

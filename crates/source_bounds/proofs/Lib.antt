@@ -33,3 +33,8 @@ pub mod TabledStatements
 pub mod Three
 pub mod Types
 pub mod Units
+pub mod RegisterCode
+pub mod Registers
+pub mod RegisterStatements
+pub mod RegisterUnits
+pub mod Lists

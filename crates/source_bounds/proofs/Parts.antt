@@ -6,7 +6,7 @@ use Rattle.cxx_ast.specs.Checked.{IsChecked}
 use Rattle.scope_rules.specs.Class.{ObjectType, int_type, class_type}
 use Rattle.region_forms.specs.Layout.{ClassLayout, layout_at, size_in, sizes_in, size_of_parts, class_parts, class_layout}
 use Rattle.class_layout.specs.Fit.{FitBehind, CheckedClassesFit}
-use Rattle.source_bounds.proofs.Budget.{both_all}
+use Rattle.source_bounds.proofs.Lists.{both_all}
 
 abbrev Large : List ClassLayout → Type 0
 Large laid = AllByRecursion (λ x. 4 ≤ x.size) laid

@@ -18,7 +18,6 @@ use Rattle.source_bounds.specs.LeastTokens.{initialisers_tokens, parameters_toke
 use Rattle.source_bounds.specs.NamedTypes.{FunctionNamesRows}
 use Rattle.source_bounds.specs.RegionWords.{region_words, HasFewWays}
 use Rattle.source_bounds.specs.TableWeights.{sites_in, guards_in}
-use Rattle.source_bounds.proofs.Budget.{both_all}
 use Rattle.source_bounds.proofs.Functions.{extra_words, whole_body, default_whole, copy_whole, destructor_whole}
 use Rattle.source_bounds.proofs.Rows.{checked_named}
 use Rattle.source_bounds.proofs.Parts.{checked_parts}
@@ -26,7 +25,8 @@ use Rattle.source_bounds.proofs.Classes.{FewSpecials, checked_few, extras, all_e
 use Rattle.source_bounds.proofs.Limits.{checked_short}
 use Rattle.source_bounds.proofs.Sums.{sum_from}
 use Rattle.source_bounds.proofs.TabledFunctions.{kind_sites, specification_sites, specification_guards, body_table, default_table, copy_table, destructor_table}
-use Rattle.source_bounds.proofs.Units.{many_parameters, not_small, body_counted, specification_counted, kind_counted, base_counted, at_or, summed, no_own_parts}
+use Rattle.source_bounds.proofs.Units.{many_parameters, not_small, body_counted, specification_counted, kind_counted, base_counted, summed, no_own_parts}
+use Rattle.source_bounds.proofs.Lists.{both_all, at_or}
 
 -- a function whose body is not too large
 pub record IsRoomy (f : RegionFunction) : Type 0 where

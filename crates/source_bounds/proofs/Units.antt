@@ -22,7 +22,7 @@ use Rattle.class_layout.specs.Fit.{CheckedClassesFit}
 use Rattle.source_bounds.specs.LeastTokens.{initialisers_tokens, statements_tokens, parameters_tokens, specification_tokens, body_tokens, function_tokens, functions_tokens, base_tokens, class_tokens, classes_tokens, declarations_tokens}
 use Rattle.source_bounds.specs.NamedTypes.{FunctionNamesRows}
 use Rattle.source_bounds.specs.RegionWords.{region_words, HasFewWays}
-use Rattle.source_bounds.proofs.Budget.{Whole, AreNamed, both_all}
+use Rattle.source_bounds.proofs.Budget.{Whole, AreNamed}
 use Rattle.source_bounds.proofs.Functions.{specification_words, kind_words, extra_words, whole_body, default_whole, copy_whole, destructor_whole}
 use Rattle.source_bounds.proofs.Spelled.{source_spelled}
 use Rattle.source_bounds.proofs.Bound.{declarations_kept}
@@ -30,6 +30,7 @@ use Rattle.source_bounds.proofs.Rows.{checked_named}
 use Rattle.source_bounds.proofs.Parts.{checked_parts}
 use Rattle.source_bounds.proofs.Classes.{FewSpecials, checked_few, extras, all_extras}
 use Rattle.source_bounds.proofs.Sums.{sum_from}
+use Rattle.source_bounds.proofs.Lists.{both_all, at_or}
 
 -- the words of functions, with ten beside each body
 abbrev pub code_words : List RegionFunction → ℕ
@@ -174,12 +175,6 @@ pub summed : (cs : List Class) → sum_from (λ i. class_tokens (unwrap_or (slic
 summed [] = refl
 summed (c ∷ cs) =
     ap (λ s. class_tokens c + s) (shifted (λ i. class_tokens (unwrap_or (slice_get (c ∷ cs) i) no_class)) 0 (length cs) ∙ summed cs)
-
-pub at_or : {A : Type 0} → (P : A → Type 0) (xs : List A) (i : ℕ) (other : A) → AllByRecursion P xs → P other → P (unwrap_or (slice_get xs i) other)
-at_or P [] zero other h k = k
-at_or P [] (suc i) other h k = k
-at_or P (x ∷ xs) zero other h k = h.0
-at_or P (x ∷ xs) (suc i) other h k = at_or P xs i other h.1 k
 
 -- a checked program
 

@@ -6,3 +6,6 @@ pub mod TableWeights
 pub mod WordLaws
 pub mod Compiled
 pub mod Laws
+pub mod RegisterWeights
+pub mod BuiltinCalls
+pub mod RegisterLaws

@@ -1,5 +1,6 @@
 //! Laws of what is emitted for checked programs: calls of no effect, whose contracts state what holds of each program.
 ghost use Rattle.source_bounds.specs.Laws.{BadExceptionIsThere, BasesAreThere, CheckedIsLinkable, FunctionsFit, FunctionsStandInRow, RoomIsSmall, TokensAreFew, UnitsAreBounded};
+ghost use Rattle.source_bounds.specs.RegisterLaws.{RegistersSuffice, ValuesNeedFew};
 ghost use Rattle.source_bounds.specs.WordLaws.{FunctionsAreShort, OperationsAreShort, ProgramsAreShort};
 
 use landing_pads::laws::{frames_of_checked_fit, tables_are_short};
@@ -81,3 +82,13 @@ pub fn checked_is_linkable()
     functions_fit();
     room_is_small();
 }
+
+/// An expression of at most 2,000 tokens, as a function has them at most, becomes a value that needs at most 11 registers.
+pub fn values_need_few()
+    ensures { ValuesNeedFew }
+{}
+
+/// No operation of a checked program needs more registers than there are, where no call of a built-in function has more than two arguments.
+pub fn registers_suffice()
+    ensures { RegistersSuffice }
+{}
