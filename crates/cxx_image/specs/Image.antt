@@ -2,11 +2,8 @@
 -- and linked with the runtime's own functions.
 use Rattle.std.specs.Prelude.{ℕ, List}
 use Rattle.cxx_ast.specs.Plain.{Checked}
-use Rattle.region_forms.specs.Layout.{layout_of}
-use Rattle.region_forms.specs.LowerProgram.{regions_of}
-use Rattle.linear_forms.specs.Unit.{unit_of}
-use Rattle.emission_forms.specs.Emitted.{emitted_of}
 use Rattle.image_forms.specs.Linked.{linked}
+use Rattle.source_bounds.specs.Compiled.{emitted_for}
 
 abbrev pub image_for : Checked → List ℕ
-image_for p = linked (emitted_of (unit_of (regions_of p (layout_of p))))
+image_for p = linked (emitted_for p)

@@ -3,6 +3,8 @@ ghost use Rattle.std.specs.Prelude.{◌≡◌, IfOk};
 ghost use Rattle.cxx_ast.specs.Checked.{IsChecked};
 ghost use Rattle.cxx_ast.specs.View.{checked_of};
 ghost use Rattle.cxx_image.specs.Image.{image_for};
+ghost use Rattle.image_link.specs.Runs.{RunsUnit};
+ghost use Rattle.source_bounds.specs.Compiled.{emitted_for};
 
 use crate::NoMemory;
 use class_layout::layout;
@@ -11,14 +13,17 @@ use image_link::link;
 use landing_pads::pads;
 use region_ir::regions;
 use rv64_emit::emit;
+use source_bounds::laws::checked_is_linkable;
 use std::alloc::Global;
 
-/// The bytes of the image of a checked program: an ELF file to run, the same for the same program. A number that does not fit
-/// its field is want of memory.
+/// The bytes of the image of a checked program: an ELF file that is clean and can be run, the same for the same program. A number
+/// that does not fit its field is want of memory.
 pub fn image_of(alloc: Global, program: &Checked) -> Result<Vec<u8>, NoMemory>
     requires { IsChecked (checked_of program.now) }
-    ensures { IfOk result (λ bytes. bytes.items ≡ image_for (checked_of program.now)) }
+    ensures bytes { IfOk result (λ bytes. bytes.items ≡ image_for (checked_of program.now)) }
+    ensures runs { IfOk result (λ bytes. RunsUnit (emitted_for (checked_of program.now)) bytes.items) }
 {
+    checked_is_linkable();
     let layout = layout(alloc, &program.classes)?;
     let regions = regions(alloc, program, &layout)?;
     let unit = pads(alloc, &regions)?;
