@@ -30,3 +30,5 @@ mod Places
 mod Spelled
 mod Once
 mod Sources
+mod Tokens
+mod SlotSizes

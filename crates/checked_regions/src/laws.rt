@@ -1,8 +1,20 @@
 //! Laws of the regions of checked programs.
+ghost use Rattle.checked_regions.specs.Slots.{CheckedSlotsFit};
+ghost use Rattle.checked_regions.specs.Tokens.{CheckedRegionsHaveTheTokens};
 ghost use Rattle.checked_regions.specs.WellFormed.{CheckedRegionsAreWellFormed};
 
 /// The regions of each checked program of a source are well-formed: numbers are in range, calls stand at the top of operations alone, slots have
 /// the kinds that their uses need, and each function that is called gets the arguments that its slots are for.
 pub fn checked_regions_are_well_formed()
     ensures well_formed { CheckedRegionsAreWellFormed }
+{}
+
+/// The regions of a checked program tell how many tokens its source has, which are no more than the limit.
+pub fn checked_regions_have_the_tokens()
+    ensures tokens { CheckedRegionsHaveTheTokens }
+{}
+
+/// Each slot of a checked program's functions has 4 bytes or a multiple of them, and no more than a class may have.
+pub fn checked_slots_fit()
+    ensures fit { CheckedSlotsFit }
 {}
