@@ -30,6 +30,7 @@ use Rattle.checked_regions.proofs.Meant.{Typed, HasKind, IsHeld, MethodsMeant, F
 use Rattle.checked_regions.proofs.Slots.{behind}
 use Rattle.checked_regions.proofs.Types.{class_stands, type_typed}
 use Rattle.checked_regions.proofs.Heads.{Names, NameAlone, params_are}
+use Rattle.checked_regions.proofs.Lists.{each_last}
 
 -- the names of a class's members are none of a class, its parameters' neither, and no data member has a member function's name
 pub record ClassAlone (special : List (List ℕ)) (c : Class) : Type 0 where
@@ -39,12 +40,8 @@ pub record ClassAlone (special : List (List ℕ)) (c : Class) : Type 0 where
   pub apart : Each (λ (f : Function). is_method f.kind ≡ true → Each (λ (x : Param). bytes_eq (name_of x).text f.name.text ≡ false) c.members) c.functions
 
 -- one name more
-abbrev with_entry : Environment → List ℕ → Thing → Option Entry → Environment
+abbrev pub with_entry : Environment → List ℕ → Thing → Option Entry → Environment
 with_entry env text t o = elim o [ Some e ↦ env | None ↦ record env { names = env.names ++ (record { text = text; thing = t } ∷ []) } ]
-
-each_last : {A : Type 0} (P : A → Type 0) (xs : List A) (x : A) → Each P xs → P x → Each P (xs ++ (x ∷ []))
-each_last P [] x h k = (k, tt)
-each_last P (y ∷ xs) x h k = (h.0, each_last P xs x h.1 k)
 
 pub names_more : (p : Checked) (special : List (List ℕ)) (env : Environment) (text : List ℕ) (t : Thing) → ThingMeant p special text t → Names p special env →
     Names p special (with_name env text t)

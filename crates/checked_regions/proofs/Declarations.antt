@@ -36,6 +36,7 @@ use Rattle.checked_regions.proofs.Heads.{Names, NameAlone}
 use Rattle.checked_regions.proofs.Functions.{OfClass, HasClass, declared_passes}
 use Rattle.checked_regions.proofs.Classes.{ClassAlone, names_more, named_definitions, head_names, entry_last, behind_class, methods_found}
 use Rattle.checked_regions.proofs.Definitions.{named, first_kept}
+use Rattle.checked_regions.proofs.Classes.{with_entry}
 
 -- the names of a declaration are apart from those of classes
 abbrev pub DeclarationAlone : List (List ℕ) → Declaration → Type 0
@@ -59,10 +60,6 @@ class_for Plain A a = tt
 class_for Method A a = tt
 class_for Constructor A a = a
 class_for Destructor A a = a
-
--- the environment with a name more
-abbrev with_entry : Environment → List ℕ → Thing → Option Entry → Environment
-with_entry env text t o = elim o [ Some e ↦ env | None ↦ record env { names = env.names ++ (record { text = text; thing = t } ∷ []) } ]
 
 named_globals : (env : Environment) (text : List ℕ) (t : Thing) → (with_name env text t).globals ≡ env.globals
 named_globals env text t = go (entry_of env text)

@@ -33,6 +33,8 @@ use Rattle.checked_regions.proofs.Meant.{HasKind, Shaped, numbered}
 use Rattle.checked_regions.proofs.Meanings.{found_each, found_passes}
 use Rattle.checked_regions.proofs.Heads.{heading, next_heading, param_passed, same_reference}
 use Rattle.checked_regions.proofs.Classes.{named_signatures, result_kind}
+use Rattle.checked_regions.proofs.Lists.{each_map, each_last, same_text}
+use Rattle.checked_regions.proofs.Classes.{with_entry}
 
 -- a type that breaks no rule has a kind
 class_has_kind : (defined : List (List ℕ)) (env : Environment) (sc : Scope) (n : Name) → Fine defined (class_found env sc n) → HasKind (class_of_name env sc n)
@@ -164,13 +166,6 @@ entry_more names more text h = go (find (λ e. bytes_eq e.text text) names) (sym
     go None q = refl
     go (Some e) q = absurd (cc q)
 
-each_map : {A : Type 0} (P Q : A → Type 0) → ((x : A) → P x → Q x) → (xs : List A) → Each P xs → Each Q xs
-each_map P Q f [] h = tt
-each_map P Q f (x ∷ xs) h = (f x h.0, each_map P Q f xs h.1)
-
-abbrev with_entry : Environment → List ℕ → Thing → Option Entry → Environment
-with_entry env text t o = elim o [ Some e ↦ env | None ↦ record env { names = env.names ++ (record { text = text; thing = t } ∷ []) } ]
-
 name_declared : (env : Environment) (text : List ℕ) (t : Thing) → Declared env → Declared (with_name env text t)
 name_declared env text t d = go (entry_of env text)
   where
@@ -189,13 +184,6 @@ record Behind (env next : Environment) (s : Signature) : Type 0 where
   first : Signature
   there : find (named s.name.text) next.signatures ≡ Some first
   shape : (types : List Ty) → Shaped s.parameters types → Shaped first.parameters types
-
-same_text : (text : List ℕ) → bytes_eq text text ≡ true
-same_text text = (bytes_eq-Decides text text).1 refl
-
-each_more : {A : Type 0} (P : A → Type 0) (xs : List A) (x : A) → Each P xs → P x → Each P (xs ++ (x ∷ []))
-each_more P [] x h k = (k, tt)
-each_more P (y ∷ xs) x h k = (h.0, each_more P xs x h.1 k)
 
 -- the last of a name is found where none is before it
 found_last : (ss : List Signature) (s : Signature) → find (named s.name.text) ss ≡ None → find (named s.name.text) (ss ++ (s ∷ [])) ≡ Some s
@@ -226,8 +214,8 @@ module _ (defined : List (List ℕ)) (env : Environment) (s : Signature) (d : De
   new : entry_of env s.name.text ≡ None → Behind env (record (with_name env s.name.text function_thing) { signatures = env.signatures ++ (s ∷ []) }) s
   new e = record {
     declared = record {
-      good = each_more Good env.signatures s d.good good;
-      entered = each_more (λ (x : Signature). entry_of next x.name.text ≡ None → ⊥) env.signatures s
+      good = each_last Good env.signatures s d.good good;
+      entered = each_last (λ (x : Signature). entry_of next x.name.text ≡ None → ⊥) env.signatures s
           (subst (λ ss. Each (λ (x : Signature). entry_of next x.name.text ≡ None → ⊥) ss) (named_signatures env s.name.text function_thing) (name_declared env s.name.text function_thing d).entered)
           (λ q. absurd (cc (sym (here e) ∙ q)));
     };
@@ -241,8 +229,8 @@ module _ (defined : List (List ℕ)) (env : Environment) (s : Signature) (d : De
     where
       all : Declared (record env { signatures = env.signatures ++ (s ∷ []) })
       all = record {
-        good = each_more Good env.signatures s d.good good;
-        entered = each_more (λ (x : Signature). entry_of env x.name.text ≡ None → ⊥) env.signatures s d.entered (λ q. absurd (cc (sym e ∙ q)));
+        good = each_last Good env.signatures s d.good good;
+        entered = each_last (λ (x : Signature). entry_of env x.name.text ≡ None → ⊥) env.signatures s d.entered (λ q. absurd (cc (sym e ∙ q)));
       }
 
       by : (o : Option Signature) → find (named s.name.text) env.signatures ≡ o → Behind env (record env { signatures = env.signatures ++ (s ∷ []) }) s

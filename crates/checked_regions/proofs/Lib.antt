@@ -1,3 +1,4 @@
+mod Lists
 mod Fine
 mod Meant
 mod Meanings

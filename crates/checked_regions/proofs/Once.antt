@@ -20,40 +20,7 @@ use Rattle.checked_regions.proofs.Fine.{Fine, fine_parts, not_broken}
 use Rattle.checked_regions.proofs.Programs.{class_texts}
 use Rattle.checked_regions.proofs.Places.{IsOneWord}
 use Rattle.checked_regions.proofs.Spelled.{own_names, field_names, class_name, other_names, ProgramPassed}
-
--- lists of what holds of each item
-pub each_map : {A : Type 0} (P Q : A → Type 0) → ((x : A) → P x → Q x) → (xs : List A) → Each P xs → Each Q xs
-each_map P Q f [] h = tt
-each_map P Q f (x ∷ xs) h = (f x h.0, each_map P Q f xs h.1)
-
-pub each_both : {A : Type 0} (P Q R : A → Type 0) → ((x : A) → P x → Q x → R x) → (xs : List A) → Each P xs → Each Q xs → Each R xs
-each_both P Q R f [] h k = tt
-each_both P Q R f (x ∷ xs) h k = (f x h.0 k.0, each_both P Q R f xs h.1 k.1)
-
-pub each_front : {A : Type 0} (P : A → Type 0) (xs ys : List A) → Each P (xs ++ ys) → Each P xs
-each_front P [] ys h = tt
-each_front P (x ∷ xs) ys h = (h.0, each_front P xs ys h.1)
-
-pub each_back : {A : Type 0} (P : A → Type 0) (xs ys : List A) → Each P (xs ++ ys) → Each P ys
-each_back P [] ys h = h
-each_back P (x ∷ xs) ys h = each_back P xs ys h.1
-
-each_append : {A : Type 0} (P : A → Type 0) (xs ys : List A) → Each P xs → Each P ys → Each P (xs ++ ys)
-each_append P [] ys h k = k
-each_append P (x ∷ xs) ys h k = (h.0, each_append P xs ys h.1 k)
-
--- rows by columns
-pub flipped : {A B : Type 0} (R : A → B → Type 0) (xs : List A) (ys : List B) → Each (λ x. Each (λ y. R x y) ys) xs → Each (λ y. Each (λ x. R x y) xs) ys
-flipped R xs [] h = tt
-flipped {A = A} R xs (y ∷ ys) h = (first xs h, flipped R xs ys (others xs h))
-  where
-    first : (xs : List A) → Each (λ x. Each (λ z. R x z) (y ∷ ys)) xs → Each (λ x. R x y) xs
-    first [] k = tt
-    first (x ∷ xs) k = (k.0.0, first xs k.1)
-
-    others : (xs : List A) → Each (λ x. Each (λ z. R x z) (y ∷ ys)) xs → Each (λ x. Each (λ z. R x z) ys) xs
-    others [] k = tt
-    others (x ∷ xs) k = (k.0.1, others xs k.1)
+use Rattle.checked_regions.proofs.Lists.{each_map, each_both, each_front, each_back, each_append, flipped, behind_true}
 
 -- a name does not stand before another of the same text
 abbrev pub NotBefore : Name → Name → Type 0
@@ -190,10 +157,6 @@ class_names_are (written_function f ∷ ws) = class_names_are ws
 no_text : (y : Name) (names : List Name) → Each (λ (n : Name). bytes_eq n.text y.text ≡ false) names → has_text y.text (texts names) ≡ false
 no_text y [] h = refl
 no_text y (n ∷ names) h = ap₂ (λ a b. a || b) h.0 (no_text y names h.1)
-
-behind_true : (a b : Bool) → b ≡ true → (a || b) ≡ true
-behind_true true b h = refl
-behind_true false b h = h
 
 among_texts : (text : List ℕ) (others : List (List ℕ)) (names : List Name) → Each (λ (n : Name). has_text n.text (text ∷ texts names) ≡ true) names
 among_texts text others names = go names names (λ t h. behind_true (bytes_eq text t) (has_text t (texts names)) h)

@@ -27,17 +27,11 @@ use Rattle.checked_regions.proofs.Meant.{FieldsMeant, MethodsMeant, Shaped, Entr
 use Rattle.checked_regions.proofs.Meanings.{found_each, found_passes}
 use Rattle.checked_regions.proofs.Definitions.{Good, named, Declared, defined_at, position_of, all_good}
 use Rattle.checked_regions.proofs.Declarations.{DeclarationAlone, MethodPasses, FunctionPasses, ClassesPass, Left, Known, AllPass, declarations_pass}
+use Rattle.checked_regions.proofs.Lists.{each_at, text_first}
 
 -- the names of classes, with that of class 0
 abbrev pub class_texts : List Declaration → List (List ℕ)
 class_texts ds = codes "std::bad_exception" ∷ class_names ds
-
--- an item of a list
-each_at : {A : Type 0} (P : A → Type 0) (xs : List A) (i : ℕ) (x : A) → Each P xs → slice_get xs i ≡ Some x → P x
-each_at P [] zero x h e = absurd (cc e)
-each_at P [] (suc i) x h e = absurd (cc e)
-each_at P (y ∷ xs) zero x h e = let same : y ≡ x = cc e in subst P same h.0
-each_at P (y ∷ xs) (suc i) x h e = each_at P xs i x h.1 e
 
 method_at_class : (p : Checked) (cs : List Class) (n k i : ℕ) (f : Function) → ClassesPass p n cs → k < length cs →
     slice_get (unwrap_or (slice_get cs k) no_class).functions i ≡ Some f → MethodPasses p (n + k) f
@@ -59,9 +53,6 @@ first_class p special below is name named = record {
   alone = record { fields = tt; methods = tt; apart = λ text kind e k i. absurd (cc e) };
   named = named;
 }
-
-same_text : (text : List ℕ) (others : List (List ℕ)) → has_text text (text ∷ others) ≡ true
-same_text text others = ap (λ b. b || has_text text others) ((bytes_eq-Decides text text).1 refl)
 
 -- the first declaration of each function, by the functions that are defined
 known_functions : (p : Checked) (ws : List Written) (env : Environment) → Each IsGrammatical ws → (functions : p.functions ≡ functions_of (resolve_declarations env (map declared ws))) →
@@ -133,7 +124,7 @@ module _ (p : Program) (ws : List Written) (e : map declared ws ≡ p.declaratio
       one_class : (k : ℕ) (x : ClassEntry) → slice_get (at_the_start p.declarations).classes k ≡ Some x → EntryMeant (checked p) (class_texts p.declarations) k x
       one_class zero x h =
           subst (EntryMeant (checked p) (class_texts p.declarations) 0) (cc h)
-          (first_class (checked p) (class_texts p.declarations) (omega arith) refl (codes "std::bad_exception") (same_text (codes "std::bad_exception") (class_names p.declarations)))
+          (first_class (checked p) (class_texts p.declarations) (omega arith) refl (codes "std::bad_exception") (text_first (codes "std::bad_exception") (class_names p.declarations)))
       one_class (suc zero) x h = absurd (cc h)
       one_class (suc (suc k)) x h = absurd (cc h)
 

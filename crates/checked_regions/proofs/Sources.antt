@@ -29,7 +29,8 @@ use Rattle.checked_regions.proofs.Declarations.{DeclarationAlone}
 use Rattle.checked_regions.proofs.Programs.{class_texts, well_formed}
 use Rattle.checked_regions.proofs.Places.{source_above}
 use Rattle.checked_regions.proofs.Spelled.{Apart, field_names, MembersApart, program_passed}
-use Rattle.checked_regions.proofs.Once.{each_map, each_both, each_front, each_back, flipped, NotBefore, none_before, differ_by, asked_names, strangers}
+use Rattle.checked_regions.proofs.Lists.{each_map, each_both, each_front, each_back, flipped, behind_true}
+use Rattle.checked_regions.proofs.Once.{NotBefore, none_before, differ_by, asked_names, strangers}
 
 module _ (special : List (List ℕ)) where
   -- a name is none of a class
@@ -136,10 +137,6 @@ abbrev NamedIn : List (List ℕ) → Written → Type 0
 NamedIn special (written_class x is_public base ms) = has_text x.text special ≡ true
 NamedIn special (written_global x s) = Unit {0}
 NamedIn special (written_function f) = Unit {0}
-
-behind_true : (a b : Bool) → b ≡ true → (a || b) ≡ true
-behind_true true b h = refl
-behind_true false b h = h
 
 all_named : (special : List (List ℕ)) (ws : List Written) → ((t : List ℕ) → has_text t (class_names (map declared ws)) ≡ true → has_text t special ≡ true) → Each (NamedIn special) ws
 all_named special [] h = tt

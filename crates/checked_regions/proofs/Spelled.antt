@@ -14,7 +14,7 @@ use Rattle.cxx_ast.specs.Declare.{name_of}
 use Rattle.cxx_ast.specs.DeclaredNames.{some_name, param_names}
 use Rattle.cxx_ast.specs.Grammatical.{Each, There, IsMember, IsGrammatical}
 use Rattle.cxx_ast.specs.Written.{Member, data_member, function_member, Start, no_start, start, Written, written_class, written_global, written_function, data_members, functions, spell_more_params, spell_params, spell_specification, spell_initialisers, spell_body, spell_result, spell_function, spell_tilde, spell_members, spell_base, spell_start_value, spell_declaration, spell_declarations}
-use Rattle.checked_regions.proofs.Places.{Above, IsOneWord, after_name, after_type, after_specification, after_initialisers, after_body}
+use Rattle.checked_regions.proofs.Places.{places, Above, IsOneWord, after_name, after_type, after_specification, after_initialisers, after_body}
 
 -- names that stand from n on and before m, and are of one word
 abbrev pub Between : ℕ → ℕ → List Name → Type 0
@@ -34,17 +34,17 @@ record Passed (n : ℕ) (names : List Name) (after : List Piece) : Type 0 where
   bound : ℕ
   le : n ≤ bound
   between : Between n bound names
-  rest : Above bound after
+  rest : Above places bound after
 
-no_names : (n : ℕ) (after : List Piece) → Above n after → Passed n [] after
+no_names : (n : ℕ) (after : List Piece) → Above places n after → Passed n [] after
 no_names n after h = record { bound = n; le = omega arith; between = tt; rest = h }
 
-one_name : (n : ℕ) (x : Name) (after : List Piece) → Above n (named x ∷ after) → Passed n (x ∷ []) after
+one_name : (n : ℕ) (x : Name) (after : List Piece) → Above places n (named x ∷ after) → Passed n (x ∷ []) after
 one_name n x after h =
-    let first = h.0 in
-    record { bound = x.place + 1; le = omega (arith, first); between = ((first, omega arith, h.1), tt); rest = h.2 }
+    let first = h.0.0 in
+    record { bound = x.place + 1; le = omega (arith, first); between = ((first, omega arith, h.0.1), tt); rest = h.1 }
 
-then_names : (n : ℕ) (xs ys : List Name) (middle after : List Piece) → Passed n xs middle → ((m : ℕ) → Above m middle → Passed m ys after) → Passed n (xs ++ ys) after
+then_names : (n : ℕ) (xs ys : List Name) (middle after : List Piece) → Passed n xs middle → ((m : ℕ) → Above places m middle → Passed m ys after) → Passed n (xs ++ ys) after
 then_names n xs ys middle after h k =
     let r = k h.bound h.rest in
     let first = h.le in
@@ -58,33 +58,33 @@ then_names n xs ys middle after h k =
     }
 
 -- a parameter, and parameters
-param_passed : (p : Param) (after : List Piece) (n : ℕ) → Above n (spell_param p after) → Passed n (some_name p.name) after
-param_passed p after n h = go p.name (after_type p.ty (spell_name p.name after) n h)
+param_passed : (p : Param) (after : List Piece) (n : ℕ) → Above places n (spell_param p after) → Passed n (some_name p.name) after
+param_passed p after n h = go p.name (after_type places p.ty (spell_name p.name after) n h)
   where
-    go : (x : Option Name) → Above n (spell_name x after) → Passed n (some_name x) after
+    go : (x : Option Name) → Above places n (spell_name x after) → Passed n (some_name x) after
     go None q = no_names n after q
     go (Some x) q = one_name n x after q
 
-more_params_passed : (ps : List Param) (after : List Piece) (n : ℕ) → Above n (spell_more_params ps after) → Passed n (param_names ps) after
+more_params_passed : (ps : List Param) (after : List Piece) (n : ℕ) → Above places n (spell_more_params ps after) → Passed n (param_names ps) after
 more_params_passed [] after n h = no_names n after h
 more_params_passed (p ∷ ps) after n h =
     then_names n (some_name p.name) (param_names ps) (spell_more_params ps after) after (param_passed p (spell_more_params ps after) n h)
     (λ m q. more_params_passed ps after m q)
 
-params_passed : (ps : List Param) (after : List Piece) (n : ℕ) → Above n (spell_params ps after) → Passed n (param_names ps) after
+params_passed : (ps : List Param) (after : List Piece) (n : ℕ) → Above places n (spell_params ps after) → Passed n (param_names ps) after
 params_passed [] after n h = no_names n after h
 params_passed (p ∷ ps) after n h =
     then_names n (some_name p.name) (param_names ps) (spell_more_params ps after) after (param_passed p (spell_more_params ps after) n h)
     (λ m q. more_params_passed ps after m q)
 
 -- a function: its name and those of its parameters
-after_result : (kind : FuncKind) (t : Ty) (after : List Piece) (n : ℕ) → Above n (spell_result kind t after) → Above n after
-after_result Plain t after n h = after_type t after n h
-after_result Method t after n h = after_type t after n h
+after_result : (kind : FuncKind) (t : Ty) (after : List Piece) (n : ℕ) → Above places n (spell_result kind t after) → Above places n after
+after_result Plain t after n h = after_type places t after n h
+after_result Method t after n h = after_type places t after n h
 after_result Constructor t after n h = h
 after_result Destructor t after n h = h
 
-after_tilde : (kind : FuncKind) (after : List Piece) (n : ℕ) → Above n (spell_tilde kind after) → Above n after
+after_tilde : (kind : FuncKind) (after : List Piece) (n : ℕ) → Above places n (spell_tilde kind after) → Above places n after
 after_tilde Plain after n h = h
 after_tilde Method after n h = h
 after_tilde Constructor after n h = h
@@ -93,7 +93,7 @@ after_tilde Destructor after n h = h
 abbrev pub own_names : Function → List Name
 own_names f = f.name ∷ param_names f.parameters
 
-function_passed : (f : Function) (after : List Piece) (n : ℕ) → Above n (spell_function f after) → Passed n (own_names f) after
+function_passed : (f : Function) (after : List Piece) (n : ℕ) → Above places n (spell_function f after) → Passed n (own_names f) after
 function_passed f after n h =
     let body = spell_body f.body after in
     let tail = spell_specification f.specification (spell_initialisers f.initialisers body) in
@@ -105,7 +105,7 @@ function_passed f after n h =
       bound = ps.bound;
       le = ps.le;
       between = ps.between;
-      rest = after_body f.body after ps.bound (after_initialisers f.initialisers body ps.bound (after_specification f.specification (spell_initialisers f.initialisers body) ps.bound ps.rest));
+      rest = after_body places f.body after ps.bound (after_initialisers places f.initialisers body ps.bound (after_specification places f.specification (spell_initialisers f.initialisers body) ps.bound ps.rest));
     })
 
 -- no name of the one list stands where one of the other does
@@ -160,12 +160,12 @@ record MembersPassed (n : ℕ) (ms : List Member) (after : List Piece) : Type 0 
   fields : Between n bound (field_names ms)
   functions_between : Between n bound (flat_map own_names (functions ms))
   apart : Apart (field_names ms) (function_names ms)
-  rest : Above bound after
+  rest : Above places bound after
 
-field_passed : (x : Param) (after : List Piece) (n : ℕ) → There x.name → Above n (spell_param x after) → Passed n (name_of x ∷ []) after
-field_passed x after n t h = go x.name t (after_type x.ty (spell_name x.name after) n h)
+field_passed : (x : Param) (after : List Piece) (n : ℕ) → There x.name → Above places n (spell_param x after) → Passed n (name_of x ∷ []) after
+field_passed x after n t h = go x.name t (after_type places x.ty (spell_name x.name after) n h)
   where
-    go : (y : Option Name) → There y → Above n (spell_name y after) → Passed n (name_of (record x { name = y }) ∷ []) after
+    go : (y : Option Name) → There y → Above places n (spell_name y after) → Passed n (name_of (record x { name = y }) ∷ []) after
     go None t q = absurd t
     go (Some y) t q = one_name n y after q
 
@@ -178,7 +178,7 @@ names_among n m (f ∷ fs) h = (h.0, names_among n m fs (rest (param_names f.par
     rest [] k = k
     rest (x ∷ xs) k = rest xs k.1
 
-members_passed : (ms : List Member) (after : List Piece) (n : ℕ) → Each IsMember ms → Above n (spell_members ms after) → MembersPassed n ms after
+members_passed : (ms : List Member) (after : List Piece) (n : ℕ) → Each IsMember ms → Above places n (spell_members ms after) → MembersPassed n ms after
 members_passed [] after n w h = record { bound = n; le = omega arith; fields = tt; functions_between = tt; apart = tt; rest = h }
 members_passed (data_member x ∷ ms) after n w h =
     let f = field_passed x (mark sign.Semicolon ∷ spell_members ms after) n w.0.1 h in
@@ -232,19 +232,19 @@ record DeclarationPassed (n : ℕ) (w : Written) (after : List Piece) : Type 0 w
   others : Between n bound (other_names w)
   apart : Apart (class_name w) (other_names w)
   members : MembersApart w
-  rest : Above bound after
+  rest : Above places bound after
 
-after_base : (is_public : Bool) (b : Option Name) (after : List Piece) (n : ℕ) → Above n (spell_base is_public b after) → Above n after
+after_base : (is_public : Bool) (b : Option Name) (after : List Piece) (n : ℕ) → Above places n (spell_base is_public b after) → Above places n after
 after_base is_public None after n h = h
-after_base true (Some x) after n h = after_name x after n h
-after_base false (Some x) after n h = after_name x after n h
+after_base true (Some x) after n h = after_name places x after n h
+after_base false (Some x) after n h = after_name places x after n h
 
-after_start_value : (s : Start) (after : List Piece) (n : ℕ) → Above n (spell_start_value s after) → Above n after
+after_start_value : (s : Start) (after : List Piece) (n : ℕ) → Above places n (spell_start_value s after) → Above places n after
 after_start_value no_start after n h = h
 after_start_value (start true v) after n h = h
 after_start_value (start false v) after n h = h
 
-declaration_passed : (w : Written) (after : List Piece) (n : ℕ) → IsGrammatical w → Above n (spell_declaration w after) → DeclarationPassed n w after
+declaration_passed : (w : Written) (after : List Piece) (n : ℕ) → IsGrammatical w → Above places n (spell_declaration w after) → DeclarationPassed n w after
 declaration_passed (written_class x is_public base ms) after n g h =
     let end = mark sign.CloseBrace ∷ mark sign.Semicolon ∷ after in
     let inner = mark sign.OpenBrace ∷ spell_members ms end in
@@ -269,7 +269,7 @@ declaration_passed (written_global x s) after n g h = record {
   others = tt;
   apart = tt;
   members = tt;
-  rest = after_start_value s (mark sign.Semicolon ∷ after) n (after_name x (spell_start_value s (mark sign.Semicolon ∷ after)) n h);
+  rest = after_start_value s (mark sign.Semicolon ∷ after) n (after_name places x (spell_start_value s (mark sign.Semicolon ∷ after)) n h);
 }
 declaration_passed (written_function f) after n g h =
     let r = function_passed f after n h in
@@ -284,7 +284,7 @@ pub record ProgramPassed (n : ℕ) (ws : List Written) : Type 0 where
   pub apart : Apart (flat_map class_name ws) (flat_map other_names ws)
   pub members : Each MembersApart ws
 
-pub program_passed : (ws : List Written) (n : ℕ) → Each IsGrammatical ws → Above n (spell_declarations ws []) → ProgramPassed n ws
+pub program_passed : (ws : List Written) (n : ℕ) → Each IsGrammatical ws → Above places n (spell_declarations ws []) → ProgramPassed n ws
 program_passed [] n g h = record { bound = n; le = omega arith; classes = tt; others = tt; apart = tt; members = tt }
 program_passed (w ∷ ws) n g h =
     let d = declaration_passed w (spell_declarations ws []) n g.0 h in
