@@ -27,6 +27,7 @@ mod Classes
 mod Definitions
 mod Declarations
 mod Programs
+mod Pieces
 mod Places
 mod Spelled
 mod Once

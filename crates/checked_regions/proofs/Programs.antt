@@ -1,5 +1,5 @@
 -- The declared functions of a checked program pass their tests, where classes' names are those of nothing else.
-use Rattle.std.proofs.Common.{◌≡◌, ◌∙◌, ◌+◌, ◌<◌, ◌||◌, ℕ, zero, suc, true, not, List, [], ◌∷◌, ◌++◌, map, length, Some, None, option_map, codes, find, refl, sym, ap, subst, arith}
+use Rattle.std.proofs.Common.{◌≡◌, ◌∙◌, ◌+◌, ◌<◌, ℕ, zero, suc, true, not, List, [], ◌∷◌, ◌++◌, map, length, Some, None, option_map, codes, find, refl, sym, ap, subst, arith}
 use Rattle.std.specs.Prelude.{slice_get, unwrap_or}
 use Rattle.std.proofs.lemmas.Slice.Eq.{bytes_eq-Decides}
 use Rattle.std.proofs.lemmas.Option.{slice_get_within}

@@ -1,11 +1,8 @@
 -- The names that a program declares stand apart.
-use Rattle.std.proofs.Common.{◌≡◌, ◌+◌, ◌<◌, ◌≤◌, ℕ, Bool, true, false, List, [], ◌∷◌, ◌++◌, map, Option, Some, None, sym, arith}
+use Rattle.std.proofs.Common.{◌≡◌, ◌+◌, ◌<◌, ◌≤◌, ℕ, List, [], ◌∷◌, ◌++◌, map, Option, Some, None, sym, arith}
 use Rattle.std.specs.Prelude.{flat_map}
 use Rattle.cxx_ast.specs.declared.name.Name.{Name}
-use Rattle.cxx_ast.specs.declared.types.Ty.{Ty}
 use Rattle.cxx_ast.specs.declared.types.Param.{Param}
-use Rattle.cxx_ast.specs.declared.declaration.FuncKind.{FuncKind}
-use Rattle.cxx_ast.specs.declared.declaration.FuncKind.TheVariants.{Plain, Method, Constructor, Destructor}
 use Rattle.cxx_ast.specs.declared.mark.Mark.TheVariants as sign
 use Rattle.cxx_ast.specs.Plain.{Function}
 use Rattle.cxx_ast.specs.Piece.{Piece, named, mark}
@@ -13,8 +10,9 @@ use Rattle.cxx_ast.specs.Spelling.{spell_name, spell_param}
 use Rattle.cxx_ast.specs.Declare.{name_of}
 use Rattle.cxx_ast.specs.DeclaredNames.{some_name, param_names}
 use Rattle.cxx_ast.specs.Grammatical.{Each, There, IsMember, IsGrammatical}
-use Rattle.cxx_ast.specs.Written.{Member, data_member, function_member, Start, no_start, start, Written, written_class, written_global, written_function, data_members, functions, spell_more_params, spell_params, spell_specification, spell_initialisers, spell_body, spell_result, spell_function, spell_tilde, spell_members, spell_base, spell_start_value, spell_declaration, spell_declarations}
-use Rattle.checked_regions.proofs.Places.{places, Above, IsOneWord, after_name, after_type, after_specification, after_initialisers, after_body}
+use Rattle.cxx_ast.specs.Written.{Member, data_member, function_member, Written, written_class, written_global, written_function, data_members, functions, spell_more_params, spell_params, spell_specification, spell_initialisers, spell_body, spell_function, spell_members, spell_base, spell_start_value, spell_declaration, spell_declarations}
+use Rattle.checked_regions.proofs.Pieces.{Above, after_name, after_type, after_specification, after_initialisers, after_body, after_result, after_tilde, after_base, after_start_value}
+use Rattle.checked_regions.proofs.Places.{places, IsOneWord}
 
 -- names that stand from n on and before m, and are of one word
 abbrev pub Between : ℕ → ℕ → List Name → Type 0
@@ -78,18 +76,6 @@ params_passed (p ∷ ps) after n h =
     (λ m q. more_params_passed ps after m q)
 
 -- a function: its name and those of its parameters
-after_result : (kind : FuncKind) (t : Ty) (after : List Piece) (n : ℕ) → Above places n (spell_result kind t after) → Above places n after
-after_result Plain t after n h = after_type places t after n h
-after_result Method t after n h = after_type places t after n h
-after_result Constructor t after n h = h
-after_result Destructor t after n h = h
-
-after_tilde : (kind : FuncKind) (after : List Piece) (n : ℕ) → Above places n (spell_tilde kind after) → Above places n after
-after_tilde Plain after n h = h
-after_tilde Method after n h = h
-after_tilde Constructor after n h = h
-after_tilde Destructor after n h = h
-
 abbrev pub own_names : Function → List Name
 own_names f = f.name ∷ param_names f.parameters
 
@@ -98,7 +84,7 @@ function_passed f after n h =
     let body = spell_body f.body after in
     let tail = spell_specification f.specification (spell_initialisers f.initialisers body) in
     let inner = mark sign.OpenParen ∷ spell_params f.parameters (mark sign.CloseParen ∷ tail) in
-    then_names n (f.name ∷ []) (param_names f.parameters) inner after (one_name n f.name inner (after_result f.kind f.result (named f.name ∷ inner) n h))
+    then_names n (f.name ∷ []) (param_names f.parameters) inner after (one_name n f.name inner (after_result places f.kind f.result (named f.name ∷ inner) n h))
     (λ m q.
     let ps = params_passed f.parameters (mark sign.CloseParen ∷ tail) m q in
     record {
@@ -194,7 +180,7 @@ members_passed (data_member x ∷ ms) after n w h =
       rest = r.rest;
     }
 members_passed (function_member x ∷ ms) after n w h =
-    let f = function_passed x (spell_members ms after) n (after_tilde x.kind (spell_function x (spell_members ms after)) n h) in
+    let f = function_passed x (spell_members ms after) n (after_tilde places x.kind (spell_function x (spell_members ms after)) n h) in
     let r = members_passed ms after f.bound w.1 f.rest in
     let first = f.le in
     let second = r.le in
@@ -234,22 +220,12 @@ record DeclarationPassed (n : ℕ) (w : Written) (after : List Piece) : Type 0 w
   members : MembersApart w
   rest : Above places bound after
 
-after_base : (is_public : Bool) (b : Option Name) (after : List Piece) (n : ℕ) → Above places n (spell_base is_public b after) → Above places n after
-after_base is_public None after n h = h
-after_base true (Some x) after n h = after_name places x after n h
-after_base false (Some x) after n h = after_name places x after n h
-
-after_start_value : (s : Start) (after : List Piece) (n : ℕ) → Above places n (spell_start_value s after) → Above places n after
-after_start_value no_start after n h = h
-after_start_value (start true v) after n h = h
-after_start_value (start false v) after n h = h
-
 declaration_passed : (w : Written) (after : List Piece) (n : ℕ) → IsGrammatical w → Above places n (spell_declaration w after) → DeclarationPassed n w after
 declaration_passed (written_class x is_public base ms) after n g h =
     let end = mark sign.CloseBrace ∷ mark sign.Semicolon ∷ after in
     let inner = mark sign.OpenBrace ∷ spell_members ms end in
     let c = one_name n x (spell_base is_public base inner) h in
-    let r = members_passed ms end c.bound g (after_base is_public base inner c.bound c.rest) in
+    let r = members_passed ms end c.bound g (after_base places is_public base inner c.bound c.rest) in
     let first = c.le in
     let second = r.le in
     let others = both_between c.bound r.bound (field_names ms) (flat_map own_names (functions ms)) r.fields r.functions_between in
@@ -269,7 +245,7 @@ declaration_passed (written_global x s) after n g h = record {
   others = tt;
   apart = tt;
   members = tt;
-  rest = after_start_value s (mark sign.Semicolon ∷ after) n (after_name places x (spell_start_value s (mark sign.Semicolon ∷ after)) n h);
+  rest = after_start_value places s (mark sign.Semicolon ∷ after) n (after_name places x (spell_start_value s (mark sign.Semicolon ∷ after)) n h);
 }
 declaration_passed (written_function f) after n g h =
     let r = function_passed f after n h in
