@@ -34,3 +34,4 @@ mod Once
 mod Sources
 mod Tokens
 mod SlotSizes
+mod Numbers

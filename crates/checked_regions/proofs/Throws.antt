@@ -36,7 +36,7 @@ use Rattle.checked_regions.proofs.Expressions.{NotBuilt, std_put, call_put, call
 use Rattle.checked_regions.proofs.Building.{construct_passes}
 
 -- the number of a type that is there
-rows_counted : (cs : List ClassTree) → length (class_rows cs) ≡ length cs
+pub rows_counted : (cs : List ClassTree) → length (class_rows cs) ≡ length cs
 rows_counted [] = refl
 rows_counted (c ∷ cs) = ap suc (length-map cs (class_row 2))
 

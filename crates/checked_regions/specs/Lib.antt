@@ -1,3 +1,4 @@
 pub mod WellFormed
 pub mod Tokens
 pub mod Slots
+pub mod Counts

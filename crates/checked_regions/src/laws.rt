@@ -1,4 +1,5 @@
 //! Laws of the regions of checked programs.
+ghost use Rattle.checked_regions.specs.Counts.{CheckedCountsFit};
 ghost use Rattle.checked_regions.specs.Slots.{CheckedSlotsFit};
 ghost use Rattle.checked_regions.specs.Tokens.{CheckedRegionsHaveTheTokens};
 ghost use Rattle.checked_regions.specs.WellFormed.{CheckedRegionsAreWellFormed};
@@ -17,4 +18,10 @@ pub fn checked_regions_have_the_tokens()
 /// Each slot of a checked program's functions has 4 bytes or a multiple of them, and no more than a class may have.
 pub fn checked_slots_fit()
     ensures fit { CheckedSlotsFit }
+{}
+
+/// The functions, the types and the globals of a checked program's regions are no more than the tokens of its source allow, so each of their numbers
+/// fits 32 bits with room to spare.
+pub fn checked_counts_fit()
+    ensures fit { CheckedCountsFit }
 {}
