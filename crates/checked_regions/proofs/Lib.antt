@@ -1,37 +1,37 @@
-mod Lists
-mod Fine
-mod Meant
-mod Meanings
-mod Slots
-mod Inside
-mod Paths
-mod Called
-mod Arguments
-mod Passing
-mod Fitting
-mod Expressions
-mod Constructors
-mod Building
-mod Scopes
-mod Throws
-mod Types
-mod Counts
-mod Statements
-mod Blocks
-mod Alone
-mod Initialisers
-mod Members
-mod Heads
-mod Functions
-mod Classes
-mod Definitions
-mod Declarations
-mod Programs
-mod Pieces
-mod Places
-mod Spelled
-mod Once
-mod Sources
-mod Tokens
-mod SlotSizes
-mod Numbers
+pub mod Lists
+pub mod Fine
+pub mod Meant
+pub mod Meanings
+pub mod Slots
+pub mod Inside
+pub mod Paths
+pub mod Called
+pub mod Arguments
+pub mod Passing
+pub mod Fitting
+pub mod Expressions
+pub mod Constructors
+pub mod Building
+pub mod Scopes
+pub mod Throws
+pub mod Types
+pub mod Counts
+pub mod Statements
+pub mod Blocks
+pub mod Alone
+pub mod Initialisers
+pub mod Members
+pub mod Heads
+pub mod Functions
+pub mod Classes
+pub mod Definitions
+pub mod Declarations
+pub mod Programs
+pub mod Pieces
+pub mod Places
+pub mod Spelled
+pub mod Once
+pub mod Sources
+pub mod Tokens
+pub mod SlotSizes
+pub mod Numbers

@@ -1,5 +1,5 @@
 -- In the program of a source classes' names are those of nothing else, so its regions are well-formed.
-use Rattle.std.proofs.Common.{◌≡◌, ◌||◌, ℕ, true, false, not, List, [], ◌∷◌, ◌++◌, map, Option, Some, None, bytes_eq, codes, refl, sym, ap, subst}
+use Rattle.std.proofs.Common.{◌≡◌, ◌||◌, ℕ, true, false, not, List, [], ◌∷◌, ◌++◌, map, length, Option, Some, None, bytes_eq, codes, refl, sym, ap, subst}
 use Rattle.std.specs.Prelude.{flat_map}
 use Rattle.std.proofs.lemmas.Slice.Eq.{bytes_eq-Decides}
 use Rattle.cxx_ast.specs.declared.name.Name.{Name}
@@ -8,7 +8,7 @@ use Rattle.cxx_ast.specs.declared.declaration.FuncKind.{FuncKind}
 use Rattle.cxx_ast.specs.declared.declaration.FuncKind.TheVariants.{Plain, Method, Constructor, Destructor}
 use Rattle.cxx_ast.specs.Rule.{redeclared, no_main}
 use Rattle.cxx_ast.specs.Finding.{breaks_if}
-use Rattle.cxx_ast.specs.Plain.{Function, Class, Program, class_declaration, Checked}
+use Rattle.cxx_ast.specs.Plain.{Function, Class, Program, class_declaration}
 use Rattle.cxx_ast.specs.Environment.{Environment}
 use Rattle.cxx_ast.specs.Lookup.{is_method}
 use Rattle.cxx_ast.specs.FunctionRules.{has_text}
@@ -18,11 +18,8 @@ use Rattle.cxx_ast.specs.DeclaredNames.{some_name, param_names, class_names, onc
 use Rattle.cxx_ast.specs.Broken.{Valid, broken, declaration_found, declarations_found, has_main}
 use Rattle.cxx_ast.specs.Grammatical.{Each}
 use Rattle.cxx_ast.specs.Written.{Written, written_class, written_global, written_function, data_members, functions, declared}
-use Rattle.cxx_ast.specs.Lex.{Lex}
-use Rattle.cxx_ast.specs.Checked.{IsChecked}
-use Rattle.region_forms.specs.Layout.{layout_of}
-use Rattle.region_forms.specs.LowerProgram.{regions_of}
-use Rattle.region_forms.specs.WellFormed.{is_well_formed}
+use Rattle.cxx_ast.specs.Checked.{checked}
+use Rattle.checked_regions.specs.WellFormed.{CheckedRegionsAreWellFormed, SourceRegionsAreWellFormed}
 use Rattle.checked_regions.proofs.Fine.{Fine, fine_parts, not_broken, nothing_refused}
 use Rattle.checked_regions.proofs.Heads.{NameAlone}
 use Rattle.checked_regions.proofs.Declarations.{DeclarationAlone}
@@ -190,7 +187,7 @@ valid_parts p valid =
     fine_parts defined walked once (fine_parts defined (walked ++ once) main (nothing_refused defined (walked ++ once ++ main) valid)).0
 
 -- the program of a source
-pub source_well_formed : (p : Checked) (c : IsChecked p) (source : List ℕ) → Lex source c.tokens → is_well_formed (regions_of p (layout_of p)) ≡ true
+pub source_well_formed : CheckedRegionsAreWellFormed
 source_well_formed p c source lexed =
     let ds = c.program.declarations in
     let defined = definitions ds in
@@ -204,3 +201,9 @@ source_well_formed p c source lexed =
     let named = all_named (class_texts (map declared ws)) ws (λ t h. behind_true (bytes_eq (codes "std::bad_exception") t) (has_text t (class_names (map declared ws))) h) in
     let alone = declarations_alone defined (class_texts (map declared ws)) ws (at_the_start ds) walked apart passed.members named in
     well_formed p c (subst (λ xs. Each (DeclarationAlone (class_texts xs)) xs) c.tree.declarations alone)
+
+-- and of a valid source
+pub valid_well_formed : SourceRegionsAreWellFormed
+valid_well_formed source tokens p lexed tree valid =
+    source_well_formed (checked p)
+    (record { tokens = tokens; end = length source; program = p; few = lexed.few; tree = tree; valid = valid; resolved = refl }) source lexed

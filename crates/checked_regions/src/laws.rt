@@ -2,12 +2,17 @@
 ghost use Rattle.checked_regions.specs.Counts.{CheckedCountsFit};
 ghost use Rattle.checked_regions.specs.Slots.{CheckedSlotsFit};
 ghost use Rattle.checked_regions.specs.Tokens.{CheckedRegionsHaveTheTokens};
-ghost use Rattle.checked_regions.specs.WellFormed.{CheckedRegionsAreWellFormed};
+ghost use Rattle.checked_regions.specs.WellFormed.{CheckedRegionsAreWellFormed, SourceRegionsAreWellFormed};
 
 /// The regions of each checked program of a source are well-formed: numbers are in range, calls stand at the top of operations alone, slots have
 /// the kinds that their uses need, and each function that is called gets the arguments that its slots are for.
 pub fn checked_regions_are_well_formed()
     ensures well_formed { CheckedRegionsAreWellFormed }
+{}
+
+/// So are those of each valid source, which is a program that breaks no rule.
+pub fn valid_sources_have_well_formed_regions()
+    ensures well_formed { SourceRegionsAreWellFormed }
 {}
 
 /// The regions of a checked program tell how many tokens its source has, which are no more than the limit.
