@@ -38,3 +38,7 @@ pub mod Registers
 pub mod RegisterStatements
 pub mod RegisterUnits
 pub mod Lists
+pub mod CallRules
+pub mod FreeNames
+pub mod Arities
+pub mod ArityPrograms

@@ -62,21 +62,21 @@ body_there None h = absurd h
 body_there (Some ss) h = refl
 
 -- a function of a class has a body
-member_body : (f : Function) (kind : FuncKind) → HasForm kind f → IsMemberKind kind → has_body f.body ≡ true
+pub member_body : (f : Function) (kind : FuncKind) → HasForm kind f → IsMemberKind kind → has_body f.body ≡ true
 member_body f Plain h k = absurd k
 member_body f Method h k = body_there f.body h.2
 member_body f Constructor h k = body_there f.body h.1
 member_body f Destructor h k = body_there f.body h.3
 
-abbrev IsMethod : Function → Type 0
+abbrev pub IsMethod : Function → Type 0
 IsMethod f = IsFunction f × IsMemberKind f.kind
 
-methods_in : (ms : List Member) → Each IsMember ms → Each IsMethod (functions ms)
+pub methods_in : (ms : List Member) → Each IsMember ms → Each IsMethod (functions ms)
 methods_in [] h = tt
 methods_in (data_member p ∷ ms) h = methods_in ms h.1
 methods_in (function_member f ∷ ms) h = (h.0, methods_in ms h.1)
 
-same_body : (env : Environment) (sc : Scope) (o : Option Statements) → has_body (resolve_body env sc o) ≡ has_body o
+pub same_body : (env : Environment) (sc : Scope) (o : Option Statements) → has_body (resolve_body env sc o) ≡ has_body o
 same_body env sc None = refl
 same_body env sc (Some ss) = refl
 
@@ -91,7 +91,7 @@ methods_short env c i (f ∷ fs) g h =
       methods_short env c (i + 1) fs g.1 (back_sound first others h),
     )
 
-class_methods : (env : Environment) (c : Class) → is_sound (class_rules_found env c) ≡ true → is_sound (flat_map (method_found env c) c.functions) ≡ true
+pub class_methods : (env : Environment) (c : Class) → is_sound (class_rules_found env c) ≡ true → is_sound (flat_map (method_found env c) c.functions) ≡ true
 class_methods env c h =
     let names = map name_of c.members ++ method_names c.functions in
     back_sound

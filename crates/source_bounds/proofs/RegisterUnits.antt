@@ -16,6 +16,7 @@ use Rattle.source_bounds.specs.RegisterLaws.{RegistersSuffice}
 use Rattle.source_bounds.proofs.Limits.{checked_short}
 use Rattle.source_bounds.proofs.RegisterCode.{function_fits}
 use Rattle.source_bounds.proofs.RegisterStatements.{body_fits, default_whole_fits, copy_whole_fits, destructor_whole_fits}
+use Rattle.source_bounds.proofs.ArityPrograms.{builtins_take_few}
 use Rattle.source_bounds.proofs.Lists.{both_all, at_or}
 
 abbrev Fit : List RegionFunction → Type 0
@@ -54,7 +55,8 @@ all_fit [] h = tt
 all_fit (f ∷ fs) h = (function_fits f h.0, all_fit fs h.1)
 
 pub registers_suffice : RegistersSuffice
-registers_suffice p l h c =
+registers_suffice p l h =
+    let c = builtins_take_few p h in
     let short = checked_short p h in
     all_fit (regions_of p l).functions
     (both_all (λ f. RegionFits f.body) (own_functions p l 0 p.functions) (functions_of_classes p l 0 (length p.classes)) (own_fit p l 0 p.functions short.own c.functions)

@@ -16,7 +16,10 @@ use Rattle.source_bounds.specs.LeastTokens.{tokens_in}
 abbrev pub ValuesNeedFew : Type 0
 ValuesNeedFew = (l : Lowering) (e : Expression) (t : ℕ) → tokens_in e ≤ 2000 → needs (lower l e t).value ≤ 11
 
--- Of a checked program no operation needs more than 15, as far as the calls of its built-in functions have at most two arguments each.
+-- in a checked program no call of a built-in function has more than two arguments
+abbrev pub BuiltinsAreBrief : Type 0
+BuiltinsAreBrief = (p : Checked) → IsChecked p → BuiltinsTakeFew p
+
+-- so none of its operations, by any layout, needs more registers than there are for values
 abbrev pub RegistersSuffice : Type 0
-RegistersSuffice = (p : Checked) (l : Layout) → IsChecked p → BuiltinsTakeFew p →
-    AllByRecursion (λ g. AllByRecursion LinearFits g.ops) (unit_of (regions_of p l)).functions
+RegistersSuffice = (p : Checked) (l : Layout) → IsChecked p → AllByRecursion (λ g. AllByRecursion LinearFits g.ops) (unit_of (regions_of p l)).functions

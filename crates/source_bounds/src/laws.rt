@@ -1,6 +1,6 @@
 //! Laws of what is emitted for checked programs: calls of no effect, whose contracts state what holds of each program.
 ghost use Rattle.source_bounds.specs.Laws.{BadExceptionIsThere, BasesAreThere, CheckedIsLinkable, FunctionsFit, FunctionsStandInRow, RoomIsSmall, TokensAreFew, UnitsAreBounded};
-ghost use Rattle.source_bounds.specs.RegisterLaws.{RegistersSuffice, ValuesNeedFew};
+ghost use Rattle.source_bounds.specs.RegisterLaws.{BuiltinsAreBrief, RegistersSuffice, ValuesNeedFew};
 ghost use Rattle.source_bounds.specs.WordLaws.{FunctionsAreShort, OperationsAreShort, ProgramsAreShort};
 
 use landing_pads::laws::{frames_of_checked_fit, tables_are_short};
@@ -88,7 +88,12 @@ pub fn values_need_few()
     ensures { ValuesNeedFew }
 {}
 
-/// No operation of a checked program needs more registers than there are, where no call of a built-in function has more than two arguments.
+/// In a checked program no call of a built-in function has more than two arguments.
+pub fn builtins_are_brief()
+    ensures { BuiltinsAreBrief }
+{}
+
+/// No operation of a checked program needs more registers than there are for values.
 pub fn registers_suffice()
     ensures { RegistersSuffice }
 {}
