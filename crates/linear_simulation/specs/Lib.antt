@@ -1,0 +1,4 @@
+pub mod Watched
+pub mod Alike
+pub mod Comes
+pub mod Simulates
