@@ -17,7 +17,7 @@ use Rattle.linear_forms.specs.Agrees.{Agrees}
 use Rattle.linear_forms.specs.CodeRuns.{Reaches}
 use Rattle.linear_forms.specs.CodeRunsRegions.{context_of, called_from}
 use Rattle.linear_forms.proofs.Running
-use Rattle.linear_simulation.specs.Comes.{StopsAt, Answered, Comes, comes_back, IsEnd, ComesToEnd, IsNotOpened, CallsRun, state_after}
+use Rattle.linear_simulation.specs.Comes.{StopsAt, Answered, Comes, comes_back, IsEnd, ComesToEnd, IsNotOpened, Opened, CallsRun, state_after}
 
 -- an open call of the runtime's own counts for none
 pub none_more : (d : ℕ) → d + 0 ≡ d
@@ -57,7 +57,7 @@ module _ (code : Code) (most : ℕ) where
         → Comes code most st.frame a fs (comes_back code a fs) m t (run.call g words (context_of gs a fs) st) (c + 1)
     call_comes {m} {t} {c} g words a fs gs st mid we se lt ag r = go (run.call g words (context_of gs a fs) st) (calls.runs g a fs gs words st lt ag)
       where
-        go : (x : Result ℤ) → (IsNotOpened x st ⊎ Comes code most st.frame a fs (comes_back code a fs) (called_from code g words a fs st.world) st.turns x 0)
+        go : (x : Result ℤ) → (IsNotOpened x st ⊎ Opened code most a fs (called_from code g words a fs st.world) st x)
             → Comes code most st.frame a fs (comes_back code a fs) m t x (c + 1)
         go x (inl (inl (e, z))) = subst (λ y. Comes code most st.frame a fs (comes_back code a fs) m t y (c + 1)) (sym e) (record {
           next = goes_to mid;
@@ -70,9 +70,10 @@ module _ (code : Code) (most : ℕ) where
           comes = (mid, refl, we);
         })
         go x (inr k) = record {
-          next = k.next;
-          reaches = Running.slower code most 0 (c + 1) (omega arith) (Running.reaches_on code most 0 (on_step r se) k.reaches);
-          comes = k.comes;
+          next = k.comes.next;
+          reaches = Running.slower code most 0 (c + 1) (omega arith) (Running.reaches_on code most 0
+              (subst (λ u. Reaches code most m t (goes_to mid) u c) k.spent r) (Running.turn_step code most 0 k.left se k.comes.reaches k.paid));
+          comes = k.comes.comes;
         }
 
     -- what terminate's handler comes to

@@ -18,3 +18,7 @@ pub mod Limiting
 pub mod Cases
 pub mod Handlers
 pub mod Regions
+pub mod Endings
+pub mod Functions
+pub mod Lengthening
+pub mod Programs

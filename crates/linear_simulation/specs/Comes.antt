@@ -1,5 +1,5 @@
 -- What the machine comes to where something that an open call does comes out so: an operation of it, or a call that it makes.
-use Rattle.std.specs.Prelude.{◌≡◌, ℕ, ◌<◌, ◌≤◌, ◌⊎◌, ℤ, true, List, ◌∷◌, Some}
+use Rattle.std.specs.Prelude.{◌≡◌, ℕ, suc, ◌+◌, ◌<◌, ◌≤◌, ◌⊎◌, ℤ, true, List, ◌∷◌, Some}
 use Rattle.scope_rules.specs.Outcome.{Stop, thrown, cancelled, ended, undefined, out_of_turns, deep}
 use Rattle.region_forms.specs.World.{Word, Frame, type_at}
 use Rattle.region_forms.specs.Guard.{Guard}
@@ -87,14 +87,23 @@ pub record ComesToEnd {A : Type 0} (code : Code) (most : ℕ) (m : State) (t : �
 abbrev pub IsNotOpened : Result ℤ → RegionState → Type 0
 IsNotOpened r st = ((r ≡ stopped out_of_turns st) × (st.turns ≡ 0)) ⊎ (r ≡ stopped deep st)
 
+-- A call was opened: a turn was spent, which pays for the call's step and all others that spend none. The function then comes to what the
+-- result says, in as many steps as turns are spent, or more.
+pub record Opened (code : Code) (most : ℕ) (a : Activation) (fs : List Activation) (m : State) (st : RegionState) (r : Result ℤ) : Type 0 where
+  pub left : ℕ
+  pub spent : st.turns ≡ suc left
+  pub cost : ℕ
+  pub paid : cost + 1 ≤ most
+  pub comes : Comes code most st.frame a fs (comes_back code a fs) m left r cost
+
 -- A function does at the machine what it does as regions, whichever activation calls it, a compiled one or one of the runtime's own, where
--- the search from there agrees with the guards. The turn of the call pays for its steps.
+-- the search from there agrees with the guards.
 abbrev pub FunctionRuns : Code → (most fuel : ℕ) → Running → ℕ → Type 0
 FunctionRuns code most fuel run g =
     (a : Activation) (fs : List Activation) (gs : List Guard) (words : List Word) (st : RegionState) → st.turns < fuel
     → Agrees code a.function gs (look code a.function a.place) fs
     → IsNotOpened (run.call g words (context_of gs a fs) st) st ⊎
-    Comes code most st.frame a fs (comes_back code a fs) (called_from code g words a fs st.world) st.turns (run.call g words (context_of gs a fs) st) 0
+    Opened code most a fs (called_from code g words a fs st.world) st (run.call g words (context_of gs a fs) st)
 
 -- What calls do: each runs, a call comes back to the frame that made it, and terminate, once begun, goes on. A turn pays for a step.
 pub record CallsRun (code : Code) (most fuel : ℕ) (run : Running) : Type 0 where

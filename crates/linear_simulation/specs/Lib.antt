@@ -2,3 +2,5 @@ pub mod Watched
 pub mod Alike
 pub mod Comes
 pub mod Simulates
+pub mod FunctionsRun
+pub mod ProgramRuns

@@ -1,7 +1,20 @@
 // Laws of the simulation: calls of no effect, whose contracts state what holds of every program.
+ghost use Rattle.linear_simulation.specs.FunctionsRun.{FunctionsRun};
+ghost use Rattle.linear_simulation.specs.ProgramRuns.{ProgramRuns};
 ghost use Rattle.linear_simulation.specs.Simulates.{CodeRunsWatched};
 
 /// With calls that run, the code of every region does at the machine what the region does, in steps in proportion to its turns.
 pub fn regions_run()
     ensures { CodeRunsWatched }
+{}
+
+/// In a program of sound functions every call runs, whatever its fuel.
+pub fn functions_run()
+    ensures { FunctionsRun }
+{}
+
+/// The run of a program's linear code comes to the end that the program of regions has, with its items, its deepest call and its replies, in
+/// steps in proportion to its turns; where the turns are used up, it begins with the items so far.
+pub fn programs_run()
+    ensures { ProgramRuns }
 {}

@@ -1,0 +1,46 @@
+-- What the run of a program's linear code shows, against the meaning of its regions.
+use Rattle.std.specs.Prelude.{◌≡◌, ℕ, ◌+◌, ◌*◌, ◌≤◌, List, ◌++◌}
+use Rattle.eh_outer.specs.declared.module.Reply.{Reply}
+use Rattle.run_items.specs.declared.item.Item.{Item}
+use Rattle.scope_rules.specs.Outcome.{thrown, cancelled, ended, undefined, out_of_turns, deep}
+use Rattle.scope_rules.specs.Meaning.{Meaning, MainOutcome, returned, stopped_by}
+use Rattle.region_forms.specs.Form.{Regions}
+use Rattle.linear_forms.specs.Unit.{unit_of}
+use Rattle.linear_forms.specs.UnitRun.{unit_run, seen_of, seen_run}
+use Rattle.linear_forms.specs.Machine.{Run, over, budget}
+use Rattle.linear_simulation.specs.Watched.{watched_meaning}
+use Rattle.linear_simulation.specs.FunctionsRun.{AreSound}
+
+-- the items of a run
+abbrev pub items_of : Run → List Item
+items_of (over e w) = w.items
+items_of (budget w) = w.items
+
+-- a list begins with another
+abbrev pub BeginsWith : List Item → List Item → Type 0
+BeginsWith xs ys = (more : List Item) × (ys ≡ xs ++ more)
+
+-- from so many steps on the run is over, and shows what the meaning shows
+abbrev pub Ends : Meaning → ℕ → (ℕ → Run) → Type 0
+Ends m enough run = (n : ℕ) → enough ≤ n → seen_run (run n) ≡ seen_of m
+
+-- from so many steps on the items of the run begin with those of the meaning
+abbrev pub Begins : Meaning → ℕ → (ℕ → Run) → Type 0
+Begins m enough run = (n : ℕ) → enough ≤ n → BeginsWith m.items (items_of (run n))
+
+-- By how main came out: where the meaning has an end the run comes to just that, with its items, its deepest call and its replies; where
+-- the turns are used up, or nothing more is said, its items are those that the run begins with. No exception comes out of main.
+abbrev pub Shows : MainOutcome → Meaning → ℕ → (ℕ → Run) → Type 0
+Shows (returned v) m enough run = Ends m enough run
+Shows (stopped_by (thrown e)) m enough run = ⊥
+Shows (stopped_by (cancelled n)) m enough run = Ends m enough run
+Shows (stopped_by (ended e)) m enough run = Ends m enough run
+Shows (stopped_by undefined) m enough run = Ends m enough run
+Shows (stopped_by out_of_turns) m enough run = Begins m enough run
+Shows (stopped_by deep) m enough run = Begins m enough run
+
+-- for every program of sound functions, every input, every list of replies, every limit of open calls and every number of turns
+abbrev pub ProgramRuns : Type 0
+ProgramRuns =
+    (p : Regions) (most limit : ℕ) → AreSound p most → (input : List ℕ) (replies : List (List Reply)) (turns : ℕ)
+    → Shows (watched_meaning p input replies turns limit).main (watched_meaning p input replies turns limit) ((turns + 1) * most) (unit_run (unit_of p) input replies)
