@@ -22,3 +22,4 @@ pub mod Endings
 pub mod Functions
 pub mod Lengthening
 pub mod Programs
+pub mod Sound

@@ -27,10 +27,11 @@ use Rattle.linear_forms.proofs.Standing.{functions_stand}
 use Rattle.linear_forms.proofs.Running
 use Rattle.linear_simulation.specs.Watched.{watched, watched_function, watched_call, watched_call_of}
 use Rattle.linear_simulation.specs.Comes.{CallsRun}
-use Rattle.linear_simulation.specs.FunctionsRun.{ResultIn, AreSound, running_of}
-use Rattle.linear_simulation.specs.ProgramRuns.{items_of, BeginsWith, Shows, ProgramRuns}
+use Rattle.linear_simulation.specs.FunctionsRun.{ResultIn, AreSound, running_of, program_cost}
+use Rattle.linear_simulation.specs.ProgramRuns.{items_of, BeginsWith, Shows, ProgramRuns, ProgramsRun, RunShows}
 use Rattle.linear_simulation.proofs.Parts
 use Rattle.linear_simulation.proofs.Lengthening
+use Rattle.linear_simulation.proofs.Sound.{sound_where_well_formed}
 use Rattle.linear_simulation.proofs.Functions.{kinds_same, functions_run}
 use Rattle.linear_simulation.proofs.Functions
 use Rattle.linear_simulation.proofs.Regions.{region_runs}
@@ -180,3 +181,11 @@ program_runs p most limit sound input replies turns =
     shows (code_of (unit_of p)) (first_state (unit_of p) input replies)
     (watched_call p limit (suc turns) p.main [] (record { guards = []; depth = 0 }) (before p most limit sound input replies turns)) ((turns + 1) * most)
     (main_comes p most limit sound input replies turns (slice_get p.functions p.main) refl)
+
+pub programs_run : ProgramsRun
+programs_run = record {
+  watched = λ p limit well catches input replies turns. program_runs p (program_cost p) limit (sound_where_well_formed p well catches) input replies turns;
+  meant = λ p limit well catches input replies turns same.
+      subst (λ m. RunShows p m turns (program_cost p) input replies) same
+      (program_runs p (program_cost p) limit (sound_where_well_formed p well catches) input replies turns);
+}

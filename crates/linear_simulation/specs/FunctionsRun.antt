@@ -1,8 +1,9 @@
 -- That every function of a program runs.
-use Rattle.std.specs.Prelude.{◌≡◌, ℕ, ◌+◌, ◌<◌, ◌≤◌, true, length, [], Option, None, Some, slice_get}
+use Rattle.std.specs.Prelude.{max, ◌≡◌, ℕ, ◌+◌, ◌<◌, ◌≤◌, true, length, [], Option, None, Some, slice_get, Bool, List, ◌∷◌, max}
 use Rattle.region_forms.specs.Form.{RegionFunction, Regions, kinds_of}
 use Rattle.region_forms.specs.Mentioned.{slots_of}
 use Rattle.region_forms.specs.Ending.{Running}
+use Rattle.region_forms.specs.WellFormed.{every, is_well_formed}
 use Rattle.linear_forms.specs.Exits.{outs_of}
 use Rattle.linear_forms.specs.Unit.{unit_of}
 use Rattle.linear_forms.specs.UnitRun.{code_of}
@@ -37,3 +38,20 @@ running_of p limit fuel = record { types = p.types; kinds = kinds_of []; limit =
 -- with every fuel, calls run
 abbrev pub FunctionsRun : Type 0
 FunctionsRun = (p : Regions) (most limit : ℕ) → AreSound p most → (fuel : ℕ) → CallsRun (code_of (unit_of p)) most fuel (running_of p limit fuel)
+
+-- more than what each function of a list costs
+abbrev pub cost_bound : List RegionFunction → ℕ
+cost_bound [] = 2
+cost_bound (f ∷ fs) = max (cost f.body + 2) (cost_bound fs)
+
+-- more than what each function of a program costs, which depends on the program alone
+abbrev pub program_cost : Regions → ℕ
+program_cost p = cost_bound p.functions
+
+-- each region of a program that catches has a clause
+abbrev pub catches_have_clauses : Regions → Bool
+catches_have_clauses p = every (λ f. has_clauses f.body) p.functions
+
+-- the functions of well-formed regions are sound, where each region that catches has a clause
+abbrev pub SoundWhereWellFormed : Type 0
+SoundWhereWellFormed = (p : Regions) → is_well_formed p ≡ true → catches_have_clauses p ≡ true → AreSound p (program_cost p)

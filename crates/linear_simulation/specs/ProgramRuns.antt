@@ -1,15 +1,17 @@
 -- What the run of a program's linear code shows, against the meaning of its regions.
-use Rattle.std.specs.Prelude.{◌≡◌, ℕ, ◌+◌, ◌*◌, ◌≤◌, List, ◌++◌}
+use Rattle.std.specs.Prelude.{◌≡◌, ℕ, ◌+◌, ◌*◌, ◌≤◌, true, List, ◌++◌}
 use Rattle.eh_outer.specs.declared.module.Reply.{Reply}
 use Rattle.run_items.specs.declared.item.Item.{Item}
 use Rattle.scope_rules.specs.Outcome.{thrown, cancelled, ended, undefined, out_of_turns, deep}
 use Rattle.scope_rules.specs.Meaning.{Meaning, MainOutcome, returned, stopped_by}
 use Rattle.region_forms.specs.Form.{Regions}
+use Rattle.region_forms.specs.Meaning.{regions_meaning}
+use Rattle.region_forms.specs.WellFormed.{is_well_formed}
 use Rattle.linear_forms.specs.Unit.{unit_of}
 use Rattle.linear_forms.specs.UnitRun.{unit_run, seen_of, seen_run}
 use Rattle.linear_forms.specs.Machine.{Run, over, budget}
 use Rattle.linear_simulation.specs.Watched.{watched_meaning}
-use Rattle.linear_simulation.specs.FunctionsRun.{AreSound}
+use Rattle.linear_simulation.specs.FunctionsRun.{AreSound, program_cost, catches_have_clauses}
 
 -- the items of a run
 abbrev pub items_of : Run → List Item
@@ -39,8 +41,21 @@ Shows (stopped_by undefined) m enough run = Ends m enough run
 Shows (stopped_by out_of_turns) m enough run = Begins m enough run
 Shows (stopped_by deep) m enough run = Begins m enough run
 
--- for every program of sound functions, every input, every list of replies, every limit of open calls and every number of turns
+-- what the run of a program's linear code shows, against a meaning: for each turn and one more, so many steps are enough
+abbrev pub RunShows : Regions → Meaning → (turns most : ℕ) → List ℕ → List (List Reply) → Type 0
+RunShows p m turns most input replies = Shows m.main m ((turns + 1) * most) (unit_run (unit_of p) input replies)
+
+-- for every program of sound functions, every limit of open calls, every input, every list of replies and every number of turns
 abbrev pub ProgramRuns : Type 0
 ProgramRuns =
     (p : Regions) (most limit : ℕ) → AreSound p most → (input : List ℕ) (replies : List (List Reply)) (turns : ℕ)
-    → Shows (watched_meaning p input replies turns limit).main (watched_meaning p input replies turns limit) ((turns + 1) * most) (unit_run (unit_of p) input replies)
+    → RunShows p (watched_meaning p input replies turns limit) turns most input replies
+
+-- So it is for well-formed regions of which each that catches has a clause: the run shows what the watched meaning shows, and what the
+-- meaning shows where that is the same.
+pub record ProgramsRun : Type 0 where
+  pub watched : (p : Regions) (limit : ℕ) → is_well_formed p ≡ true → catches_have_clauses p ≡ true → (input : List ℕ) (replies : List (List Reply)) (turns : ℕ)
+      → RunShows p (watched_meaning p input replies turns limit) turns (program_cost p) input replies
+  pub meant : (p : Regions) (limit : ℕ) → is_well_formed p ≡ true → catches_have_clauses p ≡ true → (input : List ℕ) (replies : List (List Reply)) (turns : ℕ)
+      → watched_meaning p input replies turns limit ≡ regions_meaning p input replies turns limit
+      → RunShows p (regions_meaning p input replies turns limit) turns (program_cost p) input replies

@@ -1,5 +1,5 @@
-use Rattle.linear_simulation.proofs.Programs.{program_runs}
+use Rattle.linear_simulation.proofs.Programs.{programs_run}
 use Rattle.linear_simulation.proofs.laws.programs_run.Goals as goal
 
 pub returns : goal.returns
-returns c = program_runs
+returns c = programs_run
