@@ -27,6 +27,7 @@ use Rattle.linear_forms.proofs.Running
 use Rattle.linear_simulation.specs.Watched.{watched, watched_all}
 use Rattle.linear_simulation.specs.Comes.{CallsRun}
 use Rattle.linear_simulation.specs.Simulates.{Fits, IsChained, has_clauses, all_have_clauses, GoInside, RegionRuns}
+use Rattle.linear_simulation.proofs.Effects.{max_left, max_right}
 use Rattle.linear_simulation.proofs.Operations
 use Rattle.linear_simulation.proofs.Parts
 use Rattle.linear_simulation.proofs.Testing
@@ -34,12 +35,6 @@ use Rattle.linear_simulation.proofs.Padding.{sited, cleaned_chained}
 use Rattle.linear_simulation.proofs.Protecting
 use Rattle.linear_simulation.proofs.Barring
 use Rattle.linear_simulation.proofs.Limiting
-
-pub max_left : (a b n : ℕ) → max a b ≤ n → a ≤ n
-max_left a b n h = omega (arith, h)
-
-pub max_right : (a b n : ℕ) → max a b ≤ n → b ≤ n
-max_right a b n h = omega (arith, h)
 
 module _ (code : Code) (most fuel : ℕ) (run : Running) (calls_run : CallsRun code most fuel run) where
   -- rows of regions

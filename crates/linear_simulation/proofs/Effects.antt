@@ -17,10 +17,10 @@ use Rattle.linear_forms.specs.CodeRuns.{SameBelow}
 use Rattle.linear_forms.proofs.Slots
 use Rattle.linear_simulation.specs.Alike.{Alike, InSlots, want_of, IsOther}
 
-max_left : (a b n : ℕ) → max a b ≤ n → a ≤ n
+pub max_left : (a b n : ℕ) → max a b ≤ n → a ≤ n
 max_left a b n h = omega (arith, h)
 
-max_right : (a b n : ℕ) → max a b ≤ n → b ≤ n
+pub max_right : (a b n : ℕ) → max a b ≤ n → b ≤ n
 max_right a b n h = omega (arith, h)
 
 pub same_slot : (n s : ℕ) (x : Word) (f g : Frame) → SameBelow n f g → SameBelow n (with_slot s x f) (with_slot s x g)

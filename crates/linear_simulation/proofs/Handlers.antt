@@ -31,7 +31,8 @@ use Rattle.linear_simulation.proofs.Padding.{sited}
 use Rattle.linear_simulation.proofs.Selecting.{NoOther}
 use Rattle.linear_simulation.proofs.Catching.{Hits}
 use Rattle.linear_simulation.proofs.Catching
-use Rattle.linear_simulation.proofs.Cases.{max_left, max_right, At}
+use Rattle.linear_simulation.proofs.Cases.{At}
+use Rattle.linear_simulation.proofs.Effects.{max_left, max_right}
 
 -- the tests are no more than what the handlers cost
 tests_cost : (em : Emitting) (l : ℕ) (cs : Clauses) → length (clause_tests em l cs) ≤ cost_clauses cs

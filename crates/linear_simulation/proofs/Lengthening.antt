@@ -4,10 +4,9 @@ use Rattle.std.specs.Prelude.{ℤ, pos, negsuc, ◌==◌, if◌then◌else◌}
 use Rattle.run_items.specs.declared.item.Item.{Item}
 use Rattle.run_items.specs.declared.item.Item.TheVariants.{Free, Leave, Destroy, Clean, Enter}
 use Rattle.region_forms.specs.Caught.{gives_back}
-use Rattle.region_forms.specs.Form.{Kinds, SlotKind, int_slot, address_slot, object_slot, help_slot}
 use Rattle.region_forms.specs.World.{Word, nothing, number_word, address_word, flying, unwinding, Frame, World, Exception, building, native, foreign, exception_in_slot, exception_at, type_at, exception_of, address_in}
 use Rattle.region_forms.specs.Evaluation.{value_in}
-use Rattle.region_forms.specs.Effect.{Effect, goes, calls, raises, terminates, ends, cancels, leaves_newest, meaningless, effect, int_passed_to, world_passed, entered_doomed, left, newest_of, result_in, finished, flies}
+use Rattle.region_forms.specs.Effect.{Effect, goes, calls, raises, terminates, ends, cancels, leaves_newest, meaningless, effect, entered_doomed, left, newest_of, result_in, finished, flies}
 use Rattle.region_forms.specs.Unexpected.{kept_with}
 use Rattle.scope_rules.specs.Arithmetic.{is_zero}
 use Rattle.scope_rules.specs.Outcome.{aborted}
@@ -25,7 +24,7 @@ use Rattle.linear_forms.specs.Unwinding.{pad_entered, unwound_by, unwound_at, un
 use Rattle.linear_forms.specs.Forced.{forced_by, forced_at, forced_above, force}
 use Rattle.linear_forms.specs.Machine.{act_on, step, over, exec, go_on}
 use Rattle.linear_simulation.specs.ProgramRuns.{items_of, BeginsWith}
-use Rattle.linear_simulation.proofs.Endings.{nothing_more, EffectKeeps, effect_keeps, finished_keeps}
+use Rattle.linear_simulation.proofs.Endings.{nothing_more, given_alike, EffectKeeps, effect_keeps, finished_keeps}
 
 pub longer_same : (xs : List Item) → BeginsWith xs xs
 longer_same xs = ([], nothing_more xs)
@@ -65,24 +64,9 @@ pad_adds (Some (linear (resume s))) x n f p y fs w = longer_same w.items
 pad_adds (Some (linear (unexpected o s))) x n f p y fs w = longer_same w.items
 pad_adds (Some (linear (return r))) x n f p y fs w = longer_same w.items
 
--- the parameters of a call
-passed_same : (k : SlotKind) (c s : ℕ) (x : Word) (w : World) → (int_passed_to k c s x w).items ≡ w.items
-passed_same int_slot c s (number_word v) w = refl
-passed_same int_slot c s nothing w = refl
-passed_same int_slot c s (address_word a) w = refl
-passed_same int_slot c s (flying e t) w = refl
-passed_same int_slot c s (unwinding z) w = refl
-passed_same address_slot c s x w = refl
-passed_same object_slot c s x w = refl
-passed_same help_slot c s x w = refl
-
-world_same : (k : Kinds) (given : List Word) (c s : ℕ) (w : World) → (world_passed k c s given w).items ≡ w.items
-world_same k [] c s w = refl
-world_same k (x ∷ given) c s w = world_same k given c (s + 1) (int_passed_to (k s) c s x w) ∙ passed_same (k s) c s x w
-
 module _ (code : Code) where
   call_adds : (n : ℕ) (given : List Word) (fs : List Activation) (w : World) → Lengthens w (enters_function code n given fs w)
-  call_adds n given fs w = ([], world_same (code.kinds_at n) given w.calls 0 w ∙ nothing_more w.items)
+  call_adds n given fs w = ([], (given_alike (code.kinds_at n) given w.calls 0 w).1 ∙ nothing_more w.items)
 
   by_adds : (v : Verdict) (p t e : ℕ) (f : Function) (x : Frame) (fs : List Activation) (w : World) (rest : Next) → Lengthens w rest → Lengthens w (unwound_by code v p t e f x fs w rest)
   by_adds (target n) p t e f x fs w rest h =

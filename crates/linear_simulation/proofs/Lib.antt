@@ -23,3 +23,4 @@ pub mod Functions
 pub mod Lengthening
 pub mod Programs
 pub mod Sound
+mod Worked

@@ -1,5 +1,5 @@
 -- One operation of a function, where it stands.
-use Rattle.std.proofs.Common.{◌≡◌, ℕ, ◌+◌, ◌<◌, ◌≤◌, Bool, true, false, List, [], ◌∷◌, Option, Some, None, refl, sym, ap, ◌∙◌, subst, arith, max}
+use Rattle.std.proofs.Common.{◌≡◌, ℕ, ◌+◌, ◌<◌, ◌≤◌, Bool, true, false, List, [], ◌∷◌, Option, Some, None, refl, sym, ap, ◌∙◌, subst, arith}
 use Rattle.std.specs.Prelude.{if◌then◌else◌}
 use Rattle.scope_rules.specs.Outcome.{Stop, thrown, cancelled, ended, undefined, out_of_turns, deep}
 use Rattle.region_forms.specs.Form.{Place, Op, evaluate, store, bind, call, construct, destroy, make, throw, rethrow, enter, leave}
@@ -29,13 +29,11 @@ use Rattle.linear_forms.proofs.Slots
 use Rattle.linear_simulation.specs.Alike.{Alike, InSlots, want_of, IsOther}
 use Rattle.linear_simulation.specs.Watched.{watched_leave, watched_operation}
 use Rattle.linear_simulation.specs.Comes.{turns_at, Comes, goes_on, goes_alike, IsEnd, ComesToEnd, CallsRun}
+use Rattle.linear_simulation.proofs.Effects.{max_left}
 use Rattle.linear_simulation.proofs.Effects
 use Rattle.linear_simulation.proofs.Coming
 use Rattle.linear_simulation.proofs.Leaving
 use Rattle.linear_simulation.proofs.Performing
-
-max_left : (a b n : ℕ) → max a b ≤ n → a ≤ n
-max_left a b n h = omega (arith, h)
 
 -- the place that an operation's value goes to is among its slots
 want_in : (n : ℕ) (o : Op) → slots_of_op o ≤ n → InSlots n (want_of o)
