@@ -1,5 +1,5 @@
 -- That every function of a program runs.
-use Rattle.std.specs.Prelude.{max, ◌≡◌, ℕ, ◌+◌, ◌<◌, ◌≤◌, true, length, [], Option, None, Some, slice_get, Bool, List, ◌∷◌, max}
+use Rattle.std.specs.Prelude.{◌≡◌, ℕ, ◌+◌, ◌<◌, ◌≤◌, max, Bool, true, List, [], ◌∷◌, length, Option, None, Some, slice_get}
 use Rattle.region_forms.specs.Form.{RegionFunction, Regions, kinds_of}
 use Rattle.region_forms.specs.Mentioned.{slots_of}
 use Rattle.region_forms.specs.Ending.{Running}

@@ -3,7 +3,8 @@ ghost use Rattle.linear_simulation.specs.FunctionsRun.{FunctionsRun, SoundWhereW
 ghost use Rattle.linear_simulation.specs.ProgramRuns.{ProgramsRun};
 ghost use Rattle.linear_simulation.specs.Simulates.{CodeRunsWatched};
 
-/// With calls that run, the code of every region does at the machine what the region does, in steps in proportion to its turns.
+/// With calls that run, the code of every region does at the machine what the region does, watched, in steps in proportion to its turns:
+/// values and effects, calls, throw and search, branches and loops, scopes with their cleanups, handlers, specifications, barriers, exits.
 pub fn regions_run()
     ensures { CodeRunsWatched }
 {}
@@ -18,8 +19,9 @@ pub fn well_formed_is_sound()
     ensures { SoundWhereWellFormed }
 {}
 
-/// The run of a program's linear code comes to the end that the program of regions has, with its items, its deepest call and its replies, in
-/// steps in proportion to its turns; where the turns are used up, it begins with the items so far.
+/// Of well-formed regions of which each that catches has a clause, the run of the linear code comes to the end of the watched meaning, with its
+/// items, its deepest call and its replies, in steps in proportion to its turns; where the turns are used up or calls are too deep, it begins
+/// with the items so far. Where the watched meaning is the meaning, so it is of the meaning.
 pub fn programs_run()
     ensures { ProgramsRun }
 {}
