@@ -19,7 +19,7 @@ use Rattle.region_forms.specs.Outcome.{State, Context, Flow, normal, leaves, Res
 use Rattle.region_forms.specs.Ending.{Running, terminate_with, run_terminate_handler, terminate_because, enter_and_terminate, raise, after_barrier, behind_barrier, unwound, after_scope, after_part, after_destructor, spend, spend_turn, empty_call, call_destructor, give_back, leave_newest, settled, perform, bad_row, terminate}
 use Rattle.region_forms.specs.Unexpected.{kept_with, throw_bad, made}
 use Rattle.region_forms.specs.Meaning.{outwards, followed, operation, value_of, loop_of, after_building, after_try, with_object, after_call, called_state, function_result}
-use Rattle.linear_simulation.specs.Watched.{same_type, still, kept_type, kept_on, not_its_own, watched_leave, watched_operation, watched_cleaned, watched_handled, watched_pass, watched_after, watched_handler, watched_unexpected, watched_limit, watched, watched_all, watched_caught, watched_body, watched_function, watched_call, watched_call_of}
+use Rattle.linear_simulation.specs.Watched.{same_type, still, kept_type, kept_on, not_its_own, watched_leave, watched_operation, watched_cleaned, watched_handled, watched_pass, terminate_for, watched_after, watched_handler, watched_unexpected, watched_limit, watched, watched_all, watched_caught, watched_body, watched_function, watched_call, watched_call_of}
 use Rattle.linear_simulation.specs.Comes.{state_after}
 
 -- terminate runs behind a result, if it ran before
@@ -320,29 +320,36 @@ module _ (run : Running) (calls_keep : (g : ℕ) (words : List Word) (c : Contex
       go false = bind_kept s.world (empty_call run c (record s { world = made s.world })) (λ u. after) (empty_kept c (record s { world = made s.world }))
           (λ u s2. raise_kept A e2 c (record s2 { world = kept e2 bad_row None s2.world }))
 
-  pass_kept : (A : Type 0) (types : List ℕ) (x y : ℕ) (c : Context) (s : State) → Kept s.world (watched_pass {A = A} run types x y c s)
-  pass_kept A types x y c s = go (allows run.types types (type_at s.world y)) (contains types bad_row)
+  for_kept : (A : Type 0) (x : ℕ) (h : Option ℕ) (c : Context) (s : State) → Kept s.world (terminate_for {A = A} run x h c s)
+  for_kept A x h c s = go (same_type h (kept_with (exception_at s.world x)).terminate_handler)
+    where
+      go : (b : Bool) → Kept s.world ((if b then terminate_with {A = A} run h c else stop deep) s)
+      go true = terminate_kept A h c s
+      go false = λ e. e
+
+  pass_kept : (A : Type 0) (types : List ℕ) (x : ℕ) (h : Option ℕ) (y : ℕ) (c : Context) (s : State) → Kept s.world (watched_pass {A = A} run types x h y c s)
+  pass_kept A types x h y c s = go (allows run.types types (type_at s.world y)) (contains types bad_row)
     where
       go : (b d : Bool) → Kept s.world ((if b then raise {A = A} run y c else (if d then throw_bad run c else
-          terminate_with run (kept_with (exception_at s.world x)).terminate_handler c)) s)
+          terminate_for run x h c)) s)
       go true d = raise_kept A y c s
       go false true = bad_kept A c s
-      go false false = terminate_kept A (kept_with (exception_at s.world x)).terminate_handler c s
+      go false false = for_kept A x h c s
 
-  after_kept : (A : Type 0) (w : World) (types : List ℕ) (x : ℕ) (c : Context) (r : Result ℤ) → Kept w r → Kept w (watched_after {A = A} run types x c r)
-  after_kept A w types x c (done v s) h = λ e. terminate_kept A (kept_with (exception_at s.world x)).terminate_handler c s (h e)
-  after_kept A w types x c (stopped (thrown y) s) h = λ e.
+  after_kept : (A : Type 0) (w : World) (types : List ℕ) (x : ℕ) (h : Option ℕ) (c : Context) (r : Result ℤ) → Kept w r → Kept w (watched_after {A = A} run types x h c r)
+  after_kept A w types x th c (done v s) h = λ e. for_kept A x th c s (h e)
+  after_kept A w types x th c (stopped (thrown y) s) h = λ e.
       bind_kept s.world (perform run (enters y s.frame s.world) c s) _ (perform_kept (enters y s.frame s.world) c s (enters_keeps run.kinds s.frame s.world y))
-      (λ u s2. handled_kept c (watched_pass {A = A} run types x y c) s2 (pass_kept A types x y c s2)) (h e)
-  after_kept A w types x c (stopped (cancelled y) s) h = h
-  after_kept A w types x c (stopped (ended y) s) h = h
-  after_kept A w types x c (stopped undefined s) h = h
-  after_kept A w types x c (stopped out_of_turns s) h = h
-  after_kept A w types x c (stopped deep s) h = h
+      (λ u s2. handled_kept c (watched_pass {A = A} run types x th y c) s2 (pass_kept A types x th y c s2)) (h e)
+  after_kept A w types x th c (stopped (cancelled y) s) h = h
+  after_kept A w types x th c (stopped (ended y) s) h = h
+  after_kept A w types x th c (stopped undefined s) h = h
+  after_kept A w types x th c (stopped out_of_turns s) h = h
+  after_kept A w types x th c (stopped deep s) h = h
 
-  handler_kept : (A : Type 0) (types : List ℕ) (x : ℕ) (u : Option ℕ) (c : Context) (s : State) → Kept s.world (watched_handler {A = A} run types x u c s)
-  handler_kept A types x None c s = terminate_kept A (kept_with (exception_at s.world x)).terminate_handler c s
-  handler_kept A types x (Some u) c s = after_kept A s.world types x c (run.call u [] (guarded_by (clauses (None ∷ [])) c) s) (calls_keep u [] (guarded_by (clauses (None ∷ [])) c) s)
+  handler_kept : (A : Type 0) (types : List ℕ) (x : ℕ) (h u : Option ℕ) (c : Context) (s : State) → Kept s.world (watched_handler {A = A} run types x h u c s)
+  handler_kept A types x h None c s = for_kept A x h c s
+  handler_kept A types x h (Some u) c s = after_kept A s.world types x h c (run.call u [] (guarded_by (clauses (None ∷ [])) c) s) (calls_keep u [] (guarded_by (clauses (None ∷ [])) c) s)
 
   limit_kept : (w : World) (types : List ℕ) (c : Context) (r : Result Flow) → Kept w r → Kept w (watched_limit run types c r)
   limit_kept w types c (done a s) h = h
@@ -353,8 +360,8 @@ module _ (run : Running) (calls_keep : (g : ℕ) (words : List Word) (c : Contex
 
       go : (b : Bool) → Kept w ((if b then stop (thrown y) else watched_unexpected {A = Flow} run types y c) s)
       go true = h
-      go false = λ e. handled_kept c (watched_handler {A = Flow} run types y (kept_with (exception_at s.world y)).unexpected_handler c) s1
-          (handler_kept Flow types y (kept_with (exception_at s.world y)).unexpected_handler c s1) (h e)
+      go false = λ e. handled_kept c (watched_handler {A = Flow} run types y (kept_with (exception_at s.world y)).terminate_handler (kept_with (exception_at s.world y)).unexpected_handler c) s1
+          (handler_kept Flow types y (kept_with (exception_at s.world y)).terminate_handler (kept_with (exception_at s.world y)).unexpected_handler c s1) (h e)
   limit_kept w types c (stopped (cancelled y) s) h = h
   limit_kept w types c (stopped (ended y) s) h = h
   limit_kept w types c (stopped undefined s) h = h

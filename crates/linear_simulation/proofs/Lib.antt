@@ -23,4 +23,5 @@ pub mod Functions
 pub mod Lengthening
 pub mod Programs
 pub mod Sound
+pub mod Watching
 mod Worked

@@ -1,8 +1,9 @@
 -- Whole programs: what the run of the linear code shows.
-use Rattle.std.proofs.Common.{◌≡◌, ℕ, zero, suc, ◌+◌, ◌*◌, ◌-◌, ◌<◌, ◌≤◌, Bool, true, false, List, [], ◌∷◌, length, Option, Some, None, refl, sym, ap, ◌∙◌, subst, arith}
+use Rattle.std.proofs.Common.{◌≡◌, ℕ, zero, suc, ◌+◌, ◌*◌, ◌-◌, ◌<◌, ◌≤◌, ◌⊎◌, inl, inr, Bool, true, false, List, [], ◌∷◌, length, Option, Some, None, refl, sym, ap, ◌∙◌, subst, arith}
 use Rattle.std.specs.Prelude.{ℤ, nat_le, slice_get, if◌then◌else◌}
 use Rattle.eh_outer.specs.declared.module.Reply.{Reply}
 use Rattle.run_items.specs.declared.item.Item.{Item}
+use Rattle.scope_rules.specs.Meaning.{Meaning, stopped_by}
 use Rattle.scope_rules.specs.Outcome.{exit, aborted, thrown, cancelled, ended, undefined, out_of_turns, deep}
 use Rattle.region_forms.specs.Form.{RegionFunction, Regions, kinds_of}
 use Rattle.region_forms.specs.World.{World}
@@ -32,6 +33,7 @@ use Rattle.linear_simulation.specs.ProgramRuns.{items_of, BeginsWith, Shows, Pro
 use Rattle.linear_simulation.proofs.Parts
 use Rattle.linear_simulation.proofs.Lengthening
 use Rattle.linear_simulation.proofs.Sound.{sound_where_well_formed}
+use Rattle.linear_simulation.proofs.Watching.{watched_is_meant}
 use Rattle.linear_simulation.proofs.Functions.{kinds_same, functions_run}
 use Rattle.linear_simulation.proofs.Functions
 use Rattle.linear_simulation.proofs.Regions.{region_runs}
@@ -182,10 +184,15 @@ program_runs p most limit sound input replies turns =
     (watched_call p limit (suc turns) p.main [] (record { guards = []; depth = 0 }) (before p most limit sound input replies turns)) ((turns + 1) * most)
     (main_comes p most limit sound input replies turns (slice_get p.functions p.main) refl)
 
+meant_shows : (p : Regions) (turns : ℕ) (input : List ℕ) (replies : List (List Reply)) (m k : Meaning) → (m ≡ k) ⊎ (m.main ≡ stopped_by deep) → (m.main ≡ stopped_by deep → ⊥)
+    → RunShows p m turns (program_cost p) input replies → RunShows p k turns (program_cost p) input replies
+meant_shows p turns input replies m k (inl e) shallow h = subst (λ z. RunShows p z turns (program_cost p) input replies) e h
+meant_shows p turns input replies m k (inr d) shallow h = absurd (shallow d)
+
 pub programs_run : ProgramsRun
 programs_run = record {
   watched = λ p limit well catches input replies turns. program_runs p (program_cost p) limit (sound_where_well_formed p well catches) input replies turns;
-  meant = λ p limit well catches input replies turns same.
-      subst (λ m. RunShows p m turns (program_cost p) input replies) same
+  meant = λ p limit well catches input replies turns not_deep.
+      meant_shows p turns input replies _ _ (watched_is_meant p limit input replies turns) not_deep
       (program_runs p (program_cost p) limit (sound_where_well_formed p well catches) input replies turns);
 }

@@ -20,14 +20,14 @@ use Rattle.linear_forms.specs.Search.{found}
 use Rattle.linear_forms.specs.Unwinding.{unwind, pad_entered}
 use Rattle.linear_forms.specs.Unwinding.{raise as raise_at}
 use Rattle.linear_forms.specs.Forced.{force}
-use Rattle.linear_forms.specs.Machine.{act_on}
+use Rattle.linear_forms.specs.Machine.{act_on, step}
 use Rattle.linear_forms.specs.Operation.{wanted_by, resumed, performed}
 use Rattle.linear_forms.specs.StubOperation.{checked}
 use Rattle.linear_forms.specs.Agrees.{Agrees}
 use Rattle.linear_forms.specs.CodeRuns.{Reaches}
 use Rattle.linear_forms.specs.CodeRunsRegions.{context_of}
 use Rattle.linear_forms.proofs.Running
-use Rattle.linear_simulation.specs.Watched.{same_type, still, kept_type, kept_on, watched_leave, watched_handled, watched_pass, watched_after, watched_handler, watched_unexpected}
+use Rattle.linear_simulation.specs.Watched.{same_type, still, kept_type, kept_on, watched_leave, watched_handled, watched_pass, terminate_for, watched_after, watched_handler, watched_unexpected}
 use Rattle.linear_simulation.specs.Comes.{turns_at, turns_left, Answered, Comes, comes_back, IsEnd, ComesToEnd, BackOrEnd, CallsRun}
 use Rattle.linear_simulation.proofs.Coming.{none_more}
 use Rattle.linear_simulation.proofs.Coming
@@ -206,6 +206,24 @@ module _ (code : Code) (most fuel : ℕ) (run : Running) (calls_run : CallsRun c
       subst (λ d. ComesAt {A = A} m t q (terminate_with run h (record { guards = gs; depth = d }) st) (c + 2)) (none_more (depth_of frames))
       (ends_at _ (Coming.terminate_ends code most fuel run calls_run h (record { function = call_unexpected; place = p; frame = y }) frames gs st (omega (arith, r.falls, lt)) r))
 
+  -- terminate with the handler kept with an exception, where the runtime's function reads it
+  for_at : {A : Type 0} {m : State} {t q c : ℕ} (e : ℕ) (h : Option ℕ) (p : ℕ) (y : Frame) (st : RegionState) → t < fuel
+      → step code (record { top = record { function = call_unexpected; place = p; frame = y }; frames = frames; world = st.world })
+      ≡ terminated (kept_with (exception_at st.world e)).terminate_handler (record { function = call_unexpected; place = p; frame = y } ∷ frames) st.world
+      → Reaches code most m t (at call_unexpected p y frames st.world) st.turns c
+      → ComesAt {A = A} m t q (terminate_for run e h ctx st) (c + 3)
+  for_at {A} {m} {t} {q} {c} e h p y st lt se r = go (same_type h (kept_with (exception_at st.world e)).terminate_handler) refl
+    where
+      b : Activation
+      b = record { function = call_unexpected; place = p; frame = y }
+
+      go : (d : Bool) → same_type h (kept_with (exception_at st.world e)).terminate_handler ≡ d
+          → ComesAt {A = A} m t q ((if d then terminate_with run h ctx else stop deep) st) (c + 3)
+      go false z = record { next = at call_unexpected p y frames st.world; reaches = Running.slower code most 0 (c + 3) (omega arith) r; meets = (_, refl, refl) }
+      go true z =
+          let same = Resuming.same_type_is h (kept_with (exception_at st.world e)).terminate_handler z in
+          at_slower (c + 3) (omega arith) (terminates_at h p y st lt (Coming.on_step code most r (se ∙ ap (λ x. terminated x (b ∷ frames) st.world) same)))
+
   raises_at : {A : Type 0} {m : State} {t c : ℕ} (e q : ℕ) (y : Frame) (st : RegionState) → st.frame ≡ f0 → look code call_unexpected q ≡ padded 14 (pos 0 ∷ []) → t < fuel
       → Reaches code most m t (raise_at code e (record { function = call_unexpected; place = q; frame = y }) frames st.world) st.turns c
       → ComesAt {A = A} m t 15 (raise run e ctx st) (c + 2)
@@ -224,7 +242,7 @@ module _ (code : Code) (most fuel : ℕ) (run : Running) (calls_run : CallsRun c
       go true = refl
       go false = refl
 
-  module _ (e tg g : ℕ) (k : ℤ) (types : List ℕ) (means : code.sense_at g k ≡ list_of types) where
+  module _ (e tg g : ℕ) (k : ℤ) (types : List ℕ) (means : code.sense_at g k ≡ list_of types) (th : Option ℕ) where
     -- the frame of the runtime's function, with the handler, then with what came out of it, then with the answer
     abbrev entry : Frame
     entry = stub_frame (flying e tg) (number_word k) (number_word (pos g))
@@ -275,10 +293,10 @@ module _ (code : Code) (most fuel : ℕ) (run : Running) (calls_run : CallsRun c
     -- what came out of the handler, entered, is passed on
     passed_on : {A : Type 0} {m : State} {t c : ℕ} (h : Word) (f tf : ℕ) (st : RegionState) → st.frame ≡ f0 → t < fuel → rethrown st.world.caught st.world ≡ raises f st.world
         → Reaches code most m t (at call_unexpected 6 (with_thrown h f tf) frames st.world) st.turns c
-        → ComesAt {A = A} m t 15 (watched_pass run types e f ctx st) (c + 10)
+        → ComesAt {A = A} m t 15 (watched_pass run types e th f ctx st) (c + 10)
     passed_on {A} {m} {t} {c} h f tf st fr lt top r =
         subst (λ rows. ComesAt {A = A} m t 15 ((if allows rows types ty then raise run f ctx else (if contains types bad_row then throw_bad run ctx else
-        terminate_with run (kept_with (exception_at st.world e)).terminate_handler ctx)) st) (c + 10)) (sym calls_run.types)
+        terminate_for run e th ctx)) st) (c + 10)) (sym calls_run.types)
         (go (allows code.rows types ty) (contains types bad_row)
         (Coming.on_step code most r (ap (λ z. at call_unexpected 7 (with_answer h f tf (checked code.rows z ty)) frames st.world) means)))
       where
@@ -287,7 +305,7 @@ module _ (code : Code) (most fuel : ℕ) (run : Running) (calls_run : CallsRun c
 
         go : (b d : Bool) → Reaches code most m t (at call_unexpected 7 (with_answer h f tf (if b then pos 0 else (if d then pos 1 else pos 2))) frames st.world) st.turns (c + 1)
             → ComesAt {A = A} m t 15 ((if b then raise run f ctx else (if d then throw_bad run ctx else
-            terminate_with run (kept_with (exception_at st.world e)).terminate_handler ctx)) st) (c + 10)
+            terminate_for run e th ctx)) st) (c + 10)
         go true d k =
             let y = with_answer h f tf (pos 0) in
             let k2 = Coming.on_step code most k refl in
@@ -298,7 +316,7 @@ module _ (code : Code) (most fuel : ℕ) (run : Running) (calls_run : CallsRun c
             at_slower (c + 10) (omega arith) (bad_at h f tf st fr lt k2)
         go false false k =
             let k2 = Coming.on_step code most (Coming.on_step code most k refl) refl in
-            at_slower (c + 10) (omega arith) (terminates_at (kept_with (exception_at st.world e)).terminate_handler 9 (with_answer h f tf (pos 2)) st lt (Coming.on_step code most k2 refl))
+            at_slower (c + 10) (omega arith) (for_at e th 9 (with_answer h f tf (pos 2)) st lt refl k2)
 
     end_then : {A : Type 0} {m : State} {t q c : ℕ} (r : Result (Unit {0})) (go : Action A) → ComesToEnd code most m t r c → ComesAt {A = A} m t q (continued r (λ u. go)) c
     end_then {A} {m} {t} {q} {c} r go k =
@@ -307,7 +325,7 @@ module _ (code : Code) (most fuel : ℕ) (run : Running) (calls_run : CallsRun c
     -- an exception that came out of the handler
     thrown_at : {A : Type 0} {m : State} {t c : ℕ} (h : Word) (f tf : ℕ) (s : RegionState) → s.frame ≡ f0 → t < fuel
         → Reaches code most m t (at call_unexpected 5 (with_thrown h f tf) frames s.world) s.turns c
-        → ComesAt {A = A} m t 16 (continued {A = Unit {0}} (perform run (enters f s.frame s.world) ctx s) (λ u. watched_handled run ctx (watched_pass run types e f ctx))) (c + 21)
+        → ComesAt {A = A} m t 16 (continued {A = Unit {0}} (perform run (enters f s.frame s.world) ctx s) (λ u. watched_handled run ctx (watched_pass run types e th f ctx))) (c + 21)
     thrown_at {A} {m} {t} {c} h f tf s fr lt r = go (is_foreign (exception_at s.world f) && holds_other f s.world.caught) (Coming.on_step code most r refl)
       where
         y : Frame
@@ -317,7 +335,7 @@ module _ (code : Code) (most fuel : ℕ) (run : Running) (calls_run : CallsRun c
         b5 = record { function = call_unexpected; place = 5; frame = y }
 
         next : Action A
-        next = watched_handled run ctx (watched_pass run types e f ctx)
+        next = watched_handled run ctx (watched_pass run types e th f ctx)
 
         s2 : RegionState
         s2 = record s { world = entered f s.world }
@@ -329,17 +347,17 @@ module _ (code : Code) (most fuel : ℕ) (run : Running) (calls_run : CallsRun c
             (at_slower (c + 21) (omega arith) (end_then _ next (Coming.terminate_ends code most fuel run calls_run s.world.installed.terminate_handler b5 frames gs s (omega (arith, k.falls, lt)) k)))
         go false k =
             let p = passed_on {A = A} h f tf s2 fr lt (rethrown_top f s.world.caught (entered f s.world)) k in
-            at_slower (c + 21) (omega arith) (left_from 15 (watched_pass run types e f ctx s2) refl refl lt p)
+            at_slower (c + 21) (omega arith) (left_from 15 (watched_pass run types e th f ctx s2) refl refl lt p)
 
     -- what comes out of the handler
     handler_at : {A : Type 0} {m : State} {t c : ℕ} (h : Word) (r : Result ℤ) → t < fuel
         → Comes code most f0 (record { function = call_unexpected; place = 1; frame = with_handler h }) frames
         (comes_back code (record { function = call_unexpected; place = 1; frame = with_handler h }) frames) m t r c
-        → ComesAt {A = A} m t 16 (watched_after run types e ctx r) (c + 23)
+        → ComesAt {A = A} m t 16 (watched_after run types e th ctx r) (c + 23)
     handler_at {c = c} h (done v s) lt k =
         let b : Activation = record { function = call_unexpected; place = 1; frame = with_handler h } in
         let r2 = Running.reaches_to code most 0 (k.comes ∙ Leaving.drops code most fuel run calls_run b frames v s.world refl) k.reaches in
-        at_slower (c + 23) (omega arith) (terminates_at (kept_with (exception_at s.world e)).terminate_handler 2 (with_handler h) s lt (Coming.on_step code most r2 refl))
+        at_slower (c + 23) (omega arith) (for_at e th 2 (with_handler h) s lt refl r2)
     handler_at {c = c} h (stopped (thrown f) s) lt k =
         let x = k.comes in
         let y = with_handler h in
@@ -366,28 +384,27 @@ module _ (code : Code) (most fuel : ℕ) (run : Running) (calls_run : CallsRun c
     -- the handler is called, if there is one
     called_at : {A : Type 0} {m : State} {t c : ℕ} (h : Option ℕ) (st : RegionState) → st.frame ≡ f0 → t < fuel
         → Reaches code most m t (at call_unexpected 1 (with_handler (function_word h)) frames st.world) st.turns c
-        → ComesAt {A = A} m t 16 (watched_handler run types e h ctx st) (c + 24)
-    called_at {c = c} None st fr lt r =
-        let r2 = Coming.on_step code most (Coming.on_step code most r refl) refl in
-        at_slower (c + 24) (omega arith) (terminates_at (kept_with (exception_at st.world e)).terminate_handler 2 (with_handler nothing) st lt r2)
+        → ComesAt {A = A} m t 16 (watched_handler run types e th h ctx st) (c + 24)
+    called_at {c = c} None st fr lt r = at_slower (c + 24) (omega arith) (for_at e th 2 (with_handler nothing) st lt refl (Coming.on_step code most r refl))
     called_at {A} {m} {t} {c} (Some u) st fr lt r =
         let w = number_word (pos u) in
         let b : Activation = record { function = call_unexpected; place = 1; frame = with_handler w } in
         let k = Coming.call_comes code most fuel run calls_run u [] b frames (clauses (None ∷ []) ∷ gs) st (record { top = b; frames = frames; world = st.world }) refl refl
         (omega (arith, r.falls, lt)) (record { same = all_stopped }) r in
-        subst (λ d. ComesAt {A = A} m t 16 (watched_after run types e ctx (run.call u [] (record { guards = clauses (None ∷ []) ∷ gs; depth = d }) st)) (c + 24)) (none_more (depth_of frames))
+        subst (λ d. ComesAt {A = A} m t 16 (watched_after run types e th ctx (run.call u [] (record { guards = clauses (None ∷ []) ∷ gs; depth = d }) st)) (c + 24)) (none_more (depth_of frames))
         (at_slower (c + 24) (omega arith) (handler_at w _ lt (subst (λ z. Comes code most z b frames (comes_back code b frames) m t (run.call u [] (context_of (clauses (None ∷ []) ∷ gs) b frames) st) (c + 1)) fr k)))
       where
         all_stopped : (ty : Option ℕ) → is_doomed code.rows (clauses (None ∷ []) ∷ gs) ty ≡ is_none (found code call_unexpected (padded 3 (pos 1 ∷ pos 0 ∷ [])) ty frames)
         all_stopped None = refl
         all_stopped (Some ty) = refl
 
-    -- an exception that a specification stops
-    pub unexpected_comes : {A : Type 0} {m : State} {t c : ℕ} (st : RegionState) → st.frame ≡ f0 → t < fuel
-        → Reaches code most m t (at call_unexpected 0 entry frames st.world) st.turns c
-        → Comes {A = A} code most f0 a fs NoAnswer m t (watched_unexpected run types e ctx st) (c + 36)
-    unexpected_comes {A} {m} {t} {c} st fr lt r =
-        let h = (kept_with (exception_at st.world e)).unexpected_handler in
-        let s1 : RegionState = record st { world = entered e st.world } in
-        let k = called_at {A = A} h s1 fr lt (Coming.on_step code most r refl) in
-        Coming.comes_slower code most (c + 36) (omega arith) (resumed_from _ (left_from 16 (watched_handler run types e h ctx s1) refl refl lt k))
+  -- an exception that a specification stops
+  pub unexpected_comes : {A : Type 0} {m : State} {t c : ℕ} (e tg g : ℕ) (k : ℤ) (types : List ℕ) → code.sense_at g k ≡ list_of types → (st : RegionState) → st.frame ≡ f0 → t < fuel
+      → Reaches code most m t (at call_unexpected 0 (stub_frame (flying e tg) (number_word k) (number_word (pos g))) frames st.world) st.turns c
+      → Comes {A = A} code most f0 a fs NoAnswer m t (watched_unexpected run types e ctx st) (c + 36)
+  unexpected_comes {A} {m} {t} {c} e tg g k types means st fr lt r =
+      let h = (kept_with (exception_at st.world e)).unexpected_handler in
+      let th = (kept_with (exception_at st.world e)).terminate_handler in
+      let s1 : RegionState = record st { world = entered e st.world } in
+      let k2 = called_at e tg g k types means th {A = A} h s1 fr lt (Coming.on_step code most r refl) in
+      Coming.comes_slower code most (c + 36) (omega arith) (resumed_from _ (left_from 16 (watched_handler run types e th h ctx s1) refl refl lt k2))

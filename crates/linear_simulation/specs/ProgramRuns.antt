@@ -1,5 +1,5 @@
 -- What the run of a program's linear code shows, against the meaning of its regions.
-use Rattle.std.specs.Prelude.{◌≡◌, ℕ, ◌+◌, ◌*◌, ◌≤◌, true, List, ◌++◌}
+use Rattle.std.specs.Prelude.{◌≡◌, ℕ, ◌+◌, ◌*◌, ◌≤◌, ◌⊎◌, true, List, ◌++◌}
 use Rattle.eh_outer.specs.declared.module.Reply.{Reply}
 use Rattle.run_items.specs.declared.item.Item.{Item}
 use Rattle.scope_rules.specs.Outcome.{thrown, cancelled, ended, undefined, out_of_turns, deep}
@@ -51,11 +51,18 @@ ProgramRuns =
     (p : Regions) (most limit : ℕ) → AreSound p most → (input : List ℕ) (replies : List (List Reply)) (turns : ℕ)
     → RunShows p (watched_meaning p input replies turns limit) turns most input replies
 
+-- the watched meaning of a program is its meaning, or main stops there as a call that is too deep
+abbrev pub WatchedIsMeant : Type 0
+WatchedIsMeant =
+    (p : Regions) (limit : ℕ) (input : List ℕ) (replies : List (List Reply)) (turns : ℕ)
+    → (watched_meaning p input replies turns limit ≡ regions_meaning p input replies turns limit) ⊎
+    ((watched_meaning p input replies turns limit).main ≡ stopped_by deep)
+
 -- So it is for well-formed regions of which each that catches has a clause: the run shows what the watched meaning shows, and what the
--- meaning shows where that is the same.
+-- meaning shows where the watched one does not stop as a call that is too deep.
 pub record ProgramsRun : Type 0 where
   pub watched : (p : Regions) (limit : ℕ) → is_well_formed p ≡ true → catches_have_clauses p ≡ true → (input : List ℕ) (replies : List (List Reply)) (turns : ℕ)
       → RunShows p (watched_meaning p input replies turns limit) turns (program_cost p) input replies
   pub meant : (p : Regions) (limit : ℕ) → is_well_formed p ≡ true → catches_have_clauses p ≡ true → (input : List ℕ) (replies : List (List Reply)) (turns : ℕ)
-      → watched_meaning p input replies turns limit ≡ regions_meaning p input replies turns limit
+      → ((watched_meaning p input replies turns limit).main ≡ stopped_by deep → ⊥)
       → RunShows p (regions_meaning p input replies turns limit) turns (program_cost p) input replies

@@ -1,11 +1,12 @@
 -- What regions do, watched. An exception keeps its type while it travels and does not come out of its own destructor, and functions that are
 -- called are there; where regions break this, nothing more is said of them, as of a call that is too deep. For tables are searched once for
--- the frame that an exception is to come to, and each pad on the way is chosen by the type that it has then. A handler kept with an exception
--- is read where it is used. Regions of a source are meant to break none of this, and the worked programs don't; that no source does is not
+-- the frame that an exception is to come to, and each pad on the way is chosen by the type that it has then. So it is with the handlers kept
+-- with an exception that a specification stopped. Regions of a source are meant to break none of this, and the worked programs don't; that no source does is not
 -- shown here.
 use Rattle.std.specs.Prelude.{ℕ, zero, suc, ◌+◌, ℤ, Bool, true, false, not, ◌==◌, List, [], ◌∷◌, Option, Some, None, slice_get, if◌then◌else◌}
 use Rattle.eh_outer.specs.declared.module.Reply.{Reply}
 use Rattle.scope_rules.specs.Arithmetic.{is_zero}
+use Rattle.scope_rules.specs.Class.{contains}
 use Rattle.scope_rules.specs.Outcome.{thrown, out_of_turns, deep}
 use Rattle.scope_rules.specs.Meaning.{Meaning}
 use Rattle.region_forms.specs.Form.{Op, destroy, leave, Cleanup, destroy_scope, destroy_part, free_object, leave_handler, Region, seq, op, branch, loop, protect, catch, limit, barrier, leave_region, RegionList, no_regions, region_then, Clauses, no_clauses, clause_then, RegionFunction, Regions, kinds_of}
@@ -13,8 +14,8 @@ use Rattle.region_forms.specs.World.{Word, type_at, exception_at}
 use Rattle.region_forms.specs.Guard.{clauses, listed, matches, allows, types_of}
 use Rattle.region_forms.specs.Effect.{entered, enters, newest_of}
 use Rattle.region_forms.specs.Outcome.{Context, Flow, normal, leaves, Result, done, stopped, Action, pure, stop, change, guarded_by, ◌>>=◌, ◌>>◌}
-use Rattle.region_forms.specs.Ending.{Running, terminate_with, after_scope, after_part, leave_newest, perform, behind_barrier, open_call}
-use Rattle.region_forms.specs.Unexpected.{kept_with, pass_on}
+use Rattle.region_forms.specs.Ending.{Running, terminate_with, after_scope, after_part, leave_newest, perform, behind_barrier, open_call, raise, bad_row}
+use Rattle.region_forms.specs.Unexpected.{kept_with, throw_bad}
 use Rattle.region_forms.specs.Meaning.{bounded, followed, operation, value_of, loop_of, after_building, after_try, with_object, after_call, called_state, function_result, no_frame, first_world, after_main}
 
 -- the same type, or none on both sides
@@ -63,30 +64,33 @@ watched_cleaned r leave_handler c result = after_scope r c (watched_leave r) res
 abbrev pub watched_handled : {A : Type 0} → Running → Context → Action A → Action A
 watched_handled r c act s = kept_on (act s) (after_scope r c (watched_leave r) (act s))
 
+-- terminate with the handler kept with exception e, which is still h
+abbrev pub terminate_for : {A : Type 0} → Running → (e : ℕ) → Option ℕ → Context → Action A
+terminate_for r e h c s = (if same_type h (kept_with (exception_at s.world e)).terminate_handler then terminate_with r h c else stop deep) s
+
 -- an exception that came out of the unexpected handler, entered, is passed on in place of e
-abbrev pub watched_pass : {A : Type 0} → Running → List ℕ → (e f : ℕ) → Context → Action A
-watched_pass r types e f c s = pass_on r types (kept_with (exception_at s.world e)) f c s
+abbrev pub watched_pass : {A : Type 0} → Running → List ℕ → (e : ℕ) → Option ℕ → (f : ℕ) → Context → Action A
+watched_pass r types e h f c s =
+    (if allows r.types types (type_at s.world f) then raise r f c else
+    if contains types bad_row then throw_bad r c else terminate_for r e h c) s
 
--- terminate with the handler kept with an exception
-abbrev pub terminate_for : {A : Type 0} → Running → ℕ → Context → Action A
-terminate_for r e c s = terminate_with r (kept_with (exception_at s.world e)).terminate_handler c s
+-- what comes out of an unexpected handler called for exception e, with which terminate handler h is kept
+abbrev pub watched_after : {A : Type 0} → Running → List ℕ → (e : ℕ) → Option ℕ → Context → Result ℤ → Result A
+watched_after r types e h c (done v s) = terminate_for r e h c s
+watched_after r types e h c (stopped (thrown f) s) =
+    ((λ t. perform r (enters f t.frame t.world) c t) >> watched_handled r c (watched_pass r types e h f c)) s
+watched_after r types e h c (stopped x s) = stopped x s
 
--- what comes out of an unexpected handler called for exception e
-abbrev pub watched_after : {A : Type 0} → Running → List ℕ → ℕ → Context → Result ℤ → Result A
-watched_after r types e c (done v s) = terminate_for r e c s
-watched_after r types e c (stopped (thrown f) s) =
-    ((λ t. perform r (enters f t.frame t.world) c t) >> watched_handled r c (watched_pass r types e f c)) s
-watched_after r types e c (stopped x s) = stopped x s
-
--- the unexpected handler runs, if there is one
-abbrev pub watched_handler : {A : Type 0} → Running → List ℕ → ℕ → Option ℕ → Context → Action A
-watched_handler r types e None c = terminate_for r e c
-watched_handler r types e (Some h) c = λ s. watched_after r types e c (r.call h [] (guarded_by (clauses (None ∷ [])) c) s)
+-- the unexpected handler u runs, if there is one
+abbrev pub watched_handler : {A : Type 0} → Running → List ℕ → (e : ℕ) → (h u : Option ℕ) → Context → Action A
+watched_handler r types e h None c = terminate_for r e h c
+watched_handler r types e h (Some u) c = λ s. watched_after r types e h c (r.call u [] (guarded_by (clauses (None ∷ [])) c) s)
 
 -- an exception that a specification stops
 abbrev pub watched_unexpected : {A : Type 0} → Running → List ℕ → ℕ → Context → Action A
 watched_unexpected r types e c s =
-    (change (entered e) >> watched_handled r c (watched_handler r types e (kept_with (exception_at s.world e)).unexpected_handler c)) s
+    (change (entered e) >> watched_handled r c (watched_handler r types e (kept_with (exception_at s.world e)).terminate_handler
+    (kept_with (exception_at s.world e)).unexpected_handler c)) s
 
 -- what a list does not allow is unexpected
 abbrev pub watched_limit : {A : Type 0} → Running → List ℕ → Context → Result A → Result A

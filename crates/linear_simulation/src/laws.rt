@@ -1,6 +1,6 @@
 // Laws of the simulation: calls of no effect, whose contracts state what holds of every program.
 ghost use Rattle.linear_simulation.specs.FunctionsRun.{FunctionsRun, SoundWhereWellFormed};
-ghost use Rattle.linear_simulation.specs.ProgramRuns.{ProgramsRun};
+ghost use Rattle.linear_simulation.specs.ProgramRuns.{ProgramsRun, WatchedIsMeant};
 ghost use Rattle.linear_simulation.specs.Simulates.{CodeRunsWatched};
 
 /// With calls that run, the code of every region does at the machine what the region does, watched, in steps in proportion to its turns:
@@ -19,9 +19,14 @@ pub fn well_formed_is_sound()
     ensures { SoundWhereWellFormed }
 {}
 
+/// The watched meaning of a program of regions is its meaning, or stops as a call that is too deep.
+pub fn watched_is_meant()
+    ensures { WatchedIsMeant }
+{}
+
 /// Of well-formed regions of which each that catches has a clause, the run of the linear code comes to the end of the watched meaning, with its
 /// items, its deepest call and its replies, in steps in proportion to its turns; where the turns are used up or calls are too deep, it begins
-/// with the items so far. Where the watched meaning is the meaning, so it is of the meaning.
+/// with the items so far. Where the watched meaning does not stop as a call that is too deep, so it is of the meaning.
 pub fn programs_run()
     ensures { ProgramsRun }
 {}
