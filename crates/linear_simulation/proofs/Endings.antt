@@ -447,25 +447,25 @@ module _ (run : Running) (calls_keep : (g : ℕ) (words : List Word) (c : Contex
         either_kept (matches run.types (type_at s.world x) t) s (λ u. watched run r c (with_object y x u)) (watched_caught run cs c x) (region_kept r c (with_object y x s)) (handlers_kept cs c x s)
 
 -- the parameters of a call change neither
-abbrev Alike : World → World → Type 0
-Alike w v = (v.ending ≡ w.ending) × (v.items ≡ w.items)
+abbrev Untouched : World → World → Type 0
+Untouched w v = (v.ending ≡ w.ending) × (v.items ≡ w.items)
 
-passed_alike : (k : SlotKind) (c s : ℕ) (x : Word) (w : World) → Alike w (int_passed_to k c s x w)
-passed_alike int_slot c s (number_word v) w = (refl, refl)
-passed_alike int_slot c s nothing w = (refl, refl)
-passed_alike int_slot c s (address_word a) w = (refl, refl)
-passed_alike int_slot c s (flying e t) w = (refl, refl)
-passed_alike int_slot c s (unwinding z) w = (refl, refl)
-passed_alike address_slot c s x w = (refl, refl)
-passed_alike object_slot c s x w = (refl, refl)
-passed_alike help_slot c s x w = (refl, refl)
+passed_untouched : (k : SlotKind) (c s : ℕ) (x : Word) (w : World) → Untouched w (int_passed_to k c s x w)
+passed_untouched int_slot c s (number_word v) w = (refl, refl)
+passed_untouched int_slot c s nothing w = (refl, refl)
+passed_untouched int_slot c s (address_word a) w = (refl, refl)
+passed_untouched int_slot c s (flying e t) w = (refl, refl)
+passed_untouched int_slot c s (unwinding z) w = (refl, refl)
+passed_untouched address_slot c s x w = (refl, refl)
+passed_untouched object_slot c s x w = (refl, refl)
+passed_untouched help_slot c s x w = (refl, refl)
 
-pub given_alike : (k : Kinds) (given : List Word) (c s : ℕ) (w : World)
+pub given_untouched : (k : Kinds) (given : List Word) (c s : ℕ) (w : World)
     → ((world_passed k c s given w).ending ≡ w.ending) × ((world_passed k c s given w).items ≡ w.items)
-given_alike k [] c s w = (refl, refl)
-given_alike k (x ∷ given) c s w =
-    let later = given_alike k given c (s + 1) (int_passed_to (k s) c s x w) in
-    let now = passed_alike (k s) c s x w in (later.0 ∙ now.0, later.1 ∙ now.1)
+given_untouched k [] c s w = (refl, refl)
+given_untouched k (x ∷ given) c s w =
+    let later = given_untouched k given c (s + 1) (int_passed_to (k s) c s x w) in
+    let now = passed_untouched (k s) c s x w in (later.0 ∙ now.0, later.1 ∙ now.1)
 
 frame_kept : (w : World) (x : Frame) (r : Result ℤ) → Kept w r → Kept w (after_call x r)
 frame_kept w x (done v s) h = h
@@ -482,7 +482,7 @@ call_ending p most (suc fuel) g words c s =
         frame_kept s2.world s2.frame (watched_body (record r { kinds = kinds_of f.slots }) f c2 (called_state (kinds_of f.slots) words c2.depth s2))
         (λ e. bind_kept (called_state (kinds_of f.slots) words c2.depth s2).world (watched (record r { kinds = kinds_of f.slots }) f.body c2 (called_state (kinds_of f.slots) words c2.depth s2)) (λ u. function_result (kinds_of f.slots) f.result)
         (region_kept (record r { kinds = kinds_of f.slots }) calls_keep f.body c2 (called_state (kinds_of f.slots) words c2.depth s2))
-        (λ u s3. value_kept (record r { kinds = kinds_of f.slots }) calls_keep (result_in f.result s3.frame s3.world (kinds_of f.slots)) s3) ((given_alike (kinds_of f.slots) words s2.world.calls 0 s2.world).0 ∙ e))
+        (λ u s3. value_kept (record r { kinds = kinds_of f.slots }) calls_keep (result_in f.result s3.frame s3.world (kinds_of f.slots)) s3) ((given_untouched (kinds_of f.slots) words s2.world.calls 0 s2.world).0 ∙ e))
 
     spent : (r : Running) (f : RegionFunction) (u : ℕ) → ((h : ℕ) (ws : List Word) (d : Context) (s3 : State) → Kept s3.world (r.call h ws d s3))
         → Kept s.world (continued (spend u s) (λ x. watched_function r f words (record c { depth = c.depth + 1 })))

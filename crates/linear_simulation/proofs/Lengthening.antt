@@ -24,7 +24,7 @@ use Rattle.linear_forms.specs.Unwinding.{pad_entered, unwound_by, unwound_at, un
 use Rattle.linear_forms.specs.Forced.{forced_by, forced_at, forced_above, force}
 use Rattle.linear_forms.specs.Machine.{act_on, step, over, exec, go_on}
 use Rattle.linear_simulation.specs.ProgramRuns.{items_of, BeginsWith}
-use Rattle.linear_simulation.proofs.Endings.{nothing_more, given_alike, EffectKeeps, effect_keeps, finished_keeps}
+use Rattle.linear_simulation.proofs.Endings.{nothing_more, given_untouched, EffectKeeps, effect_keeps, finished_keeps}
 
 pub longer_same : (xs : List Item) → BeginsWith xs xs
 longer_same xs = ([], nothing_more xs)
@@ -66,7 +66,7 @@ pad_adds (Some (linear (return r))) x n f p y fs w = longer_same w.items
 
 module _ (code : Code) where
   call_adds : (n : ℕ) (given : List Word) (fs : List Activation) (w : World) → Lengthens w (enters_function code n given fs w)
-  call_adds n given fs w = ([], (given_alike (code.kinds_at n) given w.calls 0 w).1 ∙ nothing_more w.items)
+  call_adds n given fs w = ([], (given_untouched (code.kinds_at n) given w.calls 0 w).1 ∙ nothing_more w.items)
 
   by_adds : (v : Verdict) (p t e : ℕ) (f : Function) (x : Frame) (fs : List Activation) (w : World) (rest : Next) → Lengthens w rest → Lengthens w (unwound_by code v p t e f x fs w rest)
   by_adds (target n) p t e f x fs w rest h =

@@ -8,6 +8,8 @@ use Rattle.cxx_ast.specs.declared.types.Ty.TheVariants.{Int, Void, Object, Objec
 use Rattle.cxx_ast.specs.declared.declaration.FuncKind.TheVariants.{Plain, Constructor, Destructor}
 use Rattle.cxx_ast.specs.Plain.{Class as ClassTree, Checked, Expression, number, path, call, std_call, Expressions, no_expressions, expression_then, Statement, return, throw, try, assign, evaluate, local_object, Statements, no_statements, statement_then, no_handlers, handler_then}
 use Rattle.eh_bytes.specs.Spelling.{uleb_spelling, uleb_spelling_within}
+use Rattle.scope_rules.specs.Outcome.{deep}
+use Rattle.scope_rules.specs.Meaning.{stopped_by}
 use Rattle.scope_rules.specs.declared.ending.MeanEnd.TheVariants.{Aborted}
 use Rattle.scope_rules.proofs.Trees.{nm, pa, fn, cl, ck}
 use Rattle.region_forms.specs.Form.{help_slot, Slot, through, make, throw as throw_op, destroy_scope, op, protect, catch, no_clauses, clause_then, in_order, TypeRow, Regions}
@@ -119,6 +121,6 @@ changes_a_type = record {
 
 changes_a_type-differs :
     (is_well_formed changes_a_type ≡ true) × ((regions_meaning changes_a_type [] [] 100 128).end ≡ Aborted) ×
-    (seen_run (unit_run (unit_of changes_a_type) [] [] 1000) ≡ faulty)
+    (seen_run (unit_run (unit_of changes_a_type) [] [] 1000) ≡ faulty) × ((watched_meaning changes_a_type [] [] 100 128).main ≡ stopped_by deep)
 unfolding changes_a_type uleb_spelling uleb_spelling_within
-changes_a_type-differs = (refl, refl, refl)
+changes_a_type-differs = (refl, refl, refl, refl)

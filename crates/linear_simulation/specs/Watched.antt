@@ -1,8 +1,7 @@
--- What regions do, watched. An exception keeps its type while it travels and does not come out of its own destructor, and functions that are
--- called are there; where regions break this, nothing more is said of them, as of a call that is too deep. For tables are searched once for
--- the frame that an exception is to come to, and each pad on the way is chosen by the type that it has then. So it is with the handlers kept
--- with an exception that a specification stopped. Regions of a source are meant to break none of this, and the worked programs don't; that no source does is not
--- shown here.
+-- What regions do, watched. An exception keeps its type while it travels and does not come out of its own destructor, functions that are
+-- called are there, and the handlers kept with an exception that a specification stopped stay. Where regions break this, nothing more is
+-- said of them, as of a call that is too deep: tables are searched once for the frame that an exception is to come to, and each pad on the
+-- way is chosen by the type that it has then. Regions of a source are meant to break none of this; that none does is not shown here.
 use Rattle.std.specs.Prelude.{ℕ, zero, suc, ◌+◌, ℤ, Bool, true, false, not, ◌==◌, List, [], ◌∷◌, Option, Some, None, slice_get, if◌then◌else◌}
 use Rattle.eh_outer.specs.declared.module.Reply.{Reply}
 use Rattle.scope_rules.specs.Arithmetic.{is_zero}
