@@ -1,5 +1,5 @@
--- Worked programs: sources whose watched meanings are their meanings, and well-formed regions, which no source gives, whose linear code comes to
--- a fault, since an exception changes its type while it travels.
+-- Worked programs: sources whose watched meanings are their meanings; and well-formed regions, written by hand, whose linear code comes to a
+-- fault, since an exception changes its type while it travels.
 use Rattle.std.specs.Prelude.{◌≡◌, refl, pos, ℕ, true, false, List, [], ◌∷◌, Some, None}
 use Rattle.cxx_ast.specs.declared.name.Bound.{Bound}
 use Rattle.cxx_ast.specs.declared.name.Bound.TheVariants.{Local, Field, Class, Func, Builtin}
