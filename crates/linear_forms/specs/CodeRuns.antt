@@ -3,9 +3,11 @@ use Rattle.std.specs.Prelude.{◌≡◌, ℕ, ◌+◌, ◌*◌, ◌<◌, ◌≤�
 use Rattle.scope_rules.specs.Class.{contains}
 use Rattle.scope_rules.specs.Outcome.{thrown, cancelled, ended, undefined, out_of_turns, deep}
 use Rattle.region_forms.specs.Form.{help_slot}
-use Rattle.region_forms.specs.World.{number_word, Frame, World, type_at}
+use Rattle.region_forms.specs.World.{Word, number_word, Frame, World, type_at}
 use Rattle.region_forms.specs.Guard.{Guard}
 use Rattle.region_forms.specs.Outcome.{State as RegionState, Context, Flow, normal, leaves, Result, done, stopped}
+use Rattle.region_forms.specs.Effect.{new_frame, new_world}
+use Rattle.region_forms.specs.Ending.{Running}
 use Rattle.linear_forms.specs.Linear.{LinearOp, label}
 use Rattle.linear_forms.specs.Tables.{Cover}
 use Rattle.linear_forms.specs.Stub.{compiled}
@@ -112,3 +114,19 @@ pub record Runs (code : Code) (most n c : ℕ) (P : Frame → Type 0) (L : Exits
 -- the state at a place of a site
 abbrev pub here : Site → ℕ → Frame → World → State
 here s p f w = record { top = record { function = compiled s.func; place = p; frame = f }; frames = s.frames; world = w }
+
+-- the context of a call by an activation
+abbrev pub context_of : List Guard → Activation → List Activation → Context
+context_of gs a fs = record { guards = gs; depth = depth_of (a ∷ fs) }
+
+-- the state in which function g begins, called by an activation
+abbrev pub called_from : Code → ℕ → List Word → Activation → List Activation → World → State
+called_from code g words a fs w = record {
+  top = record { function = compiled g; place = 0; frame = new_frame (code.kinds_at g) words w };
+  frames = a ∷ fs;
+  world = new_world (code.kinds_at g) words (depth_of (a ∷ fs) + 1) w;
+}
+
+-- the kinds of a function's own slots are the same at both levels
+abbrev pub SameKinds : Code → ℕ → ℕ → Running → Type 0
+SameKinds code f n run = (s : ℕ) → s < n → code.kinds_at f s ≡ run.kinds s

@@ -25,4 +25,4 @@ pub mod Size
 pub mod CodeRuns
 pub mod Stands
 pub mod Laws
-pub mod CodeRunsRegions
+pub mod Cost

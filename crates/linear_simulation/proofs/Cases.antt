@@ -20,7 +20,7 @@ use Rattle.linear_forms.specs.Distinct.{distinct}
 use Rattle.linear_forms.specs.Means.{AllFiltersMean}
 use Rattle.linear_forms.specs.Agrees.{Agrees}
 use Rattle.linear_forms.specs.CodeRuns.{HasAt, Site, context_at, SameBelow, LeftAt, Any, Never, Runs, here}
-use Rattle.linear_forms.specs.CodeRunsRegions.{op_cost, cost, cost_all, is_barred, all_barred}
+use Rattle.linear_forms.specs.Cost.{op_cost, cost, cost_all, is_barred, all_barred}
 use Rattle.linear_forms.proofs.Agreeing.{search_is_right}
 use Rattle.linear_forms.proofs.Integers.{both_hold}
 use Rattle.linear_forms.proofs.Running

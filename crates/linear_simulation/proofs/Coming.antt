@@ -14,8 +14,7 @@ use Rattle.linear_forms.specs.Unwinding.{unwind, doomed, doomed_by, raised_to}
 use Rattle.linear_forms.specs.Unwinding.{raise as raise_at}
 use Rattle.linear_forms.specs.Machine.{step}
 use Rattle.linear_forms.specs.Agrees.{Agrees}
-use Rattle.linear_forms.specs.CodeRuns.{Reaches}
-use Rattle.linear_forms.specs.CodeRunsRegions.{context_of, called_from}
+use Rattle.linear_forms.specs.CodeRuns.{Reaches, context_of, called_from}
 use Rattle.linear_forms.proofs.Running
 use Rattle.linear_simulation.specs.Comes.{StopsAt, Answered, Comes, comes_back, IsEnd, ComesToEnd, IsNotOpened, Opened, CallsRun, state_after}
 

@@ -22,8 +22,8 @@ use Rattle.linear_forms.specs.Code.{region_code}
 use Rattle.linear_forms.specs.Unit.{emitting, function_code, unit_of}
 use Rattle.linear_forms.specs.UnitRun.{no_code, code_of}
 use Rattle.linear_forms.specs.Agrees.{Agrees}
-use Rattle.linear_forms.specs.CodeRuns.{Site, SameBelow, LeftAt, Any, Reaches, Runs}
-use Rattle.linear_forms.specs.CodeRunsRegions.{context_of, called_from, cost}
+use Rattle.linear_forms.specs.CodeRuns.{Site, SameBelow, LeftAt, Any, Reaches, Runs, context_of, called_from}
+use Rattle.linear_forms.specs.Cost.{cost}
 use Rattle.linear_forms.proofs.Lists.{mapped}
 use Rattle.linear_forms.proofs.Standing.{functions_stand}
 use Rattle.linear_forms.proofs.Running

@@ -19,7 +19,7 @@ use Rattle.linear_forms.specs.Code.{labels, labels_clauses, clause_tests, region
 use Rattle.linear_forms.specs.Means.{AllMean, ClauseFiltersMean}
 use Rattle.linear_forms.specs.Agrees.{Agrees}
 use Rattle.linear_forms.specs.CodeRuns.{HasAt, Site, context_at, SameBelow, LeftAt, Any, Runs, here}
-use Rattle.linear_forms.specs.CodeRunsRegions.{cost, cost_clauses, is_barred, clauses_barred}
+use Rattle.linear_forms.specs.Cost.{cost, cost_clauses, is_barred, clauses_barred}
 use Rattle.linear_forms.proofs.Agreeing.{search_is_right}
 use Rattle.linear_forms.proofs.Integers.{both_hold}
 use Rattle.linear_forms.proofs.Running

@@ -20,8 +20,7 @@ use Rattle.linear_forms.specs.Forced.{force}
 use Rattle.linear_forms.specs.Unwinding.{unwind}
 use Rattle.linear_forms.specs.Machine.{step}
 use Rattle.linear_forms.specs.Agrees.{Agrees}
-use Rattle.linear_forms.specs.CodeRuns.{Reaches}
-use Rattle.linear_forms.specs.CodeRunsRegions.{context_of}
+use Rattle.linear_forms.specs.CodeRuns.{Reaches, context_of}
 use Rattle.linear_forms.proofs.Running
 use Rattle.linear_simulation.specs.Watched.{still, not_its_own, watched_leave}
 use Rattle.linear_simulation.specs.Comes.{Comes, comes_back, goes_on, BackOrEnd, CallsRun, state_after}

@@ -22,8 +22,7 @@ use Rattle.linear_forms.specs.Search.{found}
 use Rattle.linear_forms.specs.Unwinding.{unwind}
 use Rattle.linear_forms.specs.Forced.{force}
 use Rattle.linear_forms.specs.Agrees.{Agrees}
-use Rattle.linear_forms.specs.CodeRuns.{Site, context_at, SameBelow, ExitsAt, Any, Reaches, Runs, here}
-use Rattle.linear_forms.specs.CodeRunsRegions.{context_of, SameKinds}
+use Rattle.linear_forms.specs.CodeRuns.{Site, context_at, SameBelow, ExitsAt, Any, Reaches, Runs, here, context_of, SameKinds}
 use Rattle.linear_forms.proofs.Running
 use Rattle.linear_forms.proofs.Slots
 use Rattle.linear_simulation.specs.Alike.{Alike, InSlots, want_of, IsOther}

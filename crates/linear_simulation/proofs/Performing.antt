@@ -13,8 +13,7 @@ use Rattle.linear_forms.specs.Operation
 use Rattle.linear_forms.specs.Forced.{force}
 use Rattle.linear_forms.specs.Machine.{step}
 use Rattle.linear_forms.specs.Agrees.{Agrees}
-use Rattle.linear_forms.specs.CodeRuns.{SameBelow, Reaches}
-use Rattle.linear_forms.specs.CodeRunsRegions.{context_of}
+use Rattle.linear_forms.specs.CodeRuns.{SameBelow, Reaches, context_of}
 use Rattle.linear_forms.proofs.Running
 use Rattle.linear_simulation.specs.Alike.{Alike, InSlots}
 use Rattle.linear_simulation.specs.Comes.{Comes, comes_back, goes_alike, CallsRun, state_after}

@@ -23,7 +23,7 @@ use Rattle.linear_forms.specs.Unit.{emitting, unit_of}
 use Rattle.linear_forms.specs.UnitRun.{code_of, first_state, seen_run}
 use Rattle.linear_forms.specs.Machine.{over, budget, exec, go_on}
 use Rattle.linear_forms.specs.CodeRuns.{Site, LeftAt, Any, Reaches, Runs}
-use Rattle.linear_forms.specs.CodeRunsRegions.{cost}
+use Rattle.linear_forms.specs.Cost.{cost}
 use Rattle.linear_forms.proofs.Standing.{functions_stand}
 use Rattle.linear_forms.proofs.Running
 use Rattle.linear_simulation.specs.Watched.{watched, watched_function, watched_call, watched_call_of}

@@ -17,8 +17,7 @@ use Rattle.linear_forms.specs.Unwinding.{unwind}
 use Rattle.linear_forms.specs.Forced.{force}
 use Rattle.linear_forms.specs.Machine.{step}
 use Rattle.linear_forms.specs.Emission.{Emitting}
-use Rattle.linear_forms.specs.CodeRuns.{Site, SameBelow, ExitsAt, Any, Reaches, Runs, here}
-use Rattle.linear_forms.specs.CodeRunsRegions.{context_of}
+use Rattle.linear_forms.specs.CodeRuns.{Site, SameBelow, ExitsAt, Any, Reaches, Runs, here, context_of}
 use Rattle.linear_forms.proofs.Running
 use Rattle.linear_simulation.specs.Watched.{same_type, still, kept_type}
 use Rattle.linear_simulation.specs.Comes.{turns_at, Comes, goes_on, IsEnd, BackOrEnd, CallsRun}

@@ -7,7 +7,7 @@ use Rattle.region_forms.specs.Form.{SlotKind, Slot, Root, in_slot, through, in_g
 use Rattle.region_forms.specs.Mentioned.{slots_of_root, slots_of_value, slots_of_argument, slots_of_arguments, slots_of_op, slots_of_cleanup, slots_of, slots_of_all, slots_of_clauses}
 use Rattle.region_forms.specs.WellFormed.{every, holds_ints, holds_address, is_variable, is_help, slot_test, within, int_place, address_place, pure_value, argument_test, arguments_test, callee_test, takes_object, value_test, destructor_test, op_test, cleanup_test, is_op, clause_type_test, region_test, regions_test, clauses_test, result_test, function_test, rows_test}
 use Rattle.linear_forms.specs.Exits.{beyond, outs_of, outs_of_all, outs_of_clauses}
-use Rattle.linear_forms.specs.CodeRunsRegions.{cost, is_barred, all_barred, clauses_barred}
+use Rattle.linear_forms.specs.Cost.{cost, is_barred, all_barred, clauses_barred}
 use Rattle.linear_forms.proofs.Integers.{both_hold}
 use Rattle.linear_simulation.specs.Simulates.{has_clauses, GoInside}
 use Rattle.linear_simulation.specs.FunctionsRun.{ResultIn, IsSound, cost_bound, SoundWhereWellFormed}

@@ -16,8 +16,7 @@ use Rattle.linear_forms.specs.Operation.{jumped_zero}
 use Rattle.linear_forms.specs.Machine.{step}
 use Rattle.linear_forms.specs.Sites.{Placed}
 use Rattle.linear_forms.specs.Emission.{quiet, loop_code}
-use Rattle.linear_forms.specs.CodeRuns.{HasAt, Site, SameBelow, ExitsAt, Any, Runs, here}
-use Rattle.linear_forms.specs.CodeRunsRegions.{SameKinds}
+use Rattle.linear_forms.specs.CodeRuns.{HasAt, Site, SameBelow, ExitsAt, Any, Runs, here, SameKinds}
 use Rattle.linear_forms.proofs.Running
 use Rattle.linear_forms.proofs.Slots
 use Rattle.linear_simulation.proofs.Parts

@@ -24,8 +24,7 @@ use Rattle.linear_forms.specs.Machine.{act_on, step}
 use Rattle.linear_forms.specs.Operation.{wanted_by, resumed, performed}
 use Rattle.linear_forms.specs.StubOperation.{checked}
 use Rattle.linear_forms.specs.Agrees.{Agrees}
-use Rattle.linear_forms.specs.CodeRuns.{Reaches}
-use Rattle.linear_forms.specs.CodeRunsRegions.{context_of}
+use Rattle.linear_forms.specs.CodeRuns.{Reaches, context_of}
 use Rattle.linear_forms.proofs.Running
 use Rattle.linear_simulation.specs.Watched.{same_type, still, kept_type, kept_on, watched_leave, watched_handled, watched_pass, terminate_for, watched_after, watched_handler, watched_unexpected}
 use Rattle.linear_simulation.specs.Comes.{turns_at, turns_left, Answered, Comes, comes_back, IsEnd, ComesToEnd, BackOrEnd, CallsRun}

@@ -11,8 +11,7 @@ use Rattle.linear_forms.specs.Search.{found}
 use Rattle.linear_forms.specs.Unwinding.{unwind}
 use Rattle.linear_forms.specs.Forced.{force}
 use Rattle.linear_forms.specs.Agrees.{Agrees}
-use Rattle.linear_forms.specs.CodeRuns.{SameBelow, Reaches}
-use Rattle.linear_forms.specs.CodeRunsRegions.{context_of, called_from}
+use Rattle.linear_forms.specs.CodeRuns.{SameBelow, Reaches, context_of, called_from}
 
 -- the state that a result leaves
 abbrev pub state_after : {A : Type 0} → Result A → RegionState

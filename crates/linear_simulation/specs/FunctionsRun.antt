@@ -7,7 +7,7 @@ use Rattle.region_forms.specs.WellFormed.{every, is_well_formed}
 use Rattle.linear_forms.specs.Exits.{outs_of}
 use Rattle.linear_forms.specs.Unit.{unit_of}
 use Rattle.linear_forms.specs.UnitRun.{code_of}
-use Rattle.linear_forms.specs.CodeRunsRegions.{cost, is_barred}
+use Rattle.linear_forms.specs.Cost.{cost, is_barred}
 use Rattle.linear_simulation.specs.Watched.{watched_call}
 use Rattle.linear_simulation.specs.Comes.{CallsRun}
 use Rattle.linear_simulation.specs.Simulates.{has_clauses, GoInside}

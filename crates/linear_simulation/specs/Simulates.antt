@@ -14,8 +14,8 @@ use Rattle.linear_forms.specs.Emission.{Emitting}
 use Rattle.linear_forms.specs.Code.{region_code}
 use Rattle.linear_forms.specs.Means.{FiltersMean}
 use Rattle.linear_forms.specs.Agrees.{Agrees}
-use Rattle.linear_forms.specs.CodeRuns.{HasAt, Site, context_at, SameBelow, LeftAt, Any, Runs, here, SlotsBehind}
-use Rattle.linear_forms.specs.CodeRunsRegions.{cost, is_barred, SameKinds}
+use Rattle.linear_forms.specs.CodeRuns.{HasAt, Site, context_at, SameBelow, LeftAt, Any, Runs, here, SlotsBehind, SameKinds}
+use Rattle.linear_forms.specs.Cost.{cost, is_barred}
 use Rattle.linear_simulation.specs.Watched.{watched}
 use Rattle.linear_simulation.specs.Comes.{CallsRun}
 
