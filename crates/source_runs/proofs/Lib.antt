@@ -1,0 +1,6 @@
+mod Rows
+mod Expressions
+mod Statements
+mod Functions
+mod Handled
+mod Runs
