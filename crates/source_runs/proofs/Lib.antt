@@ -4,3 +4,8 @@ mod Statements
 mod Functions
 mod Handled
 mod Runs
+mod Weights
+mod WeighedExpressions
+mod WeighedStatements
+mod WeighedFunctions
+mod Costs

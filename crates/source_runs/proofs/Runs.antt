@@ -8,10 +8,10 @@ use Rattle.region_forms.specs.WellFormed.{is_well_formed}
 use Rattle.linear_simulation.specs.FunctionsRun.{catches_have_clauses}
 use Rattle.linear_simulation.proofs.Programs.{programs_run}
 use Rattle.checked_regions.proofs.Sources.{source_well_formed}
-use Rattle.source_runs.specs.Runs.{RunAsMeant, CheckedProgramsRun, ValidSourcesRun}
+use Rattle.source_runs.specs.Runs.{RunAtCost, CheckedProgramsRun, ValidSourcesRun}
 use Rattle.source_runs.proofs.Handled.{checked_clauses}
 
-regions_run : (r : Regions) → is_well_formed r ≡ true → catches_have_clauses r ≡ true → RunAsMeant r
+regions_run : (r : Regions) → is_well_formed r ≡ true → catches_have_clauses r ≡ true → RunAtCost r
 regions_run r h k = record {
   watched = λ limit input replies turns. programs_run.watched r limit h k input replies turns;
   meant = λ limit input replies turns shallow. programs_run.meant r limit h k input replies turns shallow;

@@ -18,20 +18,24 @@ use Rattle.linear_simulation.specs.FunctionsRun.{program_cost}
 use Rattle.linear_simulation.specs.ProgramRuns.{RunShows}
 
 -- The run of the linear code of regions shows what their watched meaning shows, for every limit of open calls, every input, all replies and
--- every number of turns: with `turns` of them, (turns + 1) * program_cost steps are enough. Where the watched meaning does not stop as a call
--- that is too deep, it shows what the meaning shows.
-pub record RunAsMeant (r : Regions) : Type 0 where
+-- every number of turns: for each turn and one more `most` steps are enough. Where the watched meaning does not stop as a call that is too deep,
+-- the run shows what the meaning shows.
+pub record RunAsMeant (r : Regions) (most : ℕ) : Type 0 where
   pub watched : (limit : ℕ) (input : List ℕ) (replies : List (List Reply)) (turns : ℕ) →
-      RunShows r (watched_meaning r input replies turns limit) turns (program_cost r) input replies
+      RunShows r (watched_meaning r input replies turns limit) turns most input replies
   pub meant : (limit : ℕ) (input : List ℕ) (replies : List (List Reply)) (turns : ℕ) →
       ((watched_meaning r input replies turns limit).main ≡ stopped_by deep → ⊥) →
-      RunShows r (regions_meaning r input replies turns limit) turns (program_cost r) input replies
+      RunShows r (regions_meaning r input replies turns limit) turns most input replies
+
+-- in steps that depend on the program alone
+abbrev pub RunAtCost : Regions → Type 0
+RunAtCost r = RunAsMeant r (program_cost r)
 
 -- so it is of each checked program whose tokens are those of a source
 abbrev pub CheckedProgramsRun : Type 0
-CheckedProgramsRun = (p : Checked) (c : IsChecked p) (source : List ℕ) → Lex source c.tokens → RunAsMeant (regions_of p (layout_of p))
+CheckedProgramsRun = (p : Checked) (c : IsChecked p) (source : List ℕ) → Lex source c.tokens → RunAtCost (regions_of p (layout_of p))
 
 -- and of each valid source: of the checked program of the tree of its tokens
 abbrev pub ValidSourcesRun : Type 0
 ValidSourcesRun = (source : List ℕ) (tokens : List Token) (p : Program) → Lex source tokens → Tree tokens (length source) p → Valid p →
-    RunAsMeant (regions_of (checked p) (layout_of (checked p)))
+    RunAtCost (regions_of (checked p) (layout_of (checked p)))

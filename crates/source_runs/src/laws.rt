@@ -1,5 +1,6 @@
 //! Laws of the linear code of sources.
 ghost use Rattle.source_runs.specs.Clauses.{CheckedCatchesHaveClauses};
+ghost use Rattle.source_runs.specs.Costs.{CheckedCostsFit, ValidSourcesRunInTime};
 ghost use Rattle.source_runs.specs.Runs.{CheckedProgramsRun, ValidSourcesRun};
 
 /// In the regions of each checked program each region that catches has a clause, since a try block has a handler.
@@ -17,4 +18,14 @@ pub fn checked_programs_run()
 /// meaning itself, where the watched one does not stop as a call that is too deep.
 pub fn valid_sources_run()
     ensures run { ValidSourcesRun }
+{}
+
+/// What the functions of a checked program cost from one turn to the next is no more than 40 steps for each token of its source, and 200.
+pub fn checked_costs_fit()
+    ensures fit { CheckedCostsFit }
+{}
+
+/// So many steps, for each turn and one more, are enough for the run of a valid source's linear code to show what its regions mean.
+pub fn valid_sources_run_in_time()
+    ensures run { ValidSourcesRunInTime }
 {}
