@@ -5,10 +5,12 @@ Usage: bench/compiling.py, at the top of the repository. First a line for each l
 whole compile, the size of the image, how the time grows, and what `g++ -O0 -c` takes for the same source, both without what
 they take for an empty main; and the time that `ehc exec` takes to run it. Then a line for each of three loops: the steps,
 which are instructions and runtime calls, for each turn, which is a test of a loop, or a call of a function, a constructor or a
-destructor.
+destructor; and the instructions that the same source takes for a turn where `riscv64-linux-gnu-g++ -O0` compiles it and
+`qemu-riscv64-static` runs it, if both are installed. These are counts, which no other work changes.
 """
 import os
 import pathlib
+import shutil
 import subprocess
 import sys
 import tempfile
@@ -18,17 +20,20 @@ EHC = TOP / "crates/eh_cli/out/eh_cli"
 RUNS = 3
 LENGTHS = [250, 500, 1000, 2000]
 ROUNDS = 10_000
+# What is subtracted: a run of fewer rounds, so that the beginning and the end of a program count for nothing.
+FEWER, MORE = 20, 40
+CROSS, EMULATOR = "riscv64-linux-gnu-g++", "qemu-riscv64-static"
 
 OBJECT = "struct A { int n; A(int k) { n = k; } ~A() { write_int(n); } };\n"
 QUIET = "struct A { int n; A(int k) { n = k; } ~A() { n = 0; } };\n"
 PEER = "extern void write_int(int);\n"
 EMPTY = "int main() { return 0; }\n"
 
-# Each loop with the turns of a round.
+# Each loop, of so many rounds, with the turns of a round.
 LOOPS = {
-    "calls": ("int f(int n) { return n + 1; }\nint main() { int i = 0; while (i < %d) { i = f(i); } return 0; }\n" % ROUNDS, 2),
-    "objects": (QUIET + "int main() { int i = 0; while (i < %d) { A a(i); A b(i); i = a.n + 1; } return 0; }\n" % ROUNDS, 5),
-    "throws": ("int main() { int i = 0; while (i < %d) { try { throw i; } catch (int e) { i = e + 1; } } return 0; }\n" % ROUNDS, 1),
+    "calls": ("int f(int n) { return n + 1; }\nint main() { int i = 0; while (i < %d) { i = f(i); } return 0; }\n", 2),
+    "objects": (QUIET + "int main() { int i = 0; while (i < %d) { A a(i); A b(i); i = a.n + 1; } return 0; }\n", 5),
+    "throws": ("int main() { int i = 0; while (i < %d) { try { throw i; } catch (int e) { i = e + 1; } } return 0; }\n", 1),
 }
 
 
@@ -65,6 +70,23 @@ def peer(folder, text):
     return least(["g++", "-O0", "-w", "-c", "-o", folder / "peer.o", source])[0]
 
 
+def cross_steps(folder, text):
+    """The instructions of a whole run of what the cross-compiler makes of a source: a line of the emulator's log for each."""
+    source, program, log = folder / "cross.cc", folder / "cross", folder / "log"
+    source.write_text(text)
+    subprocess.run([CROSS, "-O0", "-w", "-static", "-march=rv64gc", "-o", program, source], check=True)
+    subprocess.run([EMULATOR, "-singlestep", "-d", "nochain,exec", "-D", log, program], check=True)
+    with log.open() as lines:
+        return sum(line.startswith("Trace") for line in lines)
+
+
+def cross_steps_a_turn(folder, source, turns_of_round):
+    if not (shutil.which(CROSS) and shutil.which(EMULATOR)):
+        return f"{'':12}"
+    more, fewer = (cross_steps(folder, source % rounds) for rounds in (MORE, FEWER))
+    return f"{(more - fewer) / (MORE - FEWER) / turns_of_round:12.1f}"
+
+
 def main():
     if subprocess.run([TOP / "ehc", "run", TOP / "examples/smallest.cc"], stdout=subprocess.DEVNULL).returncode:
         sys.exit("ehc could not be built")
@@ -82,12 +104,13 @@ def main():
             size = image.stat().st_size / 1000
             print(f"{length:9}{31 * length + 73:8}{size:10.0f}{taken:8.1f}{growth}{beside:9.0f}{taken / beside:8.3f}{ran:9.0f}", flush=True)
             before = taken
-        print(f"\n{'loop':9}{'turns':>8}{'steps':>10}{'a turn':>8}")
+        print(f"\n{'loop':9}{'turns':>8}{'steps':>10}{'a turn':>8}{'g++ a turn':>12}")
         for name, (source, turns_of_round) in LOOPS.items():
-            image = compiled(folder, source)[1]
+            image = compiled(folder, source % ROUNDS)[1]
             printed = least([EHC, "exec", "--count", f"--max={2**40}", image])[1]
             steps, turns = int(printed.split()[-1]), ROUNDS * turns_of_round
-            print(f"{name:9}{turns:8}{steps:10}{steps / turns:8.1f}")
+            peers = cross_steps_a_turn(folder, source, turns_of_round)
+            print(f"{name:9}{turns:8}{steps:10}{steps / turns:8.1f}{peers}")
 
 
 if __name__ == "__main__":

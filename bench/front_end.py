@@ -2,9 +2,9 @@
 """Measures how many tokens per second the front end takes, lexer, parser and checker together, and how its time grows.
 
 Usage: bench/front_end.py, at the top of the repository. It prints a line for each shape of source and each size: 8,192,
-16,384, 32,768 and 65,536 tokens at most, each through `ehc run` and beside `g++ -fsyntax-only`, both without what they need
-for an empty main, which `ehc` does not build. Behind them stand sources in which the most pairs are looked at, and some of
-those that are refused. Processor time counts.
+16,384, 32,768 and 65,536 tokens at most, each through `ehc mean --max=1`, whose meaning is that of a main that returns at once,
+and beside `g++ -fsyntax-only`, both without what they need for an empty main. Behind them stand sources in which the most pairs
+are looked at, and some of those that are refused. Processor time counts.
 """
 import pathlib
 import resource
@@ -15,7 +15,6 @@ import tempfile
 TOP = pathlib.Path(__file__).resolve().parent.parent
 RUNS = 3
 SIZES = [8_192, 16_384, 32_768, 65_536]
-NOT_BUILT = "ehc: source refused: 29 at 0\n"
 
 END = "int main() { return 0; }\n"
 
@@ -131,7 +130,7 @@ def processor_seconds(command):
 def main():
     if subprocess.run([TOP / "ehc", "run", TOP / "examples/smallest.cc"], stdout=subprocess.DEVNULL).returncode:
         sys.exit("ehc could not be built")
-    ehc = [TOP / "crates/eh_cli/out/eh_cli", "run"]
+    ehc = [TOP / "crates/eh_cli/out/eh_cli", "mean", "--max=1"]
     with tempfile.TemporaryDirectory() as folder:
         folder = pathlib.Path(folder)
         (folder / "names.h").write_text("void write_int(int);\n")
@@ -144,7 +143,7 @@ def main():
             path, tokens = folder / "source.cc", tokens_in(text)
             path.write_text(text)
             whole, answer = processor_seconds([*ehc, path])
-            assert (answer == NOT_BUILT) == is_valid, (name, answer)
+            assert (answer == "") == is_valid, (name, answer)
             seconds = whole - start
             peer = f"{tokens / (processor_seconds([*syntax, path])[0] - peer_start) / 1e6:9.2f}" if is_valid else f"{'':9}"
             growth = f"{seconds / before[1]:8.2f}" if before[0] == name else ""

@@ -139,6 +139,7 @@ verb_of word =
 
 -- what the command of a verb takes: its options, and how many operands
 abbrev pub settings_of : Verb → List Setting
+settings_of Run = Input ∷ Max ∷ Trace ∷ Count ∷ Foreign ∷ []
 settings_of Exec = Input ∷ Max ∷ Trace ∷ Count ∷ Foreign ∷ []
 settings_of Mean = Input ∷ Max ∷ Trace ∷ Foreign ∷ []
 settings_of verb = []

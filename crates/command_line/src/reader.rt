@@ -34,7 +34,7 @@ impl Verb {
                 ],
                 operands: 1,
             },
-            Verb::Exec => Takes {
+            Verb::Run | Verb::Exec => Takes {
                 settings: &[
                     Setting::Input,
                     Setting::Max,
@@ -48,7 +48,7 @@ impl Verb {
                 settings: &[],
                 operands: 2,
             },
-            Verb::Run | Verb::Check | Verb::Dump => Takes {
+            Verb::Check | Verb::Dump => Takes {
                 settings: &[],
                 operands: 1,
             },

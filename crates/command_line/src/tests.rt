@@ -189,8 +189,14 @@ static WORDS: &[(&[&str], &str)] = &[
     (&["run", ""], USAGE),
     (&["run", "f", "g"], USAGE),
     (&["run", "-f"], USAGE),
-    (&["run", "f", "--max=1"], USAGE),
-    (&["run", "f", "--trace"], USAGE),
+    (&["run", "f", "--max=1"], "Run [\"f\"] [] 1 false false []"),
+    (
+        &["run", "--count", "f", "--trace", "--in", "g"],
+        "Run [\"f\"] [\"g\"] 10000000 true true []",
+    ),
+    (&["run", "f", "--max=0"], USAGE),
+    (&["check", "f", "--trace"], USAGE),
+    (&["dump", "f", "--max=1"], USAGE),
     (&["", "f"], USAGE),
     (
         &["compile", "f", "g"],

@@ -1,4 +1,5 @@
-// Sources that are compiled, and their images run: each prints what the source means, with the events that are asked for, and ends so.
+// Sources that are compiled, and their images run, in two commands and in one: each prints what the source means, with the events that
+// are asked for, and ends so.
 use crate::mean_rows::{Row, modules, objects, specifications, terminates, throws, values};
 use command_line::scripts;
 use eh_driver::{Status, ehc};
@@ -62,14 +63,30 @@ fn ran(alloc: Global, row: &Row) -> Result<Answer, Fail> {
     if judged.status != Status::Done {
         return Ok(judged);
     }
-    let mut words = vec![in alloc; "exec", "IMG", "--in=IN"]?;
-    // (the most turns of a meaning are no number of steps)
+    run_of(alloc, row, &["exec", "IMG"], &mut store)
+}
+
+// What a command that runs answers, with the row's options but for the most turns, which are no number of steps.
+fn run_of(
+    alloc: Global,
+    row: &Row,
+    command: &[&'static str],
+    store: &mut MemStore,
+) -> Result<Answer, Fail> {
+    let mut words = command.to_vec(alloc)?;
+    words.push("--in=IN")?;
     for option in row.options {
         if !option.starts_with("--max=") {
             words.push(*option)?;
         }
     }
-    answered(alloc, words.as_slice(), &mut store)
+    answered(alloc, words.as_slice(), store)
+}
+
+// What the row's source does where it is compiled and run at once.
+fn ran_at_once(alloc: Global, row: &Row) -> Result<Answer, Fail> {
+    let mut store = holding(alloc, row.source, row.input, &[])?;
+    run_of(alloc, row, &["run", "SRC"], &mut store)
 }
 
 // The meaning ends as `= stack` at the 129th open call; a compiled program has room for more.
@@ -91,10 +108,11 @@ fn worked_programs(rt: HostRuntime) -> Result<(), Fail> {
     ] {
         for row in table {
             if is_shared(row) {
-                let seen = ran(alloc, row)?;
-                assert_eq!(rt; seen.out.bytes(), row.lines.as_bytes(), "{}", row.source);
-                assert_eq!(rt; seen.status, row.status, "{}", row.source);
-                assert_eq!(rt; seen.err.bytes(), b"".as_slice(), "{}", row.source);
+                for seen in [ran(alloc, row)?, ran_at_once(alloc, row)?] {
+                    assert_eq!(rt; seen.out.bytes(), row.lines.as_bytes(), "{}", row.source);
+                    assert_eq!(rt; seen.status, row.status, "{}", row.source);
+                    assert_eq!(rt; seen.err.bytes(), b"".as_slice(), "{}", row.source);
+                }
                 count = count.wrapping_add(1);
             }
         }
@@ -165,6 +183,67 @@ fn again(rt: HostRuntime) -> Result<(), Fail> {
     }
     assert!(rt; store.file("ONE").is_some());
     assert_eq!(rt; store.file("ONE"), store.file("TWO"));
+    Ok(())
+}
+
+// Steps are counted alike in two commands and in one, also of a main of literals, and no fewer are enough.
+#[test]
+fn counts(rt: HostRuntime) -> Result<(), Fail> {
+    let alloc = rt.alloc();
+    for source in [
+        "int main() { write_int(5); return 3; }",
+        "int main() { try { throw 2; } catch (int e) { return e; } }",
+    ] {
+        let mut store = holding(alloc, source, b"", &[])?;
+        let compiled = answered(alloc, &["compile", "SRC", "IMG"], &mut store)?;
+        assert_eq!(rt; compiled.status, Status::Done);
+        let exec = answered(alloc, &["exec", "IMG", "--count"], &mut store)?;
+        let run = answered(alloc, &["run", "SRC", "--count"], &mut store)?;
+        assert_eq!(rt; run.status, Status::Done);
+        assert_eq!(rt; run.out.bytes(), exec.out.bytes());
+        let short = answered(alloc, &["run", "SRC", "--count", "--max=1"], &mut store)?;
+        assert_eq!(rt; short.out.bytes(), b"= budget\n= count 1\n".as_slice());
+        assert_eq!(rt; short.status, Status::Budget);
+    }
+    Ok(())
+}
+
+// What `run` answers where its source, its input or its output fails.
+#[test]
+fn run_answers(rt: HostRuntime) -> Result<(), Fail> {
+    let alloc = rt.alloc();
+    let trials = [
+        (
+            &["run", "SRC", "--in=NO"].as_slice(),
+            &[].as_slice(),
+            Status::ReadFault,
+            "ehc: read fault: NO\n",
+        ),
+        (
+            &["run", "SRC", "--in=IN"].as_slice(),
+            &[2].as_slice(),
+            Status::ReadFault,
+            "ehc: read fault: IN\n",
+        ),
+        (
+            &["run", "IN"].as_slice(),
+            &[].as_slice(),
+            Status::SourceRefused(10, 0),
+            "ehc: source refused: 10 at 0\n",
+        ),
+    ];
+    for (words, fails, status, text) in trials {
+        let mut store = holding(
+            alloc,
+            "int main() { write_int(read_byte()); }",
+            b"@",
+            *fails,
+        )?;
+        let seen = answered(alloc, *words, &mut store)?;
+        assert_eq!(rt; seen.status, status, "{text}");
+        assert_eq!(rt; seen.err.bytes(), text.as_bytes(), "{text}");
+        assert_eq!(rt; seen.out.bytes(), b"".as_slice(), "{text}");
+    }
     Ok(())
 }
 

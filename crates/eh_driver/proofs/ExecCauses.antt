@@ -129,7 +129,7 @@ no_refusal ends.Stack number place location other e = cc
 no_refusal (ends.Fault kind at) number place location other e = cc
 no_refusal ends.WriteFault number place location other e = cc
 
-no_memory : (end : End) → NoMemory ≡ status_of_run end → ⊥
+pub no_memory : (end : End) → NoMemory ≡ status_of_run end → ⊥
 no_memory (ends.Exit n) e = cc
 no_memory ends.Aborted e = cc
 no_memory ends.Budget e = cc
@@ -159,7 +159,7 @@ image_of (Ok i) program h = (i, refl, h)
 image_of (Err fault) program h = absurd h
 
 module _ (a : Asked) (file input : List ℕ) (program : Program) (old new : SinkView) (loads : Loads (Ok program) (runnable file)) where
-  runs_this : (r : Ran) → IsRun program input a.modules a.turns r → RunsThis a r file input
+  pub runs_this : (r : Ran) → IsRun program input a.modules a.turns r → RunsThis a r file input
   runs_this r is = let (i, read, same) = image_of (runnable file) program loads in (i, read, subst (λ p. IsRun p input a.modules a.turns r) same is)
 
   pub image_runs : (status : Status) → ProgramRuns a program input old new status → ImageRuns a file input old new status

@@ -22,4 +22,6 @@ pub mod ExecCauses
 pub mod ExecPromised
 pub mod CompileCauses
 pub mod CompilePromised
+pub mod RunCauses
+pub mod RunPromised
 pub mod Promised

@@ -6,7 +6,6 @@ use Rattle.eh_outer.specs.Sink.{SinkView}
 use Rattle.elf_image.specs.Clean.{CleanImage}
 use Rattle.eh_driver.specs.declared.status.Status.{Status}
 use Rattle.eh_driver.specs.declared.status.Status.TheVariants.{Done, Usage, SourceRefused, ImageRefused, ReadFault, TooLong, WriteFault, NoMemory, Aborted, Budget, Stack, MachineFault, Undefined}
-use Rattle.eh_driver.specs.Answer.{RunCause}
 use Rattle.eh_driver.specs.File.{NamesRefusal, Unread, refused_name}
 use Rattle.eh_driver.specs.Image.{ImageCause}
 use Rattle.eh_driver.specs.Mean.{Asked, SourceMeans}
@@ -48,21 +47,6 @@ unread_named limit name old new Budget why = tt
 unread_named limit name old new Stack why = tt
 unread_named limit name old new (MachineFault kind place) why = tt
 unread_named limit name old new Undefined why = tt
-
-pub run_named : (name : List ℕ) (old new : StoreView) (out out' : SinkView) (status : Status) → RunCause name old new out out' status → NamesRefusal status name new
-run_named name old new out out' ReadFault (why, rest) = last_name old new _ name why
-run_named name old new out out' TooLong ((n, above, why, long), rest) = last_name old new _ name why
-run_named name old new out out' Done h = tt
-run_named name old new out out' Usage h = tt
-run_named name old new out out' (SourceRefused number place) h = tt
-run_named name old new out out' (ImageRefused number place location other) h = tt
-run_named name old new out out' WriteFault h = tt
-run_named name old new out out' NoMemory h = tt
-run_named name old new out out' Aborted h = tt
-run_named name old new out out' Budget h = tt
-run_named name old new out out' Stack h = tt
-run_named name old new out out' (MachineFault kind place) h = tt
-run_named name old new out out' Undefined h = tt
 
 pub image_named : (lines : CleanImage → List (List ℕ)) (name : List ℕ) (old new : StoreView) (out out' : SinkView) (status : Status) → ImageCause lines name old new out out' status → NamesRefusal status name new
 image_named lines name old new out out' ReadFault (why, rest) = last_name old new _ name why

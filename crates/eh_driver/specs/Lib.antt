@@ -11,6 +11,7 @@ pub mod Mean
 pub mod RunEnd
 pub mod Exec
 pub mod Compile
+pub mod RunSource
 pub mod Question
 pub mod Words
 pub mod Answer

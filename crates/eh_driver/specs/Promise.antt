@@ -18,7 +18,8 @@ use Rattle.cxx_ast.specs.Broken.{Valid}
 use Rattle.cxx_ast.specs.Checked.{checked}
 use Rattle.cxx_front.specs.Source.{IsProgram, IsRefused}
 use Rattle.cxx_image.specs.Image.{image_for}
-use Rattle.eh_driver.specs.Source.{small_main}
+use Rattle.eh_driver.specs.Exec.{RunsThis}
+use Rattle.eh_driver.specs.RunSource.{literal_main}
 use Rattle.run_items.specs.Output.{bytes_of}
 use Rattle.eh_driver.specs.Output.{exit_pieces}
 use Rattle.eh_driver.specs.File.{source_limit}
@@ -41,20 +42,6 @@ pub record Undisturbed (limit : ℕ) (name source : List ℕ) (old new : StoreVi
   pub store : Rose old.faults new.faults → ⊥
   pub sink : Rose out.faults out'.faults → ⊥
 
--- the source is a valid program of a form, or of none, that is built
-abbrev pub Means : List ℕ → Option (List ℕ × ℕ) → Type 0
-Means source main = (p : Program) × IsProgram source p × Valid p × (small_main (checked p) ≡ main)
-
--- Where nothing disturbs: the lines and the end line of a source that is built go out, and the status is Done; one that is
--- refused is refused by its number and place; any other is refused by 29 at 0. Or memory ran out.
-pub record RunPromise (name : List ℕ) (old new : StoreView) (out out' : SinkView) (status : Status) : Type 0 where
-  pub runs : (source lines : List ℕ) (answer : ℕ) → Undisturbed source_limit name source old new out out' → Means source (Some (lines, answer)) →
-      (status ≡ NoMemory) ⊎ ((status ≡ Done) × Gains (bytes_of (exit_pieces lines answer)) out out')
-  pub refuses : (source : List ℕ) (number place : ℕ) → Undisturbed source_limit name source old new out out' → IsRefused source number place →
-      (status ≡ NoMemory) ⊎ (status ≡ SourceRefused number place)
-  pub leaves : (source : List ℕ) → Undisturbed source_limit name source old new out out' → Means source None →
-      (status ≡ NoMemory) ⊎ (status ≡ SourceRefused 29 0)
-
 -- Where nothing disturbs: the image of a valid source is stored under its name, and the told files are else as before; a source that is
 -- refused is refused by its number and place, and nothing is stored. Or memory ran out, and nothing is stored either.
 pub record CompilePromise (a : Asked) (old new : StoreView) (out out' : SinkView) (status : Status) : Type 0 where
@@ -72,6 +59,26 @@ InputIs (Some name) files input = (get files name ≡ Some input) × (length inp
 pub record MeanUndisturbed (a : Asked) (source input : List ℕ) (old new : StoreView) (out out' : SinkView) : Type 0 where
   pub calm : Undisturbed source_limit a.source source old new out out'
   pub given : InputIs a.input calm.files input
+
+-- the source is a valid program, whose main is of these literals, or of no such form
+abbrev pub Means : Asked → List ℕ → Option (List ℕ × ℕ) → Type 0
+Means a source main = (p : Program) × IsProgram source p × Valid p × (literal_main a (checked p) ≡ main)
+
+-- the lines of a run of the program's image went out, and the status is that of its end
+abbrev pub ShowsImage : Asked → Program → List ℕ → SinkView → SinkView → Status → Type 0
+ShowsImage a p input out out' status =
+    (r : Ran) × RunsThis a r (image_for (checked p)) input × (status ≡ status_of_run r.end) × Gains (bytes_of (run_lines a.trace a.count r)) out out'
+
+-- Where nothing disturbs: of a main of literals, where steps are neither counted nor bounded by an option, the lines of its literals and the
+-- end line go out, and the status is Done; of any other valid source the lines of a run of its image, and the status is that of its end;
+-- one that is refused is refused by its number and place. Or memory ran out.
+pub record RunPromise (a : Asked) (old new : StoreView) (out out' : SinkView) (status : Status) : Type 0 where
+  pub literals : (source input lines : List ℕ) (answer : ℕ) → MeanUndisturbed a source input old new out out' → Means a source (Some (lines, answer)) →
+      (status ≡ NoMemory) ⊎ ((status ≡ Done) × Gains (bytes_of (exit_pieces lines answer)) out out')
+  pub shows : (source input : List ℕ) (p : Program) → MeanUndisturbed a source input old new out out' → IsProgram source p → Valid p → literal_main a (checked p) ≡ None →
+      (status ≡ NoMemory) ⊎ ShowsImage a p input out out' status
+  pub refuses : (source input : List ℕ) (number place : ℕ) → MeanUndisturbed a source input old new out out' → IsRefused source number place →
+      (status ≡ NoMemory) ⊎ (status ≡ SourceRefused number place)
 
 -- the lines of a meaning went out, and the status is that of its end
 abbrev pub Shows : Bool → Meaning → SinkView → SinkView → Status → Type 0
@@ -106,7 +113,7 @@ pub record ExecPromise (a : Asked) (old new : StoreView) (out out' : SinkView) (
 -- what each command promises
 abbrev pub CommandPromise : Verb → Asked → StoreView → StoreView → SinkView → SinkView → Status → Type 0
 CommandPromise Compile a old new out out' status = CompilePromise a old new out out' status
-CommandPromise Run a old new out out' status = RunPromise a.source old new out out' status
+CommandPromise Run a old new out out' status = RunPromise a old new out out' status
 CommandPromise Exec a old new out out' status = ExecPromise a old new out out' status
 CommandPromise Mean a old new out out' status = MeanPromise a old new out out' status
 CommandPromise Check a old new out out' status = ImagePromise check_lines a.source old new out out' status

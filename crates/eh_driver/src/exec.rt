@@ -28,8 +28,8 @@ fn print_end<Out: Sink>(out: &mut Out, count: bool, ran: Ran) -> Status
     }
 }
 
-// Runs an image that is ready.
-fn run_loaded<Out: Sink, M: Module>(
+/// Runs an image that is ready.
+pub fn run_loaded<Out: Sink, M: Module>(
     loaded: Loaded,
     input: &[u8],
     question: &Question<'_>,

@@ -14,6 +14,7 @@ mod mean;
 mod report;
 mod run;
 mod run_end;
+mod run_source;
 mod source;
 mod status;
 mod top;

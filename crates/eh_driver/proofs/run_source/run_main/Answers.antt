@@ -4,7 +4,7 @@ use Rattle.std.proofs.lemmas.Int.{to_z-of_z}
 use Rattle.eh_driver.specs.declared.run.End.TheVariants.{Exit, Budget, Fault, WriteFault}
 use Rattle.eh_driver.specs.Output.{exit_line}
 use Rattle.eh_driver.proofs.Main.{main_ends, last_out, last_failed, early_failed, failed_put, no_budget, no_fault}
-use Rattle.eh_driver.proofs.top.run_main.Goals as goal
+use Rattle.eh_driver.proofs.run_source.run_main.Goals as goal
 
 pub returns-in-Ok-put_int : goal.returns-in-Ok-put_int
 returns-in-Ok-put_int g c =
