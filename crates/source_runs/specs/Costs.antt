@@ -1,4 +1,4 @@
--- How much the code of a source's regions does from one turn to the next, by the tokens of the source.
+-- How many steps the code of a source's regions makes at most, but for its turns, by the tokens of the source.
 use Rattle.std.specs.Prelude.{ℕ, ◌+◌, ◌*◌, ◌≤◌, List, length}
 use Rattle.cxx_ast.specs.declared.token.Token.{Token}
 use Rattle.cxx_ast.specs.Plain.{Program, Checked}

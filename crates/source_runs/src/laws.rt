@@ -8,19 +8,20 @@ pub fn checked_catches_have_clauses()
     ensures clauses { CheckedCatchesHaveClauses }
 {}
 
-/// The linear code of each checked program of a source does what its regions do, with no other premise.
+/// For each checked program of a source: for every limit of open calls, every input, all replies and every number of turns the run of its linear
+/// code comes to the end of the watched meaning of its regions, with its items, its deepest call and its replies, in steps in proportion to its
+/// turns; where the turns are used up or calls are too deep, it begins with the items so far. Where the watched meaning does not stop as a call that
+/// is too deep, so it is of the meaning.
 pub fn checked_programs_run()
     ensures run { CheckedProgramsRun }
 {}
 
-/// So does that of each valid source: for every limit of open calls, every input, all replies and every number of turns its run comes to the end of
-/// the watched meaning of its regions, with its items, its deepest call and its replies, in steps in proportion to its turns; and so it is of the
-/// meaning itself, where the watched one does not stop as a call that is too deep.
+/// So it is of each valid source, with no other premise.
 pub fn valid_sources_run()
     ensures run { ValidSourcesRun }
 {}
 
-/// What the functions of a checked program cost from one turn to the next is no more than 40 steps for each token of its source, and 200.
+/// What the code of each function of a checked program costs, but for its turns, is at most 40 steps for each token of the source, and 200 beside them.
 pub fn checked_costs_fit()
     ensures fit { CheckedCostsFit }
 {}
