@@ -1,0 +1,4 @@
+pub mod Bytes
+pub mod Storing
+pub mod Fetching
+pub mod Stepping

@@ -1,0 +1,26 @@
+-- What the calls of laws state.
+use Rattle.std.specs.Prelude.{◌≡◌, ℕ, ◌%◌, ◌^◌, List, map}
+use Rattle.rv64_isa.specs.Format.{IsInRange}
+use Rattle.rv64_isa.specs.Listing.{form_of}
+use Rattle.rv64_isa.specs.State.{State, Part, with_value}
+use Rattle.rv64_isa.specs.Step.{step_of, done}
+use Rattle.emission_forms.specs.Piece.{Piece, Places, placed}
+use Rattle.code_simulation.specs.Memory.{Written, WordAt, Holds, MayWrite, shape_of, Apart}
+use Rattle.code_simulation.specs.Standing.{Ground, address, PieceFits, PieceAt}
+
+-- The fields of a piece's instruction are in their ranges wherever it stands. Where its word stands at the pc, a step does what the
+-- instruction does.
+pub record WordsAreFetched : Type 0 where
+  pub fields : (places : Places) (here : ℕ) (x : Piece) → PieceFits x → IsInRange (form_of (placed places here x))
+  pub step : (g : Ground) (here : ℕ) (x : Piece) (s : State) → PieceAt s.memory g here x → s.pc ≡ address g here → step_of s ≡ done (placed g.places here x) s
+
+-- Four and eight bytes that may be written hold what was stored there, and what is apart from them holds what it held. With each byte the
+-- same may be done as before, code stays, and every part of memory keeps its place and size.
+pub record StoresAreRead : Type 0 where
+  pub four : (memory : List Part) (a value : ℕ) → MayWrite memory a 4 → Holds (with_value memory a 4 value) a 4 (value % 2 ^ 32)
+  pub eight : (memory : List Part) (a value : ℕ) → MayWrite memory a 8 → Holds (with_value memory a 8 value) a 8 (value % 2 ^ 64)
+  pub apart : (memory : List Part) (a n value b k x : ℕ) → Apart a n b k → Holds memory b k x → Holds (with_value memory a n value) b k x
+  pub written : (memory : List Part) (a n value : ℕ) → MayWrite memory a n → Written memory (with_value memory a n value)
+  pub code : (old new : List Part) (a word : ℕ) → Written old new → WordAt old a word → WordAt new a word
+  pub may : (old new : List Part) (a n : ℕ) → Written old new → MayWrite old a n → MayWrite new a n
+  pub shapes : (memory : List Part) (a n value : ℕ) → map shape_of (with_value memory a n value) ≡ map shape_of memory

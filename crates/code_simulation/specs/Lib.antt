@@ -1,0 +1,4 @@
+pub mod Memory
+pub mod Standing
+pub mod Executes
+pub mod Laws

@@ -1,0 +1,12 @@
+// Laws of code on the machine: calls of no effect, whose contracts state what holds of every program.
+ghost use Rattle.code_simulation.specs.Laws.{StoresAreRead, WordsAreFetched};
+
+/// Where code stands the machine does what its pieces say.
+pub fn words_are_fetched()
+    ensures { WordsAreFetched }
+{}
+
+/// What is stored is read back, and all else stays.
+pub fn stores_are_read()
+    ensures { StoresAreRead }
+{}
