@@ -74,7 +74,7 @@ pieces_split memory g here (x ∷ xs) ys h =
 pub pieces_still : (old new : List Part) (g : Ground) (here : ℕ) (xs : List Piece) → Written old new → PiecesAt old g here xs → PiecesAt new g here xs
 pieces_still old new g here [] w h = tt
 pieces_still old new g here (x ∷ xs) w h =
-    (record { fits = h.0.fits; word = word_still old new (address g here) (word_of (placed g.places here x)) w h.0.word }, pieces_still old new g (here + 1) xs w h.1)
+    (record { inside = h.0.inside; fits = h.0.fits; word = word_still old new (address g here) (word_of (placed g.places here x)) w h.0.word }, pieces_still old new g (here + 1) xs w h.1)
 
 pub words_are_fetched : WordsAreFetched
 words_are_fetched = record { fields = placed_fits; step = piece_done }

@@ -2,3 +2,10 @@ pub mod Bytes
 pub mod Storing
 pub mod Fetching
 pub mod Stepping
+pub mod Numbers
+pub mod Registers
+pub mod Going
+pub mod Places
+pub mod Branching
+pub mod Operators
+pub mod Values

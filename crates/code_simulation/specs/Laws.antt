@@ -1,12 +1,19 @@
 -- What the calls of laws state.
-use Rattle.std.specs.Prelude.{◌≡◌, ℕ, ◌%◌, ◌^◌, List, map}
+use Rattle.std.specs.Prelude.{◌≡◌, ℕ, ◌+◌, ◌%◌, ◌^◌, ◌<◌, ◌≤◌, ℤ, List, map, length, Some}
 use Rattle.rv64_isa.specs.Format.{IsInRange}
 use Rattle.rv64_isa.specs.Listing.{form_of}
 use Rattle.rv64_isa.specs.State.{State, Part, with_value}
 use Rattle.rv64_isa.specs.Step.{step_of, done}
+use Rattle.region_forms.specs.Form.{Kinds, Value}
+use Rattle.region_forms.specs.World.{Frame, World}
+use Rattle.region_forms.specs.Evaluation.{value_in}
 use Rattle.emission_forms.specs.Piece.{Piece, Places, placed}
+use Rattle.emission_forms.specs.Shape.{Shape}
+use Rattle.emission_forms.specs.ValueCode.{needs, value_code}
 use Rattle.code_simulation.specs.Memory.{Written, WordAt, Holds, MayWrite, shape_of, Apart}
-use Rattle.code_simulation.specs.Standing.{Ground, address, PieceFits, PieceAt}
+use Rattle.code_simulation.specs.Standing.{Ground, address, PieceFits, PieceAt, PiecesAt}
+use Rattle.code_simulation.specs.Going.{Gives}
+use Rattle.code_simulation.specs.Frames.{Setting, ValueStands, Ready}
 
 -- The fields of a piece's instruction are in their ranges wherever it stands. Where its word stands at the pc, a step does what the
 -- instruction does.
@@ -24,3 +31,11 @@ pub record StoresAreRead : Type 0 where
   pub code : (old new : List Part) (a word : ℕ) → Written old new → WordAt old a word → WordAt new a word
   pub may : (old new : List Part) (a n : ℕ) → Written old new → MayWrite old a n → MayWrite new a n
   pub shapes : (memory : List Part) (a n value : ℕ) → map shape_of (with_value memory a n value) ≡ map shape_of memory
+
+-- A value without calls whose int is defined: where its words stand and its call's frame is in memory, the machine runs from the first of
+-- them to behind the last in at most as many steps as there are words. Then the register has that int, with its sign extended; memory is
+-- as before, and so is each register but those that values take from there on.
+pub record ValuesAreComputed : Type 0 where
+  pub value : (t : Setting) (f : Shape) (kinds : Kinds) (frame : Frame) (w : World) (v : Value) (z : ℤ) (k here : ℕ) (s : State) → ValueStands t f kinds v → value_in kinds frame w v ≡ Some z →
+      k + needs v ≤ 15 → length (value_code f k v) < 2 ^ 18 → PiecesAt s.memory t.ground here (value_code f k v) → s.pc ≡ address t.ground here → Ready t f kinds frame w s →
+      Gives t.ground here (length (value_code f k v)) k s z

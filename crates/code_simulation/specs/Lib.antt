@@ -1,4 +1,7 @@
 pub mod Memory
 pub mod Standing
 pub mod Executes
+pub mod Numbers
+pub mod Going
+pub mod Frames
 pub mod Laws

@@ -6,10 +6,11 @@ use Rattle.rv64_isa.specs.State.{Part}
 use Rattle.emission_forms.specs.Piece.{Piece, instruction, jump_to, upper_part, add_rest, load_rest, store_rest, jump_rest, Places, placed}
 use Rattle.code_simulation.specs.Memory.{WordAt}
 
--- where things stand from the first word of the runtime's own functions on, and the address of that word
+-- where things stand from the first word of the runtime's own functions on, the address of that word, and how many words there are
 pub record Ground : Type 0 where
   pub places : Places
   pub base : ℕ
+  pub words : ℕ
 
 -- the address of a word
 abbrev pub address : Ground → ℕ → ℕ
@@ -28,6 +29,7 @@ PieceFits (jump_rest link base t) = (link < 32) × (base < 32)
 
 -- the word of a piece stands at a word's place
 pub record PieceAt (memory : List Part) (g : Ground) (here : ℕ) (x : Piece) : Type 0 where
+  pub inside : here < g.words
   pub fits : PieceFits x
   pub word : WordAt memory (address g here) (word_of (placed g.places here x))
 

@@ -1,5 +1,5 @@
 // Laws of code on the machine: calls of no effect, whose contracts state what holds of every program.
-ghost use Rattle.code_simulation.specs.Laws.{StoresAreRead, WordsAreFetched};
+ghost use Rattle.code_simulation.specs.Laws.{StoresAreRead, ValuesAreComputed, WordsAreFetched};
 
 /// Where code stands the machine does what its pieces say.
 pub fn words_are_fetched()
@@ -9,4 +9,9 @@ pub fn words_are_fetched()
 /// What is stored is read back, and all else stays.
 pub fn stores_are_read()
     ensures { StoresAreRead }
+{}
+
+/// The words of a value without calls compute its int.
+pub fn values_are_computed()
+    ensures { ValuesAreComputed }
 {}
