@@ -9,3 +9,6 @@ pub mod Places
 pub mod Branching
 pub mod Operators
 pub mod Values
+pub mod Testing
+pub mod Framing
+pub mod Routines

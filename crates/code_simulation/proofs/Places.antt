@@ -46,7 +46,7 @@ far_address pc b (negsuc d) hp hb near far is =
     ap (λ p. add (add p (imm20 (upper (negsuc d)))) (imm12 (lower (negsuc d)))) (sym sum) ∙ far_down b d (omega (arith, far, sum)) (omega (arith, hp, sum))
 
 -- the distance from a word to a target that is reached
-reached_from : (g : Ground) (here : ℕ) (u : Target) (a : ℕ) → Reached g u a → pos (address g here) +ℤ distance g.places here u ≡ pos a
+pub reached_from : (g : Ground) (here : ℕ) (u : Target) (a : ℕ) → Reached g u a → pos (address g here) +ℤ distance g.places here u ≡ pos a
 reached_from g here u a h = omega (arith, ints, h.is)
 
 -- ---- what the words do

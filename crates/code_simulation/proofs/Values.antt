@@ -22,7 +22,6 @@ use Rattle.code_simulation.specs.Numbers.{IsInt, extended}
 use Rattle.code_simulation.specs.Standing.{Ground, address, PieceAt, PiecesAt}
 use Rattle.code_simulation.specs.Going.{Goes, Computes, Gives}
 use Rattle.code_simulation.specs.Frames.{Setting, ValueStands, FrameHolds, Ready}
-use Rattle.code_simulation.specs.Laws.{ValuesAreComputed}
 use Rattle.code_simulation.proofs.Numbers.{zero_extended, below_zero, truth_is_int}
 use Rattle.code_simulation.proofs.Fetching.{pieces_split}
 use Rattle.code_simulation.proofs.Going.{goes_then, goes_as, computes_then, then_sets, goes_less, kept_register, kept_low, kept_all, pieces_end}
@@ -55,14 +54,14 @@ gives_then g here m n k s z first second =
 
 -- ---- two values in two registers
 
-record Both (g : Ground) (here words k : ℕ) (s : State) (v w : ℤ) : Type 0 where
-  goes : Goes g here words k s
-  first_int : IsInt v
-  second_int : IsInt w
-  first : x goes.after (register k) ≡ extended v
-  second : x goes.after (register (k + 1)) ≡ extended w
+pub record Both (g : Ground) (here words k : ℕ) (s : State) (v w : ℤ) : Type 0 where
+  pub goes : Goes g here words k s
+  pub first_int : IsInt v
+  pub second_int : IsInt w
+  pub first : x goes.after (register k) ≡ extended v
+  pub second : x goes.after (register (k + 1)) ≡ extended w
 
-both : (t : Setting) (f : Shape) (kinds : Kinds) (frame : Frame) (w : World) (a b : ℕ → List Piece) (na nb : ℕ) (v u : ℤ) → Evaluates t f kinds frame w a na v → Evaluates t f kinds frame w b nb u →
+pub both : (t : Setting) (f : Shape) (kinds : Kinds) (frame : Frame) (w : World) (a b : ℕ → List Piece) (na nb : ℕ) (v u : ℤ) → Evaluates t f kinds frame w a na v → Evaluates t f kinds frame w b nb u →
     (k here : ℕ) (s : State) → k + na ≤ 15 → k + 1 + nb ≤ 15 → 0 < nb + 1 → k < 15 → length (a k ++ b (k + 1)) < 2 ^ 18 → PiecesAt s.memory t.ground here (a k ++ b (k + 1)) → s.pc ≡ address t.ground here →
     Ready t f kinds frame w s → Both t.ground here (length (a k ++ b (k + 1))) k s v u
 both t f kinds frame w a b na nb v u ea eb k here s fa fb some inside short code at ready =
@@ -84,7 +83,7 @@ both t f kinds frame w a b na nb v u ea eb k here s fa fb some inside short code
 
 -- ---- an operator both of whose sides are needed
 
-needs_plain : (o : BinaryOp) (na nb : ℕ) → IsPlain o → operator_needs o na nb ≡ cond (na == nb) (na + 1) (max na nb)
+pub needs_plain : (o : BinaryOp) (na nb : ℕ) → IsPlain o → operator_needs o na nb ≡ cond (na == nb) (na + 1) (max na nb)
 needs_plain Add na nb plain = refl
 needs_plain Subtract na nb plain = refl
 needs_plain Multiply na nb plain = refl
@@ -100,10 +99,10 @@ needs_plain And na nb plain = absurd plain
 needs_plain Or na nb plain = absurd plain
 
 -- the operand that needs more comes first
-left_fits : (na nb k : ℕ) → nb ≤ na → k + cond (na == nb) (na + 1) (max na nb) ≤ 15 → (k + na ≤ 15) × (k + 1 + nb ≤ 15)
+pub left_fits : (na nb k : ℕ) → nb ≤ na → k + cond (na == nb) (na + 1) (max na nb) ≤ 15 → (k + na ≤ 15) × (k + 1 + nb ≤ 15)
 left_fits na nb k le h = (grind (arith, nat_tests, le, h), grind (arith, nat_tests, le, h))
 
-right_fits : (na nb k : ℕ) → na < nb → k + cond (na == nb) (na + 1) (max na nb) ≤ 15 → (k + nb ≤ 15) × (k + 1 + na ≤ 15)
+pub right_fits : (na nb k : ℕ) → na < nb → k + cond (na == nb) (na + 1) (max na nb) ≤ 15 → (k + nb ≤ 15) × (k + 1 + na ≤ 15)
 right_fits na nb k less h = (grind (arith, nat_tests, less, h), grind (arith, nat_tests, less, h))
 
 operator_after : (t : Setting) (f : Shape) (kinds : Kinds) (frame : Frame) (w : World) (front : List Piece) (o : BinaryOp) (k here i j : ℕ) (s : State) (v u z : ℤ) (first : Goes t.ground here (length front) k s) →
@@ -194,15 +193,15 @@ short_gives t f kinds frame w a b na nb v u y taken ea k here s fa fb inside sho
       computes = record { goes = goes_as g here (length (a k ++ middle) + 1) (length (a k ++ middle ++ made_truth rd)) k s (sym all) last.goes; is = last.is };
     }
 
-bne_done : (a b offset : ℕ) (s : State) → done (Bne a b offset) s ≡ branches s (not (x s a == x s b)) offset
+pub bne_done : (a b offset : ℕ) (s : State) → done (Bne a b offset) s ≡ branches s (not (x s a == x s b)) offset
 unfolding done
 bne_done a b offset s = refl
 
-beq_done : (a b offset : ℕ) (s : State) → done (Beq a b offset) s ≡ branches s (x s a == x s b) offset
+pub beq_done : (a b offset : ℕ) (s : State) → done (Beq a b offset) s ≡ branches s (x s a == x s b) offset
 unfolding done
 beq_done a b offset s = refl
 
-zero_there : (s : State) (r : ℕ) (v : ℤ) → x s r ≡ extended v → IsInt v → (x s r == x s zero_register) ≡ is_zero v
+pub zero_there : (s : State) (r : ℕ) (v : ℤ) → x s r ≡ extended v → IsInt v → (x s r == x s zero_register) ≡ is_zero v
 zero_there s r v is int = ap (λ a. a == 0) is ∙ zero_extended v int
 
 -- the right side that a run needs
@@ -269,7 +268,7 @@ plain_right : (t : Setting) (f : Shape) (kinds : Kinds) (frame : Frame) (w : Wor
 plain_right t f kinds frame w o left a b na nb v None z plain le ea eb pa pb e = absurd (cc e)
 plain_right t f kinds frame w o left a b na nb v (Some u) z plain le ea eb pa pb e = plain_evaluates t f kinds frame w o left a b na nb v u z plain le ea (eb u refl) pa pb e
 
-binary_right : (t : Setting) (f : Shape) (kinds : Kinds) (frame : Frame) (w : World) (o : BinaryOp) (left : Bool) (a b : ℕ → List Piece) (na nb : ℕ) (v : ℤ) (ob : Option ℤ) (z : ℤ) →
+pub binary_right : (t : Setting) (f : Shape) (kinds : Kinds) (frame : Frame) (w : World) (o : BinaryOp) (left : Bool) (a b : ℕ → List Piece) (na nb : ℕ) (v : ℤ) (ob : Option ℤ) (z : ℤ) →
     nat_le nb na ≡ left → Evaluates t f kinds frame w a na v → ((u : ℤ) → ob ≡ Some u → Evaluates t f kinds frame w b nb u) → 0 < na → 0 < nb → with_right o v (decided o v) ob ≡ Some z →
     Evaluates t f kinds frame w (λ k. binary_code o left k a b) (operator_needs o na nb) z
 binary_right t f kinds frame w Add left a b na nb v ob z le ea eb pa pb e = plain_right t f kinds frame w Add left a b na nb v ob z tt le ea eb pa pb e
@@ -324,7 +323,7 @@ operator_some NotEqual na nb pa = plain_some na nb pa
 operator_some And na nb pa = omega (arith, pa)
 operator_some Or na nb pa = omega (arith, pa)
 
-needs_some : (v : Value) → 0 < needs v
+pub needs_some : (v : Value) → 0 < needs v
 needs_some (number v) = omega arith
 needs_some (load p) = omega arith
 needs_some (unary o v) = needs_some v
@@ -352,8 +351,3 @@ value_evaluates t f kinds frame w (binary o a b) z stands e =
     binary_evaluates t f kinds frame w o (λ k. value_code f k a) (λ k. value_code f k b) (needs a) (needs b) (value_in kinds frame w a) (value_in kinds frame w b) z
     (λ u h. value_evaluates t f kinds frame w a u stands.0 h) (λ u h. value_evaluates t f kinds frame w b u stands.1 h) (needs_some a) (needs_some b) e
 value_evaluates t f kinds frame w (call_value c args) z stands e = absurd (cc e)
-
-pub values_are_computed : ValuesAreComputed
-values_are_computed = record {
-  value = λ t f kinds frame w v z k here s stands e fits short code at ready. (value_evaluates t f kinds frame w v z stands e).run k here s fits short code at ready;
-}

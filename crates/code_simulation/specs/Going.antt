@@ -1,5 +1,6 @@
 -- What a run over code comes to where the code writes no memory: code for values ends behind its last word, and changes some registers.
-use Rattle.std.specs.Prelude.{◌≡◌, ◌≢◌, ℕ, ◌+◌, ◌<◌, ◌≤◌, ℤ, length}
+use Rattle.std.specs.Prelude.{◌≡◌, ◌≢◌, ℕ, ◌+◌, ◌<◌, ◌≤◌, ℤ, length, if◌then◌else◌}
+use Rattle.scope_rules.specs.Arithmetic.{is_zero}
 use Rattle.rv64_isa.specs.State.{State}
 use Rattle.rv64_isa.specs.Step.{x}
 use Rattle.emission_forms.specs.Registers.{register}
@@ -32,3 +33,7 @@ pub record Computes (g : Ground) (here words k : ℕ) (s : State) (value : ℕ) 
 pub record Gives (g : Ground) (here words k : ℕ) (s : State) (z : ℤ) : Type 0 where
   pub int : IsInt z
   pub computes : Computes g here words k s (extended z)
+
+-- how many words a test passes over: the one behind it where the value is not 0
+abbrev pub passed_over : ℤ → ℕ
+passed_over z = if is_zero z then 0 else 1

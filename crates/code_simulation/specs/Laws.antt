@@ -1,5 +1,6 @@
 -- What the calls of laws state.
-use Rattle.std.specs.Prelude.{◌≡◌, ℕ, ◌+◌, ◌%◌, ◌^◌, ◌<◌, ◌≤◌, ℤ, List, map, length, Some}
+use Rattle.std.specs.Prelude.{◌≡◌, ℕ, ◌+◌, ◌%◌, ◌^◌, ◌<◌, ◌≤◌, ℤ, List, [], ◌∷◌, ◌++◌, map, length, slice_get, Some}
+use Rattle.std.specs.List.{flat_map}
 use Rattle.rv64_isa.specs.Format.{IsInRange}
 use Rattle.rv64_isa.specs.Listing.{form_of}
 use Rattle.rv64_isa.specs.State.{State, Part, with_value}
@@ -7,13 +8,17 @@ use Rattle.rv64_isa.specs.Step.{step_of, done}
 use Rattle.region_forms.specs.Form.{Kinds, Value}
 use Rattle.region_forms.specs.World.{Frame, World}
 use Rattle.region_forms.specs.Evaluation.{value_in}
-use Rattle.emission_forms.specs.Piece.{Piece, Places, placed}
-use Rattle.emission_forms.specs.Shape.{Shape}
-use Rattle.emission_forms.specs.ValueCode.{needs, value_code}
+use Rattle.emission_forms.specs.Piece.{entry, Piece, jump_to, Places, placed}
+use Rattle.emission_forms.specs.Shape.{Shape, prologue, epilogue}
+use Rattle.emission_forms.specs.CallCode.{function_called}
+use Rattle.emission_forms.specs.Routine.{Routine, op_word}
+use Rattle.linear_forms.specs.Stub.{Function}
+use Rattle.emission_forms.specs.ValueCode.{needs, value_code, test_code}
 use Rattle.code_simulation.specs.Memory.{Written, WordAt, Holds, MayWrite, shape_of, Apart}
 use Rattle.code_simulation.specs.Standing.{Ground, address, PieceFits, PieceAt, PiecesAt}
-use Rattle.code_simulation.specs.Going.{Gives}
-use Rattle.code_simulation.specs.Frames.{Setting, ValueStands, Ready}
+use Rattle.code_simulation.specs.Going.{Goes, Gives, passed_over}
+use Rattle.code_simulation.specs.Frames.{Setting, ValueStands, Ready, Reached}
+use Rattle.code_simulation.specs.Transfers.{HasRoom, HasFrame, Enters, Leaves, Jumps, Calls}
 
 -- The fields of a piece's instruction are in their ranges wherever it stands. Where its word stands at the pc, a step does what the
 -- instruction does.
@@ -34,8 +39,25 @@ pub record StoresAreRead : Type 0 where
 
 -- A value without calls whose int is defined: where its words stand and its call's frame is in memory, the machine runs from the first of
 -- them to behind the last in at most as many steps as there are words. Then the register has that int, with its sign extended; memory is
--- as before, and so is each register but those that values take from there on.
+-- as before, and so is each register but those that values take from there on. The test of a jump on a condition comes to the word behind
+-- it where the value is 0, and over that word where it is not.
 pub record ValuesAreComputed : Type 0 where
   pub value : (t : Setting) (f : Shape) (kinds : Kinds) (frame : Frame) (w : World) (v : Value) (z : ℤ) (k here : ℕ) (s : State) → ValueStands t f kinds v → value_in kinds frame w v ≡ Some z →
       k + needs v ≤ 15 → length (value_code f k v) < 2 ^ 18 → PiecesAt s.memory t.ground here (value_code f k v) → s.pc ≡ address t.ground here → Ready t f kinds frame w s →
       Gives t.ground here (length (value_code f k v)) k s z
+  pub test : (t : Setting) (f : Shape) (kinds : Kinds) (frame : Frame) (w : World) (v : Value) (z : ℤ) (here : ℕ) (s : State) (y : Piece) → ValueStands t f kinds v → value_in kinds frame w v ≡ Some z →
+      needs v ≤ 15 → length (test_code f v) < 2 ^ 18 → PiecesAt s.memory t.ground here (test_code f v ++ y ∷ []) → s.pc ≡ address t.ground here → Ready t f kinds frame w s →
+      Goes t.ground here (length (test_code f v) + passed_over z) 0 s
+
+-- A function's prologue takes a frame where the stack has room, and its epilogue gives it back and goes to the return address. A jump to a
+-- label comes to the label's word, and a call of a function to the function's first word, with the address behind the call in ra. Where a
+-- routine's pieces stand, those of each operation stand from its first word on.
+pub record ControlGoes : Type 0 where
+  pub enters : (g : Ground) (here : ℕ) (f : Shape) (s : State) → PiecesAt s.memory g here (prologue f) → s.pc ≡ address g here → HasRoom f s → Enters g here f s
+  pub leaves : (g : Ground) (here back : ℕ) (f : Shape) (s : State) → PiecesAt s.memory g here (epilogue f) → s.pc ≡ address g here → HasFrame f back s → Leaves f back s
+  pub jumps : (g : Ground) (here l : ℕ) (s : State) → PieceAt s.memory g here (jump_to l) → s.pc ≡ address g here → g.places.label l < here + 2 ^ 18 → here < g.places.label l + 2 ^ 18 →
+      address g (g.places.label l) < 2 ^ 64 → Jumps g (g.places.label l) s
+  pub calls : (g : Ground) (here first : ℕ) (callee : Function) (s : State) → PiecesAt s.memory g here (function_called callee) → s.pc ≡ address g here → length s.regs ≡ 32 →
+      Reached g (entry callee) first → first % 4 ≡ 0 → first < 2 ^ 64 → Calls g here first s
+  pub operation : (memory : List Part) (g : Ground) (first : ℕ) (r : Routine) (p : ℕ) (b : List Piece) → PiecesAt memory g first (r.front ++ flat_map (λ x. x) r.blocks) → slice_get r.blocks p ≡ Some b →
+      PiecesAt memory g first r.front × PiecesAt memory g (first + op_word r p) b

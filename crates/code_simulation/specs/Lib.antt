@@ -4,4 +4,5 @@ pub mod Executes
 pub mod Numbers
 pub mod Going
 pub mod Frames
+pub mod Transfers
 pub mod Laws

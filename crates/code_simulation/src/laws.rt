@@ -1,5 +1,5 @@
 // Laws of code on the machine: calls of no effect, whose contracts state what holds of every program.
-ghost use Rattle.code_simulation.specs.Laws.{StoresAreRead, ValuesAreComputed, WordsAreFetched};
+ghost use Rattle.code_simulation.specs.Laws.{ControlGoes, StoresAreRead, ValuesAreComputed, WordsAreFetched};
 
 /// Where code stands the machine does what its pieces say.
 pub fn words_are_fetched()
@@ -14,4 +14,9 @@ pub fn stores_are_read()
 /// The words of a value without calls compute its int.
 pub fn values_are_computed()
     ensures { ValuesAreComputed }
+{}
+
+/// Prologues, epilogues, jumps and calls go where they say.
+pub fn control_goes()
+    ensures { ControlGoes }
 {}

@@ -1,4 +1,4 @@
-use Rattle.code_simulation.proofs.Values.{values_are_computed}
+use Rattle.code_simulation.proofs.Testing.{values_are_computed}
 use Rattle.code_simulation.proofs.laws.values_are_computed.Goals as goal
 
 pub returns : goal.returns
