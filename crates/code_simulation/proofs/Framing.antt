@@ -26,16 +26,16 @@ use Rattle.code_simulation.proofs.Going.{next_is}
 use Rattle.code_simulation.proofs.Places.{near_address, far_address, address_done, reached_from}
 
 -- the state behind a word that sets a register
-abbrev set_state : Ground → ℕ → State → (rd value : ℕ) → State
+abbrev pub set_state : Ground → ℕ → State → (rd value : ℕ) → State
 set_state g here s rd value = state (address g (here + 1)) (with_reg s.regs rd value) s.memory
 
-sets_at : (g : Ground) (here rd value : ℕ) (y : Piece) (s : State) → PieceAt s.memory g here y → s.pc ≡ address g here → done (placed g.places here y) s ≡ sets s rd value → step_of s ≡ (Done, set_state g here s rd value)
+pub sets_at : (g : Ground) (here rd value : ℕ) (y : Piece) (s : State) → PieceAt s.memory g here y → s.pc ≡ address g here → done (placed g.places here y) s ≡ sets s rd value → step_of s ≡ (Done, set_state g here s rd value)
 sets_at g here rd value y s h at does =
     piece_done g here y s h at ∙ does ∙ ap (λ pc. (Done, state pc (with_reg s.regs rd value) s.memory)) (next_is g here y s h at)
 
 -- ---- what the words do
 
-addi_done : (rd rs imm : ℕ) (s : State) → done (Addi rd rs imm) s ≡ sets s rd (add (x s rs) (imm12 imm))
+pub addi_done : (rd rs imm : ℕ) (s : State) → done (Addi rd rs imm) s ≡ sets s rd (add (x s rs) (imm12 imm))
 unfolding done
 addi_done rd rs imm s = refl
 
@@ -43,7 +43,7 @@ lui_done : (rd imm : ℕ) (s : State) → done (Lui rd imm) s ≡ sets s rd (imm
 unfolding done
 lui_done rd imm s = refl
 
-auipc_done : (rd imm : ℕ) (s : State) → done (Auipc rd imm) s ≡ sets s rd (add s.pc (imm20 imm))
+pub auipc_done : (rd imm : ℕ) (s : State) → done (Auipc rd imm) s ≡ sets s rd (add s.pc (imm20 imm))
 unfolding done
 auipc_done rd imm s = refl
 
@@ -55,7 +55,7 @@ bgeu_done : (a b offset : ℕ) (s : State) → done (Bgeu a b offset) s ≡ bran
 unfolding done
 bgeu_done a b offset s = refl
 
-jalr_done : (rd rs imm : ℕ) (s : State) → done (Jalr rd rs imm) s ≡ jumps s rd (add (x s rs) (imm12 imm) / 2 * 2)
+pub jalr_done : (rd rs imm : ℕ) (s : State) → done (Jalr rd rs imm) s ≡ jumps s rd (add (x s rs) (imm12 imm) / 2 * 2)
 unfolding done
 jalr_done rd rs imm s = refl
 
@@ -72,7 +72,7 @@ down_address a (suc n) small le below = grind (arith, nat_tests, small, le, belo
 near_eight : (a : ℕ) → a < 2 ^ 63 → add a (imm12 return_offset) ≡ a + return_offset
 near_eight a below = grind (arith, nat_tests, below)
 
-whole_address : (a : ℕ) → a % 4 ≡ 0 → a < 2 ^ 64 → add a (imm12 0) / 2 * 2 ≡ a
+pub whole_address : (a : ℕ) → a % 4 ≡ 0 → a < 2 ^ 64 → add a (imm12 0) / 2 * 2 ≡ a
 whole_address a aligned below = grind (arith, nat_tests, aligned, below)
 
 -- ---- jumps inside a function
@@ -93,7 +93,7 @@ jump_target base here there (negsuc n) is near far hp tp =
     let place : base + 4 * here ≡ base + 4 * there + 4 * (n + 1) = omega (arith, sum) in
     ap (λ p. add p (sign_extended 21 (2 * jump_field (negsuc n)))) place ∙ backwards (base + 4 * there) n (omega (arith, far, sum)) (omega (arith, hp, sum))
 
-jumped : (s : State) (rd target : ℕ) → target % 4 ≡ 0 → jumps s rd target ≡ (Done, state target (with_reg s.regs rd (next s)) s.memory)
+pub jumped : (s : State) (rd target : ℕ) → target % 4 ≡ 0 → jumps s rd target ≡ (Done, state target (with_reg s.regs rd (next s)) s.memory)
 jumped s rd target aligned = let test : (target % 4 == 0) ≡ true = eq-eqb (target % 4) 0 aligned in rw test refl
 
 pub label_jumps : (g : Ground) (here l : ℕ) (s : State) → PieceAt s.memory g here (jump_to l) → s.pc ≡ address g here → g.places.label l < here + 2 ^ 18 → here < g.places.label l + 2 ^ 18 →
@@ -110,13 +110,13 @@ label_jumps g here l s h at near far below =
 -- ---- the prologue
 
 -- the fields of registers that a frame uses
-not_zero : (n : ℕ) → 0 < n → n ≢ 0
+pub not_zero : (n : ℕ) → 0 < n → n ≢ 0
 not_zero n some e = omega (arith, some, e)
 
-abbrev set_twice : List ℕ → (r v q u : ℕ) → List ℕ
+abbrev pub set_twice : List ℕ → (r v q u : ℕ) → List ℕ
 set_twice regs r v q u = with_reg (with_reg regs r v) q u
 
-kept_twice : (regs : List ℕ) (r v q u n : ℕ) → n ≢ r → n ≢ q → reg_of (set_twice regs r v q u) n ≡ reg_of regs n
+pub kept_twice : (regs : List ℕ) (r v q u n : ℕ) → n ≢ r → n ≢ q → reg_of (set_twice regs r v q u) n ≡ reg_of regs n
 kept_twice regs r v q u n first second = read_other (with_reg regs r v) q n u second ∙ read_other regs r n v first
 
 -- the stack test passes where enough is left

@@ -12,3 +12,7 @@ pub mod Values
 pub mod Testing
 pub mod Framing
 pub mod Routines
+pub mod Turning
+mod Worked
+mod SmallMain
+mod Starting

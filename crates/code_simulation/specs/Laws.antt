@@ -1,6 +1,15 @@
 -- What the calls of laws state.
-use Rattle.std.specs.Prelude.{◌≡◌, ℕ, ◌+◌, ◌%◌, ◌^◌, ◌<◌, ◌≤◌, ℤ, List, [], ◌∷◌, ◌++◌, map, length, slice_get, Some}
-use Rattle.std.specs.List.{flat_map}
+use Rattle.std.specs.Prelude.{◌≡◌, ℕ, ◌+◌, ◌*◌, ◌%◌, ◌^◌, ◌<◌, ◌≤◌, ℤ, List, [], ◌∷◌, ◌++◌, map, length, slice_get, Some}
+use Rattle.std.specs.List.{flat_map, AllByRecursion}
+use Rattle.run_items.specs.declared.item.Item.TheVariants.{Line}
+use Rattle.cxa_runtime.specs.declared.effect.End.TheVariants.{Exit}
+use Rattle.cxa_runtime.specs.Raising.{Image}
+use Rattle.cxa_runtime.specs.Run.{run}
+use Rattle.cxa_runtime.specs.World as machine
+use Rattle.linear_forms.specs.Linear.{FunctionCode, UnitCode}
+use Rattle.code_simulation.specs.Numbers.{IsInt}
+use Rattle.code_simulation.specs.Begins.{Begins}
+use Rattle.code_simulation.specs.SmallMain.{main_ops}
 use Rattle.rv64_isa.specs.Format.{IsInRange}
 use Rattle.rv64_isa.specs.Listing.{form_of}
 use Rattle.rv64_isa.specs.State.{State, Part, with_value}
@@ -61,3 +70,10 @@ pub record ControlGoes : Type 0 where
       Reached g (entry callee) first → first % 4 ≡ 0 → first < 2 ^ 64 → Calls g here first s
   pub operation : (memory : List Part) (g : Ground) (first : ℕ) (r : Routine) (p : ℕ) (b : List Piece) → PiecesAt memory g first (r.front ++ flat_map (λ x. x) r.blocks) → slice_get r.blocks p ≡ Some b →
       PiecesAt memory g first r.front × PiecesAt memory g (first + op_word r p) b
+
+-- A unit whose main writes ints and returns one: the run from the first word on shows exactly those lines, in their order, and exits with
+-- what main returns, within 21 turns and 4 for each line.
+pub record SmallMainsRun : Type 0 where
+  pub run : (image : Image) (pick : ℕ → ℕ) (n : ℕ) (u : UnitCode) (base : ℕ) (fc : FunctionCode) (r i l : ℕ) (lines : List ℤ) (z : ℤ) (w : machine.World) → Begins u base fc r w.hart →
+      fc.ops ≡ main_ops r lines z i l → AllByRecursion IsInt lines → IsInt z → 21 + 4 * length lines ≤ n →
+      ((run image pick n w).items ≡ map Line lines) × ((run image pick n w).end ≡ Exit z)

@@ -5,4 +5,9 @@ pub mod Numbers
 pub mod Going
 pub mod Frames
 pub mod Transfers
+pub mod Turning
+pub mod SmallMain
+pub mod RuntimeCalls
+pub mod UnitAt
+pub mod Begins
 pub mod Laws

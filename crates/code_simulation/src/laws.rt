@@ -1,5 +1,5 @@
 // Laws of code on the machine: calls of no effect, whose contracts state what holds of every program.
-ghost use Rattle.code_simulation.specs.Laws.{ControlGoes, StoresAreRead, ValuesAreComputed, WordsAreFetched};
+ghost use Rattle.code_simulation.specs.Laws.{ControlGoes, SmallMainsRun, StoresAreRead, ValuesAreComputed, WordsAreFetched};
 
 /// Where code stands the machine does what its pieces say.
 pub fn words_are_fetched()
@@ -19,4 +19,9 @@ pub fn values_are_computed()
 /// Prologues, epilogues, jumps and calls go where they say.
 pub fn control_goes()
     ensures { ControlGoes }
+{}
+
+/// The words of a unit whose main writes ints and returns one show those lines and exit with what it returns.
+pub fn small_mains_run()
+    ensures { SmallMainsRun }
 {}

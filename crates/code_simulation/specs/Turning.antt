@@ -1,0 +1,33 @@
+-- Turns of the ABI machine.
+use Rattle.std.specs.Prelude.{◌≡◌, ℕ, ◌+◌, ◌≤◌, List, ◌++◌}
+use Rattle.run_items.specs.declared.item.Item.{Item}
+use Rattle.cxa_runtime.specs.Raising.{Image}
+use Rattle.cxa_runtime.specs.Run.{Ran, run}
+use Rattle.cxa_runtime.specs.World.{World}
+
+-- a run that has shown items before
+abbrev pub with_items : List Item → Ran → Ran
+with_items items r = record r { items = items ++ r.items }
+
+-- so many turns lead from a world to another and show items, whatever slots are chosen and however many turns follow
+pub record Turns (image : Image) (n : ℕ) (w v : World) (items : List Item) : Type 0 where
+  pub run : (pick : ℕ → ℕ) (k : ℕ) → run image pick (n + k) w ≡ with_items items (run image pick k v)
+
+-- at most so many turns lead from a world to one of which this holds, and show items
+pub record Reaches (image : Image) (most : ℕ) (w : World) (items : List Item) (P : World → Type 0) : Type 0 where
+  pub turns : ℕ
+  pub few : turns ≤ most
+  pub after : World
+  pub runs : Turns image turns w after items
+  pub holds : P after
+
+-- what the runtime keeps beside the hart stays
+pub record SameRuntime (w v : World) : Type 0 where
+  pub exceptions : v.exceptions ≡ w.exceptions
+  pub terminate_handler : v.terminate_handler ≡ w.terminate_handler
+  pub unexpected_handler : v.unexpected_handler ≡ w.unexpected_handler
+  pub last_number : v.last_number ≡ w.last_number
+  pub unwinding : v.unwinding ≡ w.unwinding
+  pub input : v.input ≡ w.input
+  pub replies : v.replies ≡ w.replies
+  pub terminating : v.terminating ≡ w.terminating
