@@ -15,4 +15,6 @@ pub mod Routines
 pub mod Turning
 mod Worked
 mod SmallMain
+mod Initial
 mod Starting
+mod Lowering

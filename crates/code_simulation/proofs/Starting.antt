@@ -1,5 +1,5 @@
 -- A run from its first word on: the runtime's first function calls the unit, which jumps to main, and exits with what main gives.
-use Rattle.std.proofs.Common.{◌≡◌, ◌≢◌, ◌∙◌, refl, sym, ap, subst, arith, ℕ, zero, suc, ◌+◌, ◌-◌, ◌*◌, ◌/◌, ◌%◌, ◌^◌, ◌<◌, ◌≤◌, ◌==◌, ℤ, pos, Bool, true, false, cond, inl, inr, List, [], ◌∷◌, ◌++◌, map, take, length, length-append, append-nil, flat_map, Some}
+use Rattle.std.proofs.Common.{lit<, ◌≡◌, ◌≢◌, ◌∙◌, refl, sym, ap, subst, arith, ℕ, zero, suc, ◌+◌, ◌-◌, ◌*◌, ◌/◌, ◌%◌, ◌^◌, ◌<◌, ◌≤◌, ◌==◌, ℤ, pos, Bool, true, false, cond, inl, inr, List, [], ◌∷◌, ◌++◌, map, take, length, length-append, append-nil, flat_map, Some}
 use Rattle.std.specs.Prelude.{◌+ℤ◌, ◌⊎◌, slice_get}
 use Rattle.std.specs.List.{AllByRecursion}
 use Rattle.std.proofs.lemmas.Bool.{eq-eqb}
@@ -9,7 +9,19 @@ use Rattle.rv64_isa.specs.Arithmetic.{add}
 use Rattle.rv64_isa.specs.State.{State, Part, state, with_value}
 use Rattle.rv64_isa.specs.Step.{step_of, jumps, x, imm12, imm20}
 use Rattle.cxa_runtime.specs.declared.effect.End.TheVariants as end_kinds
-use Rattle.cxa_runtime.specs.World.{World}
+use Rattle.eh_outer.specs.declared.module.Reply.{Reply}
+use Rattle.cxx_ast.specs.declared.name.Name.{Name}
+use Rattle.cxx_ast.specs.Plain.{Checked}
+use Rattle.region_forms.specs.Layout.{Layout}
+use Rattle.region_forms.specs.LowerProgram.{regions_of}
+use Rattle.linear_forms.specs.Frame.{slot_bytes}
+use Rattle.linear_forms.specs.Unit.{function_code, unit_of}
+use Rattle.rv64_machine.specs.Initial.{initial}
+use Rattle.cxa_runtime.specs.World.{World, begins}
+use Rattle.code_simulation.specs.MainTree.{LineTree, AnswerTree, main_function}
+use Rattle.code_simulation.proofs.Lowering.{main_lowered, lowered_ops, lowered_slots, lowered_frame, main_there}
+use Rattle.code_simulation.proofs.Initial.{stack_may}
+use Rattle.std.proofs.lemmas.List.{length-map}
 use Rattle.cxa_runtime.specs.Raising.{Image}
 use Rattle.cxa_runtime.specs.Run.{Ran, run}
 use Rattle.linear_forms.specs.Linear.{LinearOp, jump, label, return, FunctionCode, UnitCode}
@@ -31,7 +43,7 @@ use Rattle.code_simulation.specs.Executes.{Executes}
 use Rattle.code_simulation.specs.Frames.{AddressAt, Reached}
 use Rattle.code_simulation.specs.Transfers.{HasRoom}
 use Rattle.code_simulation.specs.SmallMain.{write_op, set_op, main_ops, pieces_of}
-use Rattle.code_simulation.specs.UnitAt.{ground_at, routine_ground}
+use Rattle.code_simulation.specs.UnitAt.{ground_at, routine_ground, UnitAt}
 use Rattle.code_simulation.specs.Begins.{Begins}
 use Rattle.code_simulation.specs.Laws.{SmallMainsRun}
 use Rattle.code_simulation.proofs.Storing.{eight_stored, value_written, may_still}
@@ -130,7 +142,7 @@ begun u base fc r s h =
     let back : ℕ = address g0 2 in
     let start = h.code.start in
     let jump = h.code.jump in
-    let routine = h.code.function u.main (function_routine fc) (get_map function_routine u.functions u.main fc h.main) in
+    let routine = h.code.main (function_routine fc) (get_map function_routine u.functions u.main fc h.main) in
     let parts = pieces_split s.memory gm w (prologue f) (flat_map (λ b. b) (map (linear_code f) fc.ops)) routine in
     let even : base % 4 ≡ 0 = omega (arith, start.0.word.aligned) in
     let first = function_calls g0 0 (address g0 stub_words) unit_entry s (start.0, (start.1.0, tt)) (h.pc ∙ omega arith) h.room.registers
@@ -288,7 +300,44 @@ ran_all image pick n u base fc r i l lines z w h is all_ints int ends_at enough 
       ap (λ (ran : Ran). ran.end) whole ∙ ap (λ (ran : Ran). ran.end) ends,
     )
 
+-- ---- the program of such a tree
+
+program_runs : (image : Image) (pick : ℕ → ℕ) (n : ℕ) (p : Checked) (layout : Layout) (name : Name) (tokens : ℕ) (lines : List LineTree) (a : AnswerTree) (base : ℕ) (parts : List Part) (input : List ℕ)
+    (replies : List (List Reply)) → p.functions ≡ main_function name tokens lines a ∷ [] → p.main ≡ 0 → AllByRecursion IsInt (map (λ t. t.value) lines) → IsInt a.value →
+    UnitAt (unit_of (regions_of p layout)) base (initial parts).memory → 21 + 4 * length lines ≤ n →
+    let ran = run image pick n (begins (record (initial parts) { pc = base }) input replies) in (ran.items ≡ map Line (map (λ t. t.value) lines)) × (ran.end ≡ end_kinds.Exit a.value)
+program_runs image pick n p layout name tokens lines a base parts input replies functions first all_ints int code enough =
+    let u : UnitCode = unit_of (regions_of p layout) in
+    let fc : FunctionCode = function_code (main_lowered p layout name tokens lines a) in
+    let s : State = record (initial parts) { pc = base } in
+    let frame : fc.frame ≡ 32 = lowered_frame p layout name tokens lines a in
+    let slots = lowered_slots p layout name tokens lines a in
+    let slot : slot_offset (shape_of fc) 0 ≡ 24 = ap (λ b. b - slot_bytes (take 1 fc.slots)) frame ∙ ap (λ ss. 32 - slot_bytes (take 1 ss)) slots in
+    let values : List ℤ = map (λ t. t.value) lines in
+    let many : length values ≡ length lines = length-map lines (λ (t : LineTree). t.value) in
+    let w : World = begins s input replies in
+    let begins_there : Begins u base fc 0 s = record {
+      code = code;
+      main = main_there p layout name tokens lines a functions first;
+      pc = refl;
+      room = record {
+        registers = refl;
+        size = (omega (arith, frame), omega (arith, frame), omega (arith, frame));
+        aligned = refl;
+        above = omega (arith, frame);
+        below = lit< tt;
+        may = stack_may parts (0x7100_0000 - fc.frame + return_offset) 8 (omega (arith, frame)) (omega (arith, frame));
+      };
+      result = stack_may parts (0x7100_0000 - fc.frame + slot_offset (shape_of fc) 0) 4 (omega (arith, frame, slot)) (omega (arith, frame, slot));
+      small = omega (arith, slot);
+      aligned = omega (arith, slot);
+      above = omega (arith, slot);
+    } in
+    ran_all image pick n u base fc 0 1 0 values a.value w begins_there (lowered_ops p layout name tokens lines a) all_ints int
+    (main_label u base fc 0 1 0 values a.value (lowered_ops p layout name tokens lines a)) (omega (arith, enough, many))
+
 pub small_mains_run : SmallMainsRun
 small_mains_run = record {
-  run = λ image pick n u base fc r i l lines z w h is all_ints int enough. ran_all image pick n u base fc r i l lines z w h is all_ints int (main_label u base fc r i l lines z is) enough;
+  unit = λ image pick n u base fc r i l lines z w h is all_ints int enough. ran_all image pick n u base fc r i l lines z w h is all_ints int (main_label u base fc r i l lines z is) enough;
+  program = program_runs;
 }

@@ -32,7 +32,7 @@ parted : (memory : List Part) (a n : ℕ) (bytes : List Byte) → bytes_at memor
 unfolding bytes_at
 parted memory a n bytes h = parted_of memory a n bytes (byte_at memory a) (bytes_at memory (a + 1) n) refl refl h
 
-whole : (memory : List Part) (a n : ℕ) (first : Byte) (others : List Byte) → byte_at memory a ≡ Some first → bytes_at memory (a + 1) n ≡ Some others → bytes_at memory a (suc n) ≡ Some (first ∷ others)
+pub whole : (memory : List Part) (a n : ℕ) (first : Byte) (others : List Byte) → byte_at memory a ≡ Some first → bytes_at memory (a + 1) n ≡ Some others → bytes_at memory a (suc n) ≡ Some (first ∷ others)
 unfolding bytes_at
 whole memory a n first others e f = ap (λ o. joined o (bytes_at memory (a + 1) n)) e ∙ ap (joined (Some first)) f
 
@@ -40,7 +40,7 @@ none : (memory : List Part) (a : ℕ) (bytes : List Byte) → bytes_at memory a 
 unfolding bytes_at
 none memory a bytes h = let same : [] ≡ bytes = cc h in sym same
 
-nothing : (memory : List Part) (a : ℕ) → bytes_at memory a 0 ≡ Some []
+pub nothing : (memory : List Part) (a : ℕ) → bytes_at memory a 0 ≡ Some []
 unfolding bytes_at
 nothing memory a = refl
 

@@ -10,4 +10,5 @@ pub mod SmallMain
 pub mod RuntimeCalls
 pub mod UnitAt
 pub mod Begins
+pub mod MainTree
 pub mod Laws

@@ -25,10 +25,10 @@ routine_ground u base target first r = ground_at u base (routine_places target f
 abbrev pub routine_pieces : Routine → List Piece
 routine_pieces r = r.front ++ flat_map (λ b. b) r.blocks
 
--- from an address on: the first function of a run, the unit's jump to main, and each function
+-- from an address on: the first function of a run, the unit's jump to main, and main
 pub record UnitAt (u : UnitCode) (base : ℕ) (memory : List Part) : Type 0 where
   pub few : whole_words u < 2 ^ 28
   pub start : PiecesAt memory (routine_ground u base stub_target 0 start_routine) 0 (routine_pieces start_routine)
   pub jump : PiecesAt memory (ground_at u base (record { target = target_byte u; label = λ l. l })) stub_words (main_jump u)
-  pub function : (n : ℕ) (r : Routine) → slice_get (unit_routines u) n ≡ Some r →
-      PiecesAt memory (routine_ground u base (target_byte u) (stub_words + function_first u n) r) (stub_words + function_first u n) (routine_pieces r)
+  pub main : (r : Routine) → slice_get (unit_routines u) u.main ≡ Some r →
+      PiecesAt memory (routine_ground u base (target_byte u) (stub_words + function_first u u.main) r) (stub_words + function_first u u.main) (routine_pieces r)
