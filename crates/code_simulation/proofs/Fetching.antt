@@ -40,7 +40,7 @@ pub immediate_small : (z : ℤ) → immediate z < 2 ^ 12
 immediate_small (pos n) = omega arith
 immediate_small (negsuc n) = omega arith
 
-upper_small : (z : ℤ) → upper z < 2 ^ 20
+pub upper_small : (z : ℤ) → upper z < 2 ^ 20
 upper_small z = omega arith
 
 jump_small : (z : ℤ) → jump_field z < 2 ^ 20

@@ -16,5 +16,7 @@ pub mod Turning
 mod Worked
 mod SmallMain
 mod Initial
+mod Placing
+mod Fitting
 mod Starting
 mod Lowering

@@ -33,17 +33,19 @@ use Rattle.emission_forms.specs.Piece.{Target, entry, unit_entry, Piece, upper_p
 use Rattle.emission_forms.specs.RuntimeCall.{runtime_call, exit_call}
 use Rattle.emission_forms.specs.Shape.{Shape, slot_offset, return_offset, prologue}
 use Rattle.emission_forms.specs.LinearCode.{linear_code}
-use Rattle.emission_forms.specs.Routine.{block_words}
+use Rattle.emission_forms.specs.Routine.{Routine, block_words}
 use Rattle.emission_forms.specs.StubCode.{start_routine, stub_words}
-use Rattle.emission_forms.specs.Emitted.{function_routine, function_first, target_byte, stub_target, main_jump, shape_of}
+use Rattle.emission_forms.specs.Emitted.{unit_routines, function_routine, function_first, target_byte, stub_target, main_jump, shape_of}
 use Rattle.code_simulation.specs.Memory.{Written, Holds, MayWrite}
 use Rattle.code_simulation.specs.Numbers.{IsInt, extended}
-use Rattle.code_simulation.specs.Standing.{Ground, address, PiecesAt}
+use Rattle.code_simulation.specs.Standing.{Ground, address, PiecesAt, PieceFits}
 use Rattle.code_simulation.specs.Executes.{Executes}
 use Rattle.code_simulation.specs.Frames.{AddressAt, Reached}
 use Rattle.code_simulation.specs.Transfers.{HasRoom}
 use Rattle.code_simulation.specs.SmallMain.{write_op, set_op, main_ops, pieces_of}
-use Rattle.code_simulation.specs.UnitAt.{ground_at, routine_ground, UnitAt}
+use Rattle.code_simulation.specs.UnitAt.{ground_at, routine_ground, routine_pieces, UnitAt}
+use Rattle.code_simulation.proofs.Placing.{unit_stands}
+use Rattle.code_simulation.proofs.Fitting.{main_fits}
 use Rattle.code_simulation.specs.Begins.{Begins}
 use Rattle.code_simulation.specs.Laws.{SmallMainsRun}
 use Rattle.code_simulation.proofs.Storing.{eight_stored, value_written, may_still}
@@ -336,8 +338,21 @@ program_runs image pick n p layout name tokens lines a base parts input replies 
     ran_all image pick n u base fc 0 1 0 values a.value w begins_there (lowered_ops p layout name tokens lines a) all_ints int
     (main_label u base fc 0 1 0 values a.value (lowered_ops p layout name tokens lines a)) (omega (arith, enough, many))
 
+main_fields : (p : Checked) (layout : Layout) (name : Name) (tokens : ℕ) (lines : List LineTree) (a : AnswerTree) → p.functions ≡ main_function name tokens lines a ∷ [] → p.main ≡ 0 →
+    (r : Routine) → slice_get (unit_routines (unit_of (regions_of p layout))) p.main ≡ Some r → AllByRecursion PieceFits (routine_pieces r)
+main_fields p layout name tokens lines a functions first r there =
+    let u : UnitCode = unit_of (regions_of p layout) in
+    let fc : FunctionCode = function_code (main_lowered p layout name tokens lines a) in
+    let both : Some (function_routine fc) ≡ Some r = sym (get_map function_routine u.functions u.main fc (main_there p layout name tokens lines a functions first)) ∙ there in
+    let same : function_routine fc ≡ r = cc both in
+    let fits = main_fits (shape_of fc) 0 (map (λ t. t.value) lines) a.value 1 0 in
+    subst (λ (q : Routine). AllByRecursion PieceFits (routine_pieces q)) same
+    (subst (λ ops. AllByRecursion PieceFits (prologue (shape_of fc) ++ pieces_of (shape_of fc) ops)) (sym (lowered_ops p layout name tokens lines a)) fits)
+
 pub small_mains_run : SmallMainsRun
 small_mains_run = record {
   unit = λ image pick n u base fc r i l lines z w h is all_ints int enough. ran_all image pick n u base fc r i l lines z w h is all_ints int (main_label u base fc r i l lines z is) enough;
-  program = program_runs;
+  program = λ image pick n p layout name tokens lines a base parts input replies functions first all_ints int few words enough.
+      program_runs image pick n p layout name tokens lines a base parts input replies functions first all_ints int
+      (unit_stands (unit_of (regions_of p layout)) base (initial parts).memory few words (main_fields p layout name tokens lines a functions first)) enough;
 }

@@ -16,7 +16,8 @@ use Rattle.region_forms.specs.LowerProgram.{regions_of}
 use Rattle.linear_forms.specs.Unit.{unit_of}
 use Rattle.rv64_machine.specs.Initial.{initial}
 use Rattle.code_simulation.specs.MainTree.{LineTree, AnswerTree, main_function}
-use Rattle.code_simulation.specs.UnitAt.{UnitAt}
+use Rattle.emission_forms.specs.Emitted.{emitted_of, emitted_stubs}
+use Rattle.code_simulation.specs.UnitAt.{whole_words}
 use Rattle.code_simulation.specs.Begins.{Begins}
 use Rattle.code_simulation.specs.SmallMain.{main_ops}
 use Rattle.rv64_isa.specs.Format.{IsInRange}
@@ -33,7 +34,7 @@ use Rattle.emission_forms.specs.Routine.{Routine, op_word}
 use Rattle.linear_forms.specs.Stub.{Function}
 use Rattle.emission_forms.specs.ValueCode.{needs, value_code, test_code}
 use Rattle.code_simulation.specs.Memory.{Written, WordAt, Holds, MayWrite, shape_of, Apart}
-use Rattle.code_simulation.specs.Standing.{Ground, address, PieceFits, PieceAt, PiecesAt}
+use Rattle.code_simulation.specs.Standing.{Ground, address, PieceFits, PieceAt, PiecesAt, WordsAt}
 use Rattle.code_simulation.specs.Going.{Goes, Gives, passed_over}
 use Rattle.code_simulation.specs.Frames.{Setting, ValueStands, Ready, Reached}
 use Rattle.code_simulation.specs.Transfers.{HasRoom, HasFrame, Enters, Leaves, Jumps, Calls}
@@ -82,12 +83,13 @@ pub record ControlGoes : Type 0 where
 
 -- A unit whose main writes ints and returns one: the run from the first word on shows exactly those lines, in their order, and exits with
 -- what main returns, within 21 turns and 4 for each line. So does each checked program whose one function is `int main()` with calls of
--- write_int on literals and a return of a literal, on a new machine that stands at the first word of its code.
+-- write_int on literals and a return of a literal, on a new machine that stands at the first of its words: those of the runtime's own
+-- functions and of what is emitted for the program.
 pub record SmallMainsRun : Type 0 where
   pub unit : (image : Image) (pick : ℕ → ℕ) (n : ℕ) (u : UnitCode) (base : ℕ) (fc : FunctionCode) (r i l : ℕ) (lines : List ℤ) (z : ℤ) (w : machine.World) → Begins u base fc r w.hart →
       fc.ops ≡ main_ops r lines z i l → AllByRecursion IsInt lines → IsInt z → 21 + 4 * length lines ≤ n →
       ((run image pick n w).items ≡ map Line lines) × ((run image pick n w).end ≡ Exit z)
   pub program : (image : Image) (pick : ℕ → ℕ) (n : ℕ) (p : Checked) (layout : Layout) (name : Name) (tokens : ℕ) (lines : List LineTree) (a : AnswerTree) (base : ℕ) (parts : List Part) (input : List ℕ)
       (replies : List (List Reply)) → p.functions ≡ main_function name tokens lines a ∷ [] → p.main ≡ 0 → AllByRecursion IsInt (map (λ t. t.value) lines) → IsInt a.value →
-      UnitAt (unit_of (regions_of p layout)) base (initial parts).memory → 21 + 4 * length lines ≤ n →
+      whole_words (unit_of (regions_of p layout)) < 2 ^ 28 → WordsAt (initial parts).memory base (emitted_stubs.code ++ (emitted_of (unit_of (regions_of p layout))).code) → 21 + 4 * length lines ≤ n →
       let ran = run image pick n (machine.begins (record (initial parts) { pc = base }) input replies) in (ran.items ≡ map Line (map (λ t. t.value) lines)) × (ran.end ≡ Exit a.value)
