@@ -10,7 +10,7 @@ use Rattle.code_simulation.specs.Memory.{MayWrite}
 use Rattle.code_simulation.proofs.Bytes.{byte_in}
 use Rattle.code_simulation.proofs.Storing.{whole, nothing}
 
-covers_zero : (address size a : ℕ) → covers (zero_part address size) a ≡ (nat_le address a && nat_lt (a - address) size)
+pub covers_zero : (address size a : ℕ) → covers (zero_part address size) a ≡ (nat_le address a && nat_lt (a - address) size)
 unfolding zero_part
 covers_zero address size a = ap (λ n. nat_le address a && nat_lt (a - address) n) (length-replicate {A = ℕ} size 0)
 

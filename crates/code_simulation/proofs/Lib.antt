@@ -18,5 +18,6 @@ mod SmallMain
 mod Initial
 mod Placing
 mod Fitting
+mod Imaged
 mod Starting
 mod Lowering

@@ -1,5 +1,5 @@
 -- Pieces stand where their words do.
-use Rattle.std.proofs.Common.{◌≡◌, ◌∙◌, refl, sym, ap, subst, arith, ℕ, zero, suc, ◌+◌, ◌*◌, ◌<◌, ◌≤◌, ◌^◌, List, [], ◌∷◌, ◌++◌, length, take, drop, Some}
+use Rattle.std.proofs.Common.{length-append, ◌≡◌, ◌∙◌, refl, sym, ap, subst, arith, ℕ, zero, suc, ◌+◌, ◌*◌, ◌<◌, ◌≤◌, ◌^◌, List, [], ◌∷◌, ◌++◌, length, take, drop, Some}
 use Rattle.std.specs.Prelude.{slice_get}
 use Rattle.std.specs.List.{AllByRecursion}
 use Rattle.rv64_isa.specs.State.{Part}
@@ -87,3 +87,7 @@ unit_stands u base memory few words fits = record {
 
     jump_fits : AllByRecursion PieceFits (main_jump u)
     jump_fits = (omega arith, ((omega arith, omega arith), tt))
+
+-- how many words there are
+pub all_length : (u : UnitCode) → length (emitted_stubs.code ++ unit_words u) ≡ whole_words u
+all_length u = length-append emitted_stubs.code (unit_words u) ∙ ap (λ n. n + length (unit_words u)) stub_length ∙ ap (λ n. stub_words + n) (words_stand.unit u)

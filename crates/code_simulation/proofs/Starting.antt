@@ -35,19 +35,26 @@ use Rattle.emission_forms.specs.Shape.{Shape, slot_offset, return_offset, prolog
 use Rattle.emission_forms.specs.LinearCode.{linear_code}
 use Rattle.emission_forms.specs.Routine.{Routine, block_words}
 use Rattle.emission_forms.specs.StubCode.{start_routine, stub_words}
-use Rattle.emission_forms.specs.Emitted.{unit_routines, function_routine, function_first, target_byte, stub_target, main_jump, shape_of}
+use Rattle.emission_forms.specs.Emitted.{emitted_of, unit_routines, function_routine, function_first, target_byte, stub_target, main_jump, shape_of}
 use Rattle.code_simulation.specs.Memory.{Written, Holds, MayWrite}
 use Rattle.code_simulation.specs.Numbers.{IsInt, extended}
-use Rattle.code_simulation.specs.Standing.{Ground, address, PiecesAt, PieceFits}
+use Rattle.code_simulation.specs.Standing.{Ground, address, PiecesAt, PieceFits, WordsAt, HaveBits}
 use Rattle.code_simulation.specs.Executes.{Executes}
 use Rattle.code_simulation.specs.Frames.{AddressAt, Reached}
 use Rattle.code_simulation.specs.Transfers.{HasRoom}
 use Rattle.code_simulation.specs.SmallMain.{write_op, set_op, main_ops, pieces_of}
-use Rattle.code_simulation.specs.UnitAt.{ground_at, routine_ground, routine_pieces, UnitAt}
-use Rattle.code_simulation.proofs.Placing.{unit_stands}
+use Rattle.code_simulation.specs.UnitAt.{whole_words, ground_at, routine_ground, routine_pieces, UnitAt}
+use Rattle.code_simulation.proofs.Placing.{unit_stands, all_length}
 use Rattle.code_simulation.proofs.Fitting.{main_fits}
 use Rattle.code_simulation.specs.Begins.{Begins}
-use Rattle.code_simulation.specs.Laws.{SmallMainsRun}
+use Rattle.code_simulation.specs.Laws.{SmallMainsRun, LinkedMainsRun}
+use Rattle.eh_bytes.specs.Listed.{ListedUnit}
+use Rattle.elf_image.specs.Clean.{CleanImage}
+use Rattle.elf_image.specs.Stands.{ImageStands}
+use Rattle.image_forms.specs.Placed.{code_at, all_code}
+use Rattle.image_forms.specs.Linked.{contents_for}
+use Rattle.eh_run.specs.Program.{part_run, program_of}
+use Rattle.code_simulation.proofs.Imaged.{image_words}
 use Rattle.code_simulation.proofs.Storing.{eight_stored, value_written, may_still}
 use Rattle.code_simulation.proofs.Fetching.{piece_done, pieces_split, pieces_still}
 use Rattle.code_simulation.proofs.Stepping.{one_step, steps_then, step_then}
@@ -356,3 +363,24 @@ small_mains_run = record {
       program_runs image pick n p layout name tokens lines a base parts input replies functions first all_ints int
       (unit_stands (unit_of (regions_of p layout)) base (initial parts).memory few words (main_fields p layout name tokens lines a functions first)) enough;
 }
+
+-- ---- the linked image of such a program
+
+image_runs : (pick : ℕ → ℕ) (n : ℕ) (p : Checked) (layout : Layout) (name : Name) (tokens : ℕ) (lines : List LineTree) (a : AnswerTree) (i : CleanImage) (input : List ℕ) (replies : List (List Reply)) →
+    p.functions ≡ main_function name tokens lines a ∷ [] → p.main ≡ 0 → AllByRecursion IsInt (map (λ t. t.value) lines) → IsInt a.value →
+    let u = emitted_of (unit_of (regions_of p layout)) in ImageStands (contents_for u) i.image → code_at u + 4 * length (all_code u) < 2 ^ 30 → HaveBits (all_code u) → 21 + 4 * length lines ≤ n →
+    let ran = run (program_of i).image pick n (begins (program_of i).hart input replies) in (ran.items ≡ map Line (map (λ t. t.value) lines)) × (ran.end ≡ end_kinds.Exit a.value)
+image_runs pick n p layout name tokens lines a i input replies functions first all_ints int stands few bits enough =
+    let unit : UnitCode = unit_of (regions_of p layout) in
+    let u : ListedUnit = emitted_of unit in
+    let parts : List Part = map part_run i.image.memory in
+    let words : WordsAt (initial parts).memory (code_at u) (all_code u) = image_words u i.image stands few bits in
+    let count : length (all_code u) ≡ whole_words unit = all_length unit in
+    let small : whole_words unit < 2 ^ 28 = omega (arith, few, count) in
+    let ran = small_mains_run.program (program_of i).image pick n p layout name tokens lines a (code_at u) parts input replies functions first all_ints int small words enough in
+    subst
+    (λ pc. ((run (program_of i).image pick n (begins (record (initial parts) { pc = pc }) input replies)).items ≡ map Line (map (λ (t : LineTree). t.value) lines)) ×
+    ((run (program_of i).image pick n (begins (record (initial parts) { pc = pc }) input replies)).end ≡ end_kinds.Exit a.value)) (sym stands.entry) ran
+
+pub linked_mains_run : LinkedMainsRun
+linked_mains_run = record { runs = image_runs }

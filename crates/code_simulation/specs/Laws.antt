@@ -18,6 +18,11 @@ use Rattle.rv64_machine.specs.Initial.{initial}
 use Rattle.code_simulation.specs.MainTree.{LineTree, AnswerTree, main_function}
 use Rattle.emission_forms.specs.Emitted.{emitted_of, emitted_stubs}
 use Rattle.code_simulation.specs.UnitAt.{whole_words}
+use Rattle.elf_image.specs.Clean.{CleanImage}
+use Rattle.elf_image.specs.Stands.{ImageStands}
+use Rattle.image_forms.specs.Placed.{code_at, all_code}
+use Rattle.image_forms.specs.Linked.{contents_for}
+use Rattle.eh_run.specs.Program.{program_of}
 use Rattle.code_simulation.specs.Begins.{Begins}
 use Rattle.code_simulation.specs.SmallMain.{main_ops}
 use Rattle.rv64_isa.specs.Format.{IsInRange}
@@ -34,7 +39,7 @@ use Rattle.emission_forms.specs.Routine.{Routine, op_word}
 use Rattle.linear_forms.specs.Stub.{Function}
 use Rattle.emission_forms.specs.ValueCode.{needs, value_code, test_code}
 use Rattle.code_simulation.specs.Memory.{Written, WordAt, Holds, MayWrite, shape_of, Apart}
-use Rattle.code_simulation.specs.Standing.{Ground, address, PieceFits, PieceAt, PiecesAt, WordsAt}
+use Rattle.code_simulation.specs.Standing.{Ground, address, PieceFits, PieceAt, PiecesAt, WordsAt, HaveBits}
 use Rattle.code_simulation.specs.Going.{Goes, Gives, passed_over}
 use Rattle.code_simulation.specs.Frames.{Setting, ValueStands, Ready, Reached}
 use Rattle.code_simulation.specs.Transfers.{HasRoom, HasFrame, Enters, Leaves, Jumps, Calls}
@@ -93,3 +98,12 @@ pub record SmallMainsRun : Type 0 where
       (replies : List (List Reply)) → p.functions ≡ main_function name tokens lines a ∷ [] → p.main ≡ 0 → AllByRecursion IsInt (map (λ t. t.value) lines) → IsInt a.value →
       whole_words (unit_of (regions_of p layout)) < 2 ^ 28 → WordsAt (initial parts).memory base (emitted_stubs.code ++ (emitted_of (unit_of (regions_of p layout))).code) → 21 + 4 * length lines ≤ n →
       let ran = run image pick n (machine.begins (record (initial parts) { pc = base }) input replies) in (ran.items ≡ map Line (map (λ t. t.value) lines)) × (ran.end ≡ Exit a.value)
+
+-- The linked image of a checked program whose one function is `int main()` with calls of write_int on literals and a return of a literal,
+-- whatever file it was read of: the run of at least 21 steps and 4 for each line shows exactly those lines, in their order, and exits
+-- with what main returns. Taken for granted is that each word has 32 bits, and that the code ends below 2^30.
+pub record LinkedMainsRun : Type 0 where
+  pub runs : (pick : ℕ → ℕ) (n : ℕ) (p : Checked) (layout : Layout) (name : Name) (tokens : ℕ) (lines : List LineTree) (a : AnswerTree) (i : CleanImage) (input : List ℕ) (replies : List (List Reply)) →
+      p.functions ≡ main_function name tokens lines a ∷ [] → p.main ≡ 0 → AllByRecursion IsInt (map (λ t. t.value) lines) → IsInt a.value →
+      let u = emitted_of (unit_of (regions_of p layout)) in ImageStands (contents_for u) i.image → code_at u + 4 * length (all_code u) < 2 ^ 30 → HaveBits (all_code u) → 21 + 4 * length lines ≤ n →
+      let ran = run (program_of i).image pick n (machine.begins (program_of i).hart input replies) in (ran.items ≡ map Line (map (λ t. t.value) lines)) × (ran.end ≡ Exit a.value)

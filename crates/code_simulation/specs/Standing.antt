@@ -1,5 +1,5 @@
 -- Pieces of code that stand in memory.
-use Rattle.std.specs.Prelude.{⊤, ◌≡◌, ℕ, ◌+◌, ◌*◌, ◌<◌, List, [], ◌∷◌, slice_get, Some}
+use Rattle.std.specs.Prelude.{⊤, ◌≡◌, ℕ, ◌+◌, ◌*◌, ◌<◌, ◌^◌, List, [], ◌∷◌, slice_get, Some}
 use Rattle.rv64_isa.specs.Format.{IsInRange}
 use Rattle.rv64_isa.specs.Listing.{form_of, word_of}
 use Rattle.rv64_isa.specs.State.{Part}
@@ -41,3 +41,7 @@ PiecesAt memory g here (x ∷ xs) = PieceAt memory g here x × PiecesAt memory g
 -- words of code stand in memory from an address on
 abbrev pub WordsAt : List Part → ℕ → List ℕ → Type 0
 WordsAt memory base words = (n : ℕ) (word : ℕ) → slice_get words n ≡ Some word → WordAt memory (base + 4 * n) word
+
+-- words of 32 bits
+abbrev pub HaveBits : List ℕ → Type 0
+HaveBits words = (n : ℕ) (word : ℕ) → slice_get words n ≡ Some word → word < 2 ^ 32

@@ -1,5 +1,5 @@
 // Laws of code on the machine: calls of no effect, whose contracts state what holds of every program.
-ghost use Rattle.code_simulation.specs.Laws.{ControlGoes, SmallMainsRun, StoresAreRead, ValuesAreComputed, WordsAreFetched};
+ghost use Rattle.code_simulation.specs.Laws.{ControlGoes, LinkedMainsRun, SmallMainsRun, StoresAreRead, ValuesAreComputed, WordsAreFetched};
 
 /// Where code stands the machine does what its pieces say.
 pub fn words_are_fetched()
@@ -24,4 +24,9 @@ pub fn control_goes()
 /// The words of a unit whose main writes ints and returns one show those lines and exit with what it returns.
 pub fn small_mains_run()
     ensures { SmallMainsRun }
+{}
+
+/// The linked image of a program that writes ints and returns one shows those lines and exits with what main returns.
+pub fn linked_mains_run()
+    ensures { LinkedMainsRun }
 {}
