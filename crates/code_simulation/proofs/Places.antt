@@ -93,7 +93,7 @@ variable_there : (t : Setting) (f : Shape) (kinds : Kinds) (frame : Frame) (w : 
     s < length f.slots → w.memory (record { base = of_variable frame.call s; offset = n }) ≡ Some z → IntAt memory (stack + (slot_offset f s + n)) z
 variable_there t f kinds frame w memory stack kind s n z h inside e =
     let place : t.at (of_variable frame.call s) + n ≡ stack + (slot_offset f s + n) = omega (arith, h.variables s inside) in
-    subst (λ a. IntAt memory a z) place (h.ints (record { base = of_variable frame.call s; offset = n }) z e)
+    subst (λ a. IntAt memory a z) place (h.ints (record { base = of_variable frame.call s; offset = n }) z (h.own s inside) e)
 
 held_there : (t : Setting) (f : Shape) (kinds : Kinds) (frame : Frame) (w : World) (memory : List Part) (stack : ℕ) (s n : ℕ) (z : ℤ) → FrameHolds t f kinds frame w memory stack →
     s < length f.slots → n ≡ 0 → number_in (frame.slots s) ≡ Some z → IntAt memory (stack + (slot_offset f s + n)) z
@@ -120,7 +120,7 @@ through_address t f kinds frame w k here slot s b h small inside fits code at e 
     sets_value t.ground here k (slot_loaded f (register k) slot) s (byte_of t b) code at h.registers small (address_done (register k) sp (within f slot 0) (x s sp + slot_offset f slot) (byte_of t b) s place there)
 
 slot_loads : (t : Setting) (f : Shape) (kinds : Kinds) (frame : Frame) (w : World) (k here slot n : ℕ) (s : State) (z : ℤ) → Ready t f kinds frame w s → k < 15 →
-    RootFits t f kinds (in_slot slot) n → PiecesAt s.memory t.ground here (root_loaded f (register k) (in_slot slot) n) → s.pc ≡ address t.ground here →
+    RootFits t f kinds frame (in_slot slot) n → PiecesAt s.memory t.ground here (root_loaded f (register k) (in_slot slot) n) → s.pc ≡ address t.ground here →
     read_location frame w (slot_location (kinds slot) frame.call slot n) ≡ Some z → Gives t.ground here 1 k s z
 slot_loads t f kinds frame w k here slot n s z h small fits code at e =
     let there = slot_there t f kinds frame w s.memory (x s sp) (kinds slot) slot n z h.holds fits.0 fits.2 e in
@@ -132,14 +132,14 @@ slot_loads t f kinds frame w k here slot n s z h small fits code at e =
     }
 
 through_loads : (t : Setting) (f : Shape) (kinds : Kinds) (frame : Frame) (w : World) (k here slot n : ℕ) (s : State) (z : ℤ) → Ready t f kinds frame w s → k < 15 →
-    RootFits t f kinds (through slot) n → PiecesAt s.memory t.ground here (root_loaded f (register k) (through slot) n) → s.pc ≡ address t.ground here →
+    RootFits t f kinds frame (through slot) n → PiecesAt s.memory t.ground here (root_loaded f (register k) (through slot) n) → s.pc ≡ address t.ground here →
     (o : Option Address) → address_in (frame.slots slot) ≡ o → with_some (location_behind n o) (read_location frame w) ≡ Some z → Gives t.ground here 2 k s z
 through_loads t f kinds frame w k here slot n s z h small fits code at None o e = absurd (cc e)
 through_loads t f kinds frame w k here slot n s z h small fits code at (Some b) o e =
     let rd : ℕ = register k in
     let g : Ground = t.ground in
     let first = through_address t f kinds frame w k here slot s b h small fits.0 fits.1 code.0 at o in
-    let there : IntAt s.memory (byte_of t b + n) z = subst (λ a. IntAt s.memory a z) (omega arith) (h.holds.ints (behind b n) z e) in
+    let there : IntAt s.memory (byte_of t b + n) z = subst (λ a. IntAt s.memory a z) (omega arith) (h.holds.ints (behind b n) z (fits.3 b o) e) in
     let m : State = first.goes.after in
     let base : x m rd ≡ byte_of t b = first.is in
     let place : add (x m rd) (imm12 (immediate (pos n))) ≡ byte_of t b + n = ap (λ a. add a (imm12 (immediate (pos n)))) base ∙ near_address (byte_of t b) n fits.2 there.below in
@@ -150,7 +150,7 @@ through_loads t f kinds frame w k here slot n s z h small fits code at (Some b) 
     record { int = there.int; computes = computes_then g here 1 1 k k (extended z) s first.goes (omega arith) second.goes second.is }
 
 global_loads : (t : Setting) (f : Shape) (kinds : Kinds) (frame : Frame) (w : World) (k here n o : ℕ) (s : State) (z : ℤ) → Ready t f kinds frame w s → k < 15 →
-    RootFits t f kinds (in_global n) o → PiecesAt s.memory t.ground here (root_loaded f (register k) (in_global n) o) → s.pc ≡ address t.ground here →
+    RootFits t f kinds frame (in_global n) o → PiecesAt s.memory t.ground here (root_loaded f (register k) (in_global n) o) → s.pc ≡ address t.ground here →
     w.memory (record { base = of_global n; offset = o }) ≡ Some z → Gives t.ground here 2 k s z
 global_loads t f kinds frame w k here n o s z h small fits code at e =
     let rd : ℕ = register k in
@@ -158,7 +158,7 @@ global_loads t f kinds frame w k here n o s z h small fits code at e =
     let u : Target = global_at n 0 in
     let b : ℕ = t.at (of_global n) in
     let none : o ≡ 0 = fits.1 in
-    let there : IntAt s.memory b z = subst (λ a. IntAt s.memory a z) (omega (arith, none)) (h.holds.ints (record { base = of_global n; offset = o }) z e) in
+    let there : IntAt s.memory b z = subst (λ a. IntAt s.memory a z) (omega (arith, none)) (h.holds.ints (record { base = of_global n; offset = o }) z (h.holds.all_globals n fits.0) e) in
     let one : PieceAt s.memory g here (upper_part rd u) = subst (λ i. PieceAt s.memory g here (upper_part rd (global_at n i))) none code.0 in
     let two : PieceAt s.memory g (here + 1) (load_rest rd u) = subst (λ i. PieceAt s.memory g (here + 1) (load_rest rd (global_at n i))) none code.1.0 in
     let d : ℤ = distance g.places here u in
@@ -181,7 +181,7 @@ global_loads t f kinds frame w k here n o s z h small fits code at e =
 
 -- what a place holds, in the k-th register for values
 pub place_loads : (t : Setting) (f : Shape) (kinds : Kinds) (frame : Frame) (w : World) (k here : ℕ) (s : State) (z : ℤ) (root : Root) (n : ℕ) → Ready t f kinds frame w s → k < 15 →
-    RootFits t f kinds root n → PiecesAt s.memory t.ground here (root_loaded f (register k) root n) → s.pc ≡ address t.ground here →
+    RootFits t f kinds frame root n → PiecesAt s.memory t.ground here (root_loaded f (register k) root n) → s.pc ≡ address t.ground here →
     with_some (root_location kinds frame root n) (read_location frame w) ≡ Some z → Gives t.ground here (length (root_loaded f (register k) root n)) k s z
 place_loads t f kinds frame w k here s z (in_slot slot) n h small fits code at e = slot_loads t f kinds frame w k here slot n s z h small fits code at e
 place_loads t f kinds frame w k here s z (through slot) n h small fits code at e = through_loads t f kinds frame w k here slot n s z h small fits code at (address_in (frame.slots slot)) refl e

@@ -172,7 +172,7 @@ binary_tests t f kinds frame w o a b na nb None ob z ea eb pa pb e = absurd (cc 
 binary_tests t f kinds frame w o a b na nb (Some v) ob z ea eb pa pb e = binary_tests_right t f kinds frame w o (nat_le nb na) a b na nb v ob z refl (ea v refl) eb pa pb e
 
 -- each value whose int is defined
-pub value_tested : (t : Setting) (f : Shape) (kinds : Kinds) (frame : Frame) (w : World) (v : Value) (z : ℤ) → ValueStands t f kinds v → value_in kinds frame w v ≡ Some z →
+pub value_tested : (t : Setting) (f : Shape) (kinds : Kinds) (frame : Frame) (w : World) (v : Value) (z : ℤ) → ValueStands t f kinds frame v → value_in kinds frame w v ≡ Some z →
     Tests t f kinds frame w (test_code f v) (needs v) z
 value_tested t f kinds frame w (number v) z stands e = value_tests t f kinds frame w (λ k. value_code f k (number v)) 1 z (value_evaluates t f kinds frame w (number v) z stands e)
 value_tested t f kinds frame w (load p) z stands e = value_tests t f kinds frame w (λ k. value_code f k (load p)) 1 z (value_evaluates t f kinds frame w (load p) z stands e)

@@ -331,7 +331,7 @@ needs_some (binary o a b) = operator_some o (needs a) (needs b) (needs_some a)
 needs_some (call_value c args) = omega arith
 
 -- each value whose int is defined
-pub value_evaluates : (t : Setting) (f : Shape) (kinds : Kinds) (frame : Frame) (w : World) (v : Value) (z : ℤ) → ValueStands t f kinds v → value_in kinds frame w v ≡ Some z →
+pub value_evaluates : (t : Setting) (f : Shape) (kinds : Kinds) (frame : Frame) (w : World) (v : Value) (z : ℤ) → ValueStands t f kinds frame v → value_in kinds frame w v ≡ Some z →
     Evaluates t f kinds frame w (λ k. value_code f k v) (needs v) z
 value_evaluates t f kinds frame w (number v) z stands e =
     let same : v ≡ z = cc e in

@@ -1,9 +1,9 @@
 -- A call's frame and the world in memory: where the bytes are that an address of linear code means, and what they hold.
-use Rattle.std.specs.Prelude.{List, ⊤, ◌≡◌, ℕ, ◌+◌, ◌%◌, ◌^◌, ◌<◌, ℤ, pos, ◌+ℤ◌, length, Some}
+use Rattle.std.specs.Prelude.{Bool, true, List, ⊤, ◌≡◌, ℕ, ◌+◌, ◌%◌, ◌^◌, ◌<◌, ℤ, pos, ◌+ℤ◌, length, Some}
 use Rattle.rv64_isa.specs.State.{Part, State}
 use Rattle.rv64_isa.specs.Step.{x}
 use Rattle.region_forms.specs.Form.{SlotKind, int_slot, address_slot, object_slot, help_slot, Kinds, Root, in_slot, through, in_global, Value, number, load, unary, binary, call_value}
-use Rattle.region_forms.specs.World.{Base, of_global, of_variable, Address, Word, nothing, number_word, address_word, flying, unwinding, Frame, World, object_address}
+use Rattle.region_forms.specs.World.{Base, of_global, of_variable, Address, Word, nothing, number_word, address_word, flying, unwinding, Frame, World, object_address, address_in}
 use Rattle.emission_forms.specs.Registers.{sp}
 use Rattle.emission_forms.specs.Piece.{Target, global_at}
 use Rattle.emission_forms.specs.Shape.{Shape, slot_offset}
@@ -11,10 +11,12 @@ use Rattle.code_simulation.specs.Memory.{Holds}
 use Rattle.code_simulation.specs.Numbers.{IsInt, int_bits}
 use Rattle.code_simulation.specs.Standing.{Ground, address}
 
--- where code and data stand: the code, the first byte of what an address begins at, and how many globals there are
+-- Where code and data stand: the code, the first byte of what an address begins at, and how many globals there are. What an address
+-- begins at is live while it has bytes of its own: a global always, a variable while its call is open, an exception until it is freed.
 pub record Setting : Type 0 where
   pub ground : Ground
   pub at : Base → ℕ
+  pub live : Base → Bool
   pub globals : ℕ
 
 -- the byte that an address means
@@ -54,28 +56,31 @@ SlotFits address_slot n = n ≡ 0
 SlotFits object_slot n = ⊤
 SlotFits help_slot n = n ≡ 0
 
--- offsets into a frame and behind an address fit 12 bits, and a global is an int
-abbrev pub RootFits : Setting → Shape → Kinds → Root → ℕ → Type 0
-RootFits t f kinds (in_slot s) n = (s < length f.slots) × (slot_offset f s + n < 2 ^ 11) × SlotFits (kinds s) n
-RootFits t f kinds (through s) n = (s < length f.slots) × (slot_offset f s < 2 ^ 11) × (n < 2 ^ 11)
-RootFits t f kinds (in_global g) n = (g < t.globals) × (n ≡ 0)
+-- offsets into a frame and behind an address fit 12 bits, the address that a slot holds is one of live bytes, and a global is an int
+abbrev pub RootFits : Setting → Shape → Kinds → Frame → Root → ℕ → Type 0
+RootFits t f kinds frame (in_slot s) n = (s < length f.slots) × (slot_offset f s + n < 2 ^ 11) × SlotFits (kinds s) n
+RootFits t f kinds frame (through s) n =
+    (s < length f.slots) × (slot_offset f s < 2 ^ 11) × (n < 2 ^ 11) × ((b : Address) → address_in (frame.slots s) ≡ Some b → t.live b.base ≡ true)
+RootFits t f kinds frame (in_global g) n = (g < t.globals) × (n ≡ 0)
 
 -- the numbers of a value are ints, and its places fit
-abbrev pub ValueStands : Setting → Shape → Kinds → Value → Type 0
-ValueStands t f kinds (number v) = IsInt v
-ValueStands t f kinds (load p) = RootFits t f kinds p.root p.offset
-ValueStands t f kinds (unary o v) = ValueStands t f kinds v
-ValueStands t f kinds (binary o a b) = ValueStands t f kinds a × ValueStands t f kinds b
-ValueStands t f kinds (call_value c args) = ⊤
+abbrev pub ValueStands : Setting → Shape → Kinds → Frame → Value → Type 0
+ValueStands t f kinds frame (number v) = IsInt v
+ValueStands t f kinds frame (load p) = RootFits t f kinds frame p.root p.offset
+ValueStands t f kinds frame (unary o v) = ValueStands t f kinds frame v
+ValueStands t f kinds frame (binary o a b) = ValueStands t f kinds frame a × ValueStands t f kinds frame b
+ValueStands t f kinds frame (call_value c args) = ⊤
 
--- A call's frame from sp on, and the world's ints: what each slot holds, where its variables are, what each address in memory holds, and
--- where the globals are.
+-- A call's frame from sp on, and the world's ints: what each slot holds; where its variables are; what each live address in memory holds;
+-- and where the globals are.
 pub record FrameHolds (t : Setting) (f : Shape) (kinds : Kinds) (frame : Frame) (w : World) (memory : List Part) (stack : ℕ) : Type 0 where
   pub room : stack + f.size < 2 ^ 64
   pub slots : (s : ℕ) → s < length f.slots → WordHolds t memory (stack + slot_offset f s) (frame.slots s)
   pub variables : (s : ℕ) → s < length f.slots → t.at (of_variable frame.call s) ≡ stack + slot_offset f s
-  pub ints : (a : Address) (z : ℤ) → w.memory a ≡ Some z → IntAt memory (byte_of t a) z
+  pub own : (s : ℕ) → s < length f.slots → t.live (of_variable frame.call s) ≡ true
+  pub ints : (a : Address) (z : ℤ) → t.live a.base ≡ true → w.memory a ≡ Some z → IntAt memory (byte_of t a) z
   pub reached : (n : ℕ) → n < t.globals → Reached t.ground (global_at n 0) (t.at (of_global n))
+  pub all_globals : (n : ℕ) → n < t.globals → t.live (of_global n) ≡ true
 
 -- a state in which a call's frame stands
 pub record Ready (t : Setting) (f : Shape) (kinds : Kinds) (frame : Frame) (w : World) (s : State) : Type 0 where
