@@ -38,7 +38,7 @@ next_is g here y s h at = omega (arith, h.word.below, at)
 
 -- ---- runs one behind the other
 
-pub goes_none : (g : Ground) (here k : ℕ) (s : State) → s.pc ≡ address g here → length s.regs ≡ 32 → Goes g here 0 k s
+abbrev pub goes_none : (g : Ground) (here k : ℕ) (s : State) → s.pc ≡ address g here → length s.regs ≡ 32 → Goes g here 0 k s
 goes_none g here k s at regs = record {
   steps = 0;
   most = omega arith;

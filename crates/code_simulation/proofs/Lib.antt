@@ -15,6 +15,7 @@ pub mod Routines
 pub mod Turning
 mod Worked
 mod SmallMain
+mod Writing
 mod Initial
 mod Placing
 mod Fitting

@@ -110,7 +110,7 @@ slot_there t f kinds frame w memory stack help_slot s n z h inside fits e = held
 
 -- ---- a place is loaded
 
-through_address : (t : Setting) (f : Shape) (kinds : Kinds) (frame : Frame) (w : World) (k here slot : ℕ) (s : State) (b : Address) → Ready t f kinds frame w s → k < 15 →
+pub through_address : (t : Setting) (f : Shape) (kinds : Kinds) (frame : Frame) (w : World) (k here slot : ℕ) (s : State) (b : Address) → Ready t f kinds frame w s → k < 15 →
     slot < length f.slots → slot_offset f slot < 2 ^ 11 → PieceAt s.memory t.ground here (slot_loaded f (register k) slot) → s.pc ≡ address t.ground here → address_in (frame.slots slot) ≡ Some b →
     Computes t.ground here 1 k s (byte_of t b)
 through_address t f kinds frame w k here slot s b h small inside fits code at e =

@@ -4,6 +4,7 @@ use Rattle.rv64_isa.specs.State.{Part, State}
 use Rattle.rv64_isa.specs.Step.{x}
 use Rattle.region_forms.specs.Form.{SlotKind, int_slot, address_slot, object_slot, help_slot, Kinds, Root, in_slot, through, in_global, Value, number, load, unary, binary, call_value}
 use Rattle.region_forms.specs.World.{Base, of_global, of_variable, Address, Word, nothing, number_word, address_word, flying, unwinding, Frame, World, object_address, address_in}
+use Rattle.region_forms.specs.Evaluation.{Location, in_memory, in_frame}
 use Rattle.emission_forms.specs.Registers.{sp}
 use Rattle.emission_forms.specs.Piece.{Target, global_at}
 use Rattle.emission_forms.specs.Shape.{Shape, slot_offset}
@@ -86,3 +87,8 @@ pub record FrameHolds (t : Setting) (f : Shape) (kinds : Kinds) (frame : Frame) 
 pub record Ready (t : Setting) (f : Shape) (kinds : Kinds) (frame : Frame) (w : World) (s : State) : Type 0 where
   pub registers : length s.regs ≡ 32
   pub holds : FrameHolds t f kinds frame w s.memory (x s sp)
+
+-- the byte where a place is: at an address, or at the beginning of a slot
+abbrev pub location_byte : Setting → Shape → (stack : ℕ) → Location → ℕ
+location_byte t f stack (in_memory a) = byte_of t a
+location_byte t f stack (in_frame s) = stack + slot_offset f s

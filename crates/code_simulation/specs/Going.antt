@@ -1,7 +1,7 @@
 -- What a run over code comes to where the code writes no memory: code for values ends behind its last word, and changes some registers.
 use Rattle.std.specs.Prelude.{◌≡◌, ◌≢◌, ℕ, ◌+◌, ◌<◌, ◌≤◌, ℤ, length, if◌then◌else◌}
 use Rattle.scope_rules.specs.Arithmetic.{is_zero}
-use Rattle.rv64_isa.specs.State.{State}
+use Rattle.rv64_isa.specs.State.{State, with_value}
 use Rattle.rv64_isa.specs.Step.{x}
 use Rattle.emission_forms.specs.Registers.{register}
 use Rattle.code_simulation.specs.Standing.{Ground, address}
@@ -37,3 +37,14 @@ pub record Gives (g : Ground) (here words k : ℕ) (s : State) (z : ℤ) : Type 
 -- how many words a test passes over: the one behind it where the value is not 0
 abbrev pub passed_over : ℤ → ℕ
 passed_over z = if is_zero z then 0 else 1
+
+-- as `Goes`, where the code writes an int to a place
+pub record Stores (g : Ground) (here words k : ℕ) (s : State) (place : ℕ) (z : ℤ) : Type 0 where
+  pub steps : ℕ
+  pub most : steps ≤ words
+  pub after : State
+  pub runs : Executes steps s after
+  pub pc : after.pc ≡ address g (here + words)
+  pub memory : after.memory ≡ with_value s.memory place 4 (extended z)
+  pub registers : length after.regs ≡ 32
+  pub kept : (r : ℕ) → IsKept k r → x after r ≡ x s r

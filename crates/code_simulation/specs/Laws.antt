@@ -7,7 +7,7 @@ use Rattle.cxa_runtime.specs.Raising.{Image}
 use Rattle.cxa_runtime.specs.Run.{run}
 use Rattle.cxa_runtime.specs.World as machine
 use Rattle.linear_forms.specs.Linear.{FunctionCode, UnitCode}
-use Rattle.code_simulation.specs.Numbers.{IsInt}
+use Rattle.code_simulation.specs.Numbers.{IsInt, extended}
 use Rattle.eh_outer.specs.declared.module.Reply.{Reply}
 use Rattle.cxx_ast.specs.declared.name.Name.{Name}
 use Rattle.cxx_ast.specs.Plain.{Checked}
@@ -28,20 +28,22 @@ use Rattle.code_simulation.specs.SmallMain.{main_ops}
 use Rattle.rv64_isa.specs.Format.{IsInRange}
 use Rattle.rv64_isa.specs.Listing.{form_of}
 use Rattle.rv64_isa.specs.State.{State, Part, with_value}
-use Rattle.rv64_isa.specs.Step.{step_of, done}
-use Rattle.region_forms.specs.Form.{Kinds, Value}
+use Rattle.rv64_isa.specs.Step.{step_of, done, x}
+use Rattle.region_forms.specs.Form.{Kinds, Place, Value}
 use Rattle.region_forms.specs.World.{Frame, World}
-use Rattle.region_forms.specs.Evaluation.{value_in}
+use Rattle.region_forms.specs.Evaluation.{Location, value_in, locate}
 use Rattle.emission_forms.specs.Piece.{entry, Piece, jump_to, Places, placed}
 use Rattle.emission_forms.specs.Shape.{Shape, prologue, epilogue}
+use Rattle.emission_forms.specs.Registers.{sp, register}
+use Rattle.emission_forms.specs.PlaceCode.{place_stored}
 use Rattle.emission_forms.specs.CallCode.{function_called}
 use Rattle.emission_forms.specs.Routine.{Routine, op_word}
 use Rattle.linear_forms.specs.Stub.{Function}
 use Rattle.emission_forms.specs.ValueCode.{needs, value_code, test_code}
 use Rattle.code_simulation.specs.Memory.{Written, WordAt, Holds, MayWrite, shape_of, Apart}
 use Rattle.code_simulation.specs.Standing.{Ground, address, PieceFits, PieceAt, PiecesAt, WordsAt, HaveBits}
-use Rattle.code_simulation.specs.Going.{Goes, Gives, passed_over}
-use Rattle.code_simulation.specs.Frames.{Setting, ValueStands, Ready, Reached}
+use Rattle.code_simulation.specs.Going.{Goes, Gives, passed_over, Stores}
+use Rattle.code_simulation.specs.Frames.{Setting, RootFits, ValueStands, Ready, Reached, location_byte}
 use Rattle.code_simulation.specs.Transfers.{HasRoom, HasFrame, Enters, Leaves, Jumps, Calls}
 
 -- The fields of a piece's instruction are in their ranges wherever it stands. Where its word stands at the pc, a step does what the
@@ -72,6 +74,14 @@ pub record ValuesAreComputed : Type 0 where
   pub test : (t : Setting) (f : Shape) (kinds : Kinds) (frame : Frame) (w : World) (v : Value) (z : ℤ) (here : ℕ) (s : State) (y : Piece) → ValueStands t f kinds frame v → value_in kinds frame w v ≡ Some z →
       needs v ≤ 15 → length (test_code f v) < 2 ^ 18 → PiecesAt s.memory t.ground here (test_code f v ++ y ∷ []) → s.pc ≡ address t.ground here → Ready t f kinds frame w s →
       Goes t.ground here (length (test_code f v) + passed_over z) 0 s
+
+-- An int in the j-th register for values, with its sign extended, is written to a place, by means of the k-th register: the four bytes of
+-- the place get the int, and nothing else of memory is changed.
+pub record PlacesAreWritten : Type 0 where
+  pub place : (t : Setting) (f : Shape) (kinds : Kinds) (frame : Frame) (w : World) (j k here : ℕ) (s : State) (z : ℤ) (p : Place) (l : Location) → Ready t f kinds frame w s → j < k → k < 15 →
+      RootFits t f kinds frame p.root p.offset → PiecesAt s.memory t.ground here (place_stored f (register j) (register k) p) → s.pc ≡ address t.ground here → x s (register j) ≡ extended z →
+      locate kinds frame p ≡ Some l → location_byte t f (x s sp) l % 4 ≡ 0 → location_byte t f (x s sp) l < 2 ^ 64 → MayWrite s.memory (location_byte t f (x s sp) l) 4 →
+      Stores t.ground here (length (place_stored f (register j) (register k) p)) k s (location_byte t f (x s sp) l) z
 
 -- A function's prologue takes a frame where the stack has room, and its epilogue gives it back and goes to the return address. A jump to a
 -- label comes to the label's word, and a call of a function to the function's first word, with the address behind the call in ra. Where a

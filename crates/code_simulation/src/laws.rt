@@ -1,5 +1,5 @@
 // Laws of code on the machine: calls of no effect, whose contracts state what holds of every program.
-ghost use Rattle.code_simulation.specs.Laws.{ControlGoes, LinkedMainsRun, SmallMainsRun, StoresAreRead, ValuesAreComputed, WordsAreFetched};
+ghost use Rattle.code_simulation.specs.Laws.{ControlGoes, LinkedMainsRun, PlacesAreWritten, SmallMainsRun, StoresAreRead, ValuesAreComputed, WordsAreFetched};
 
 /// Where code stands the machine does what its pieces say.
 pub fn words_are_fetched()
@@ -29,4 +29,9 @@ pub fn small_mains_run()
 /// The linked image of a program that writes ints and returns one shows those lines and exits with what main returns.
 pub fn linked_mains_run()
     ensures { LinkedMainsRun }
+{}
+
+/// The words that write an int to a place write it there alone.
+pub fn places_are_written()
+    ensures { PlacesAreWritten }
 {}
