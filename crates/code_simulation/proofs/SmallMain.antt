@@ -26,7 +26,7 @@ use Rattle.code_simulation.specs.Standing.{Ground, address, PieceAt, PiecesAt}
 use Rattle.code_simulation.specs.Frames.{IntAt, AddressAt}
 use Rattle.code_simulation.specs.Transfers.{HasFrame}
 use Rattle.code_simulation.specs.RuntimeCalls.{AtCall}
-use Rattle.code_simulation.specs.Turning.{Turns, Reaches}
+use Rattle.code_simulation.specs.Turning.{Turns, Reaches, after_line}
 use Rattle.code_simulation.specs.SmallMain.{write_op, set_op, main_ops, pieces_of}
 use Rattle.code_simulation.proofs.Numbers.{int_stored}
 use Rattle.code_simulation.proofs.Storing.{stores_done, four_stored, holds_apart, value_written, may_still}
@@ -37,7 +37,8 @@ use Rattle.code_simulation.proofs.Going.{next_is, kept_low}
 use Rattle.code_simulation.proofs.Places.{near_address, int_done}
 use Rattle.code_simulation.proofs.Operators.{number_gives}
 use Rattle.code_simulation.proofs.Framing.{set_state, sets_at, not_zero, addi_done, label_jumps, epilogue_leaves}
-use Rattle.code_simulation.proofs.Turning.{turns_then, no_turns, executes_turns, write_turns, after_line}
+use Rattle.code_simulation.specs.Laws.{CallsAreTurns}
+use Rattle.code_simulation.proofs.Turning.{turns_then, no_turns, executes_turns, write_turns, read_turns, end_turns, exit_ends}
 
 -- ---- a runtime call
 
@@ -341,3 +342,6 @@ body_runs image g m here i l lines z w ints int fits is st =
       runs = subst (Turns image all.turns w all.after) (append-nil (map Line lines)) all.runs;
       holds = all.holds;
     }
+
+pub calls_are_turns : CallsAreTurns
+calls_are_turns = record { steps = executes_turns; call = call_at; line = write_turns; byte = read_turns; no_byte = end_turns; exit = exit_ends }

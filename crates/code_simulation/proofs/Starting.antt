@@ -61,7 +61,8 @@ use Rattle.code_simulation.proofs.Stepping.{one_step, steps_then, step_then}
 use Rattle.code_simulation.proofs.Registers.{set_length, read_same, read_other}
 use Rattle.code_simulation.proofs.Places.{far_address, reached_from}
 use Rattle.code_simulation.proofs.Framing.{set_state, sets_at, not_zero, auipc_done, jalr_done, jumped, function_calls, prologue_enters}
-use Rattle.code_simulation.proofs.Turning.{turns_then, executes_turns, exit_ends, after_step}
+use Rattle.code_simulation.specs.Turning.{after_step}
+use Rattle.code_simulation.proofs.Turning.{turns_then, executes_turns, exit_ends}
 use Rattle.code_simulation.proofs.SmallMain.{call_at, MainFrame, FrameFits, Stage, body_runs}
 
 -- ---- a jump to what lies outside a function

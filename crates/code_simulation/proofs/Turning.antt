@@ -12,13 +12,14 @@ use Rattle.rv64_isa.specs.Step.{step_of}
 use Rattle.cxa_runtime.specs.declared.effect.End.TheVariants as end_kinds
 use Rattle.cxa_runtime.specs.declared.effect.Turn.TheVariants.{On, Ended}
 use Rattle.cxa_runtime.specs.Number.{as_int}
-use Rattle.cxa_runtime.specs.World.{World, at_hart, a0, a7, shows}
+use Rattle.cxa_runtime.specs.World.{World, at_hart, gives, a0, a7, shows}
 use Rattle.cxa_runtime.specs.Raising.{Image}
+use Rattle.cxa_runtime.specs.Plain.{read_from}
 use Rattle.cxa_runtime.specs.Call.{numbered, call_effect}
 use Rattle.cxa_runtime.specs.Run.{Ran, counted, called, stepped, turn, and_more, run}
 use Rattle.code_simulation.specs.Executes.{when_done, steps as after_steps, Executes}
 use Rattle.code_simulation.specs.Numbers.{IsInt, extended}
-use Rattle.code_simulation.specs.Turning.{with_items, Turns, SameRuntime}
+use Rattle.code_simulation.specs.Turning.{with_items, Turns, SameRuntime, Stepped, after_step, after_line, after_byte}
 use Rattle.code_simulation.proofs.Numbers.{int_stored, small_pos, small_neg}
 
 -- ---- turns one after another
@@ -54,9 +55,6 @@ turn_ends image pick k w v n e = ap (and_more (run image pick k)) (e (pick (w.la
 
 -- ---- a step
 
-abbrev pub after_step : State → World → World
-after_step s w = counted (at_hart s (record w { shown = [] }))
-
 step_turns : (image : Image) (w : World) (s : State) → step_of w.hart ≡ (steps.Done, s) → Turns image 1 w (after_step s w) []
 unfolding turn
 step_turns image w s e = turn_on image w (after_step s w) (λ wish. ap (stepped image wish (record w { shown = [] })) e)
@@ -78,13 +76,6 @@ same_then w v u a b = record {
 
 same_step : (w : World) (s : State) → SameRuntime w (after_step s w)
 same_step w s = record { exceptions = refl; terminate_handler = refl; unexpected_handler = refl; last_number = refl; unwinding = refl; input = refl; replies = refl; terminating = refl }
-
--- steps of the hart
-pub record Stepped (image : Image) (n : ℕ) (w : World) (t : State) : Type 0 where
-  pub after : World
-  pub hart : after.hart ≡ t
-  pub turns : Turns image n w after []
-  pub runtime : SameRuntime w after
 
 done_first : (step : Step) (first : Option State) (m : State) → when_done step first ≡ Some m → step ≡ steps.Done
 done_first steps.Done first m h = refl
@@ -121,9 +112,6 @@ as_int_extended z h = ap (cast_signed w32) (int_stored z h) ∙ to_z-of_z w32 z 
     fits (negsuc n) h = let small = small_neg n h in record { sfits = omega (arith, small) }
 
 -- write_int
-abbrev pub after_line : ℤ → State → World → World
-after_line z s w = counted (shows (Line z) (at_hart s (record w { shown = [] })))
-
 pub write_turns : (image : Image) (w : World) (s : State) (z : ℤ) → step_of w.hart ≡ (steps.Ecall, s) → reg_of s.regs a7 ≡ 1 → reg_of s.regs a0 ≡ extended z → IsInt z → Turns image 1 w (after_line z s w) (Line z ∷ [])
 unfolding turn call_effect numbered
 write_turns image w s z e call value int =
@@ -139,3 +127,18 @@ exit_ends image pick k w s z e call value int =
     turn_ends image pick k w (after_step s w) z
     (λ wish. ap (stepped image wish (record w { shown = [] })) e ∙ ap (λ n. called w.hart.pc (call_effect n image wish (at_hart s (record w { shown = [] })))) call
     ∙ ap (λ v. (Ended (end_kinds.Exit v), after_step s w)) (ap as_int value ∙ as_int_extended z int))
+
+-- read_byte
+pub read_turns : (image : Image) (w : World) (s : State) (b : ℕ) (bytes : List ℕ) → step_of w.hart ≡ (steps.Ecall, s) → reg_of s.regs a7 ≡ 2 → w.input ≡ b ∷ bytes → Turns image 1 w (after_byte b bytes s w) []
+unfolding turn call_effect numbered
+read_turns image w s b bytes e call input =
+    let v : World = at_hart s (record w { shown = [] }) in
+    turn_on image w (after_byte b bytes s w)
+    (λ wish. ap (stepped image wish (record w { shown = [] })) e ∙ ap (λ n. called w.hart.pc (call_effect n image wish v)) call ∙ ap (λ given. called w.hart.pc (read_from v given)) input)
+
+pub end_turns : (image : Image) (w : World) (s : State) → step_of w.hart ≡ (steps.Ecall, s) → reg_of s.regs a7 ≡ 2 → w.input ≡ [] → Turns image 1 w (counted (gives a0 (extended (negsuc 0)) (at_hart s (record w { shown = [] })))) []
+unfolding turn call_effect numbered
+end_turns image w s e call input =
+    let v : World = at_hart s (record w { shown = [] }) in
+    turn_on image w (counted (gives a0 (extended (negsuc 0)) v))
+    (λ wish. ap (stepped image wish (record w { shown = [] })) e ∙ ap (λ n. called w.hart.pc (call_effect n image wish v)) call ∙ ap (λ given. called w.hart.pc (read_from v given)) input)

@@ -1,5 +1,5 @@
 -- What the calls of laws state.
-use Rattle.std.specs.Prelude.{◌≡◌, ℕ, ◌+◌, ◌*◌, ◌%◌, ◌^◌, ◌<◌, ◌≤◌, ℤ, List, [], ◌∷◌, ◌++◌, map, length, slice_get, Some}
+use Rattle.std.specs.Prelude.{◌≡◌, ℕ, ◌+◌, ◌*◌, ◌%◌, ◌^◌, ◌<◌, ◌≤◌, ℤ, List, [], ◌∷◌, ◌++◌, map, length, slice_get, Some, suc, negsuc}
 use Rattle.std.specs.List.{flat_map, AllByRecursion}
 use Rattle.run_items.specs.declared.item.Item.TheVariants.{Line}
 use Rattle.cxa_runtime.specs.declared.effect.End.TheVariants.{Exit}
@@ -34,7 +34,12 @@ use Rattle.region_forms.specs.World.{Frame, World}
 use Rattle.region_forms.specs.Evaluation.{Location, value_in, locate}
 use Rattle.emission_forms.specs.Piece.{entry, Piece, jump_to, Places, placed}
 use Rattle.emission_forms.specs.Shape.{Shape, prologue, epilogue}
-use Rattle.emission_forms.specs.Registers.{sp, register}
+use Rattle.emission_forms.specs.Registers.{sp, a0, a7, register}
+use Rattle.emission_forms.specs.RuntimeCall.{runtime_call}
+use Rattle.rv64_isa.specs.declared.step.Step.TheVariants.{Ecall}
+use Rattle.code_simulation.specs.Executes.{Executes}
+use Rattle.code_simulation.specs.RuntimeCalls.{AtCall}
+use Rattle.code_simulation.specs.Turning.{Turns, Stepped, after_step, after_line, after_byte}
 use Rattle.emission_forms.specs.PlaceCode.{place_stored}
 use Rattle.emission_forms.specs.CallCode.{function_called}
 use Rattle.emission_forms.specs.Routine.{Routine, op_word}
@@ -95,6 +100,18 @@ pub record ControlGoes : Type 0 where
       Reached g (entry callee) first → first % 4 ≡ 0 → first < 2 ^ 64 → Calls g here first s
   pub operation : (memory : List Part) (g : Ground) (first : ℕ) (r : Routine) (p : ℕ) (b : List Piece) → PiecesAt memory g first (r.front ++ flat_map (λ x. x) r.blocks) → slice_get r.blocks p ≡ Some b →
       PiecesAt memory g first r.front × PiecesAt memory g (first + op_word r p) b
+
+-- Steps of the hart are as many turns of the ABI machine, which show nothing and leave what the runtime keeps. A runtime call is one step
+-- and then its ECALL: write_int shows the int in a0, read_byte takes a byte of the input or gives -1 at its end, and exit ends the run.
+pub record CallsAreTurns : Type 0 where
+  pub steps : (image : Image) (n : ℕ) (w : machine.World) (s t : State) → w.hart ≡ s → Executes n s t → Stepped image n w t
+  pub call : (g : Ground) (here number : ℕ) (s : State) → number < 2 ^ 11 → PiecesAt s.memory g here (runtime_call number) → s.pc ≡ address g here → length s.regs ≡ 32 → AtCall g here number s
+  pub line : (image : Image) (w : machine.World) (s : State) (z : ℤ) → step_of w.hart ≡ (Ecall, s) → x s a7 ≡ 1 → x s a0 ≡ extended z → IsInt z → Turns image 1 w (after_line z s w) (Line z ∷ [])
+  pub byte : (image : Image) (w : machine.World) (s : State) (b : ℕ) (bytes : List ℕ) → step_of w.hart ≡ (Ecall, s) → x s a7 ≡ 2 → w.input ≡ b ∷ bytes → Turns image 1 w (after_byte b bytes s w) []
+  pub no_byte : (image : Image) (w : machine.World) (s : State) → step_of w.hart ≡ (Ecall, s) → x s a7 ≡ 2 → w.input ≡ [] →
+      Turns image 1 w (machine.gives a0 (extended (negsuc 0)) (after_step s w)) []
+  pub exit : (image : Image) (pick : ℕ → ℕ) (k : ℕ) (w : machine.World) (s : State) (z : ℤ) → step_of w.hart ≡ (Ecall, s) → x s a7 ≡ 0 → x s a0 ≡ extended z → IsInt z →
+      run image pick (suc k) w ≡ record { items = []; end = Exit z; world = after_step s w }
 
 -- A unit whose main writes ints and returns one: the run from the first word on shows exactly those lines, in their order, and exits with
 -- what main returns, within 21 turns and 4 for each line. So does each checked program whose one function is `int main()` with calls of

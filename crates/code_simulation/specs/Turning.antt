@@ -1,9 +1,11 @@
 -- Turns of the ABI machine.
-use Rattle.std.specs.Prelude.{◌≡◌, ℕ, ◌+◌, ◌≤◌, List, ◌++◌}
+use Rattle.std.specs.Prelude.{◌≡◌, ℕ, ℤ, ◌+◌, ◌≤◌, List, [], ◌++◌}
 use Rattle.run_items.specs.declared.item.Item.{Item}
+use Rattle.run_items.specs.declared.item.Item.TheVariants.{Line}
+use Rattle.rv64_isa.specs.State.{State}
 use Rattle.cxa_runtime.specs.Raising.{Image}
-use Rattle.cxa_runtime.specs.Run.{Ran, run}
-use Rattle.cxa_runtime.specs.World.{World}
+use Rattle.cxa_runtime.specs.Run.{Ran, run, counted}
+use Rattle.cxa_runtime.specs.World.{World, at_hart, gives, shows, a0}
 
 -- a run that has shown items before
 abbrev pub with_items : List Item → Ran → Ran
@@ -31,3 +33,20 @@ pub record SameRuntime (w v : World) : Type 0 where
   pub input : v.input ≡ w.input
   pub replies : v.replies ≡ w.replies
   pub terminating : v.terminating ≡ w.terminating
+
+-- steps of the hart as turns
+pub record Stepped (image : Image) (n : ℕ) (w : World) (t : State) : Type 0 where
+  pub after : World
+  pub hart : after.hart ≡ t
+  pub turns : Turns image n w after []
+  pub runtime : SameRuntime w after
+
+-- the world behind a step, behind a line that was written, and behind a byte that was read
+abbrev pub after_step : State → World → World
+after_step s w = counted (at_hart s (record w { shown = [] }))
+
+abbrev pub after_line : ℤ → State → World → World
+after_line z s w = counted (shows (Line z) (at_hart s (record w { shown = [] })))
+
+abbrev pub after_byte : ℕ → List ℕ → State → World → World
+after_byte b rest s w = counted (gives a0 b (record (at_hart s (record w { shown = [] })) { input = rest }))

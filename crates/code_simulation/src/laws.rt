@@ -1,5 +1,5 @@
 // Laws of code on the machine: calls of no effect, whose contracts state what holds of every program.
-ghost use Rattle.code_simulation.specs.Laws.{ControlGoes, LinkedMainsRun, PlacesAreWritten, SmallMainsRun, StoresAreRead, ValuesAreComputed, WordsAreFetched};
+ghost use Rattle.code_simulation.specs.Laws.{CallsAreTurns, ControlGoes, LinkedMainsRun, PlacesAreWritten, SmallMainsRun, StoresAreRead, ValuesAreComputed, WordsAreFetched};
 
 /// Where code stands the machine does what its pieces say.
 pub fn words_are_fetched()
@@ -34,4 +34,9 @@ pub fn linked_mains_run()
 /// The words that write an int to a place write it there alone.
 pub fn places_are_written()
     ensures { PlacesAreWritten }
+{}
+
+/// Steps and runtime calls are turns of the ABI machine.
+pub fn calls_are_turns()
+    ensures { CallsAreTurns }
 {}
