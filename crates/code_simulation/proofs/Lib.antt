@@ -16,6 +16,7 @@ pub mod Turning
 mod Worked
 mod SmallMain
 mod Writing
+mod Addressing
 mod Initial
 mod Placing
 mod Fitting

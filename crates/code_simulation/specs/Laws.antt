@@ -30,8 +30,8 @@ use Rattle.rv64_isa.specs.Listing.{form_of}
 use Rattle.rv64_isa.specs.State.{State, Part, with_value}
 use Rattle.rv64_isa.specs.Step.{step_of, done, x}
 use Rattle.region_forms.specs.Form.{Kinds, Place, Value}
-use Rattle.region_forms.specs.World.{Frame, World}
-use Rattle.region_forms.specs.Evaluation.{Location, value_in, locate}
+use Rattle.region_forms.specs.World.{Address, Frame, World}
+use Rattle.region_forms.specs.Evaluation.{Location, value_in, locate, address_of}
 use Rattle.emission_forms.specs.Piece.{entry, Piece, jump_to, Places, placed}
 use Rattle.emission_forms.specs.Shape.{Shape, prologue, epilogue}
 use Rattle.emission_forms.specs.Registers.{sp, a0, a7, register}
@@ -40,15 +40,15 @@ use Rattle.rv64_isa.specs.declared.step.Step.TheVariants.{Ecall}
 use Rattle.code_simulation.specs.Executes.{Executes}
 use Rattle.code_simulation.specs.RuntimeCalls.{AtCall}
 use Rattle.code_simulation.specs.Turning.{Turns, Stepped, after_step, after_line, after_byte}
-use Rattle.emission_forms.specs.PlaceCode.{place_stored}
+use Rattle.emission_forms.specs.PlaceCode.{place_stored, place_address}
 use Rattle.emission_forms.specs.CallCode.{function_called}
 use Rattle.emission_forms.specs.Routine.{Routine, op_word}
 use Rattle.linear_forms.specs.Stub.{Function}
 use Rattle.emission_forms.specs.ValueCode.{needs, value_code, test_code}
 use Rattle.code_simulation.specs.Memory.{Written, WordAt, Holds, MayWrite, shape_of, Apart}
 use Rattle.code_simulation.specs.Standing.{Ground, address, PieceFits, PieceAt, PiecesAt, WordsAt, HaveBits}
-use Rattle.code_simulation.specs.Going.{Goes, Gives, passed_over, Stores}
-use Rattle.code_simulation.specs.Frames.{Setting, RootFits, ValueStands, Ready, Reached, location_byte}
+use Rattle.code_simulation.specs.Going.{Goes, Computes, Gives, passed_over, Stores}
+use Rattle.code_simulation.specs.Frames.{Setting, byte_of, RootFits, ValueStands, Ready, Reached, location_byte}
 use Rattle.code_simulation.specs.Transfers.{HasRoom, HasFrame, Enters, Leaves, Jumps, Calls}
 
 -- The fields of a piece's instruction are in their ranges wherever it stands. Where its word stands at the pc, a step does what the
@@ -79,6 +79,12 @@ pub record ValuesAreComputed : Type 0 where
   pub test : (t : Setting) (f : Shape) (kinds : Kinds) (frame : Frame) (w : World) (v : Value) (z : ℤ) (here : ℕ) (s : State) (y : Piece) → ValueStands t f kinds frame v → value_in kinds frame w v ≡ Some z →
       needs v ≤ 15 → length (test_code f v) < 2 ^ 18 → PiecesAt s.memory t.ground here (test_code f v ++ y ∷ []) → s.pc ≡ address t.ground here → Ready t f kinds frame w s →
       Goes t.ground here (length (test_code f v) + passed_over z) 0 s
+
+-- The address of a place, if it has one, is computed in the k-th register: that of the byte which the address means.
+pub record AddressesAreComputed : Type 0 where
+  pub place : (t : Setting) (f : Shape) (kinds : Kinds) (frame : Frame) (w : World) (k here : ℕ) (s : State) (p : Place) (b : Address) → Ready t f kinds frame w s → k < 15 →
+      RootFits t f kinds frame p.root p.offset → PiecesAt s.memory t.ground here (place_address f (register k) p) → s.pc ≡ address t.ground here → byte_of t b < 2 ^ 64 →
+      address_of kinds frame p ≡ Some b → Computes t.ground here (length (place_address f (register k) p)) k s (byte_of t b)
 
 -- An int in the j-th register for values, with its sign extended, is written to a place, by means of the k-th register: the four bytes of
 -- the place get the int, and nothing else of memory is changed.

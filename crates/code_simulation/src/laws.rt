@@ -1,5 +1,5 @@
 // Laws of code on the machine: calls of no effect, whose contracts state what holds of every program.
-ghost use Rattle.code_simulation.specs.Laws.{CallsAreTurns, ControlGoes, LinkedMainsRun, PlacesAreWritten, SmallMainsRun, StoresAreRead, ValuesAreComputed, WordsAreFetched};
+ghost use Rattle.code_simulation.specs.Laws.{AddressesAreComputed, CallsAreTurns, ControlGoes, LinkedMainsRun, PlacesAreWritten, SmallMainsRun, StoresAreRead, ValuesAreComputed, WordsAreFetched};
 
 /// Where code stands the machine does what its pieces say.
 pub fn words_are_fetched()
@@ -39,4 +39,9 @@ pub fn places_are_written()
 /// Steps and runtime calls are turns of the ABI machine.
 pub fn calls_are_turns()
     ensures { CallsAreTurns }
+{}
+
+/// The words of a place's address compute it.
+pub fn addresses_are_computed()
+    ensures { AddressesAreComputed }
 {}
