@@ -108,11 +108,13 @@ fn worked_programs(rt: HostRuntime) -> Result<(), Fail> {
     ] {
         for row in table {
             if is_shared(row) {
-                for seen in [ran(alloc, row)?, ran_at_once(alloc, row)?] {
-                    assert_eq!(rt; seen.out.bytes(), row.lines.as_bytes(), "{}", row.source);
-                    assert_eq!(rt; seen.status, row.status, "{}", row.source);
-                    assert_eq!(rt; seen.err.bytes(), b"".as_slice(), "{}", row.source);
-                }
+                let seen = ran(alloc, row)?;
+                assert_eq!(rt; seen.out.bytes(), row.lines.as_bytes(), "{}", row.source);
+                assert_eq!(rt; seen.status, row.status, "{}", row.source);
+                assert_eq!(rt; seen.err.bytes(), b"".as_slice(), "{}", row.source);
+                let at_once = ran_at_once(alloc, row)?;
+                assert_eq!(rt; at_once.out.bytes(), row.lines.as_bytes(), "{}", row.source);
+                assert_eq!(rt; at_once.status, row.status, "{}", row.source);
                 count = count.wrapping_add(1);
             }
         }
@@ -208,41 +210,45 @@ fn counts(rt: HostRuntime) -> Result<(), Fail> {
     Ok(())
 }
 
-// What `run` answers where its source, its input or its output fails.
+/// Words of `run` with the calls of the store that fail, and what is answered.
+struct Refusal {
+    words: &'static [&'static str],
+    fails: &'static [u64],
+    status: Status,
+    text: &'static str,
+}
+
+static REFUSALS: &[Refusal] = &[
+    Refusal {
+        words: &["run", "SRC", "--in=NO"],
+        fails: &[],
+        status: Status::ReadFault,
+        text: "ehc: read fault: NO\n",
+    },
+    Refusal {
+        words: &["run", "SRC", "--in=IN"],
+        fails: &[2],
+        status: Status::ReadFault,
+        text: "ehc: read fault: IN\n",
+    },
+    Refusal {
+        words: &["run", "IN"],
+        fails: &[],
+        status: Status::SourceRefused(10, 0),
+        text: "ehc: source refused: 10 at 0\n",
+    },
+];
+
+// What `run` answers where its source or its input fails.
 #[test]
-fn run_answers(rt: HostRuntime) -> Result<(), Fail> {
-    let alloc = rt.alloc();
-    let trials = [
-        (
-            &["run", "SRC", "--in=NO"].as_slice(),
-            &[].as_slice(),
-            Status::ReadFault,
-            "ehc: read fault: NO\n",
-        ),
-        (
-            &["run", "SRC", "--in=IN"].as_slice(),
-            &[2].as_slice(),
-            Status::ReadFault,
-            "ehc: read fault: IN\n",
-        ),
-        (
-            &["run", "IN"].as_slice(),
-            &[].as_slice(),
-            Status::SourceRefused(10, 0),
-            "ehc: source refused: 10 at 0\n",
-        ),
-    ];
-    for (words, fails, status, text) in trials {
-        let mut store = holding(
-            alloc,
-            "int main() { write_int(read_byte()); }",
-            b"@",
-            *fails,
-        )?;
-        let seen = answered(alloc, *words, &mut store)?;
-        assert_eq!(rt; seen.status, status, "{text}");
-        assert_eq!(rt; seen.err.bytes(), text.as_bytes(), "{text}");
-        assert_eq!(rt; seen.out.bytes(), b"".as_slice(), "{text}");
+fn run_refusals(rt: HostRuntime) -> Result<(), Fail> {
+    let source = "int main() { write_int(read_byte()); }";
+    for refusal in REFUSALS {
+        let mut store = holding(rt.alloc(), source, b"@", refusal.fails)?;
+        let seen = answered(rt.alloc(), refusal.words, &mut store)?;
+        assert_eq!(rt; seen.status, refusal.status);
+        assert_eq!(rt; seen.err.bytes(), refusal.text.as_bytes());
+        assert_eq!(rt; seen.out.bytes(), b"".as_slice(), "{}", refusal.text);
     }
     Ok(())
 }
