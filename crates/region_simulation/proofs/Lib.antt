@@ -1,0 +1,4 @@
+pub mod Paths
+pub mod Members
+pub mod Naming
+pub mod Values

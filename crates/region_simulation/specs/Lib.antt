@@ -1,0 +1,6 @@
+pub mod Typed
+pub mod Places
+pub mod Reach
+pub mod Names
+pub mod Stands
+pub mod Value

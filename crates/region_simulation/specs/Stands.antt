@@ -1,0 +1,73 @@
+-- A state of regions that stands for a world of a source in a context.
+use Rattle.std.specs.Prelude.{◌≡◌, ℕ, ◌<◌, ◌≤◌, ℤ, List, map, length, Option, Some, None, slice_get}
+use Rattle.cxx_ast.specs.Plain.{Checked}
+use Rattle.scope_rules.specs.Class.{ObjectType, int_type}
+use Rattle.scope_rules.specs.World.{World as SourceWorld, Live as SourceLive, Exception as SourceException, Installed, building as source_building, native as source_native, foreign as source_foreign}
+use Rattle.scope_rules.specs.Context.{Context as SourceContext, Clause as SourceClause, catch_all, catch_type, Guard as SourceGuard, try_block, specification, barrier as source_barrier}
+use Rattle.region_forms.specs.Caught.{caught_of}
+use Rattle.region_forms.specs.World.{Base, of_global, of_variable, of_exception, Address, World, Exception, building, native, foreign, Live}
+use Rattle.region_forms.specs.Guard.{Guard, clauses, listed, everything}
+use Rattle.region_forms.specs.Outcome.{State, Context}
+use Rattle.region_forms.specs.Numbering.{type_number, destructor_of}
+use Rattle.region_forms.specs.LowerExpression.{Lowering}
+use Rattle.region_simulation.specs.Places.{Places, Stood, Remembers}
+
+-- an exception: its type and its destructor by their numbers
+abbrev pub exception_of : Checked → SourceException → Exception
+exception_of p source_building = building
+exception_of p (source_native t o kept) = native (type_number t) (destructor_of p t) kept
+exception_of p (source_foreign k t) = foreign k t
+
+-- a live exception keeps its number
+abbrev pub live_of : Checked → SourceLive → Live
+live_of p x = record { number = x.number; exception = exception_of p x.exception }
+
+-- a clause by the number of its type
+abbrev pub clause_of : SourceClause → Option ℕ
+clause_of catch_all = None
+clause_of (catch_type t) = Some (type_number t)
+
+-- a guard by the numbers of its types
+abbrev pub guard_of : SourceGuard → Guard
+guard_of (try_block cs) = clauses (map clause_of cs)
+guard_of (specification types) = listed (map type_number types)
+guard_of source_barrier = everything
+
+-- what is given from outside: the guards and the open calls; what is handled and what travels stands in the world
+abbrev pub context_of : ℕ → SourceContext → Context
+context_of depth c = record { guards = map guard_of c.guards; depth = depth }
+
+-- The world of regions that a world and a context give, but for the memory and the number of calls made: what is handled and what travels
+-- make the caught list.
+abbrev pub world_of : Checked → SourceContext → SourceWorld → (Address → Option ℤ) → ℕ → World
+world_of p c w memory calls = record {
+  memory = memory;
+  live = map (live_of p) w.live;
+  last_number = w.last_number;
+  caught = caught_of c.travelling c.handled;
+  uncaught = length c.travelling;
+  installed = w.installed;
+  input = w.input;
+  replies = w.replies;
+  items = w.items;
+  calls = calls;
+  deepest = w.deepest;
+  ending = c.ending;
+}
+
+-- a base is at a global, at a slot of a call that was made, or at an exception that was
+abbrev pub IsMade : (calls last_number : ℕ) → Base → Type 0
+IsMade calls last (of_global g) = Unit {0}
+IsMade calls last (of_variable c s) = c < calls
+IsMade calls last (of_exception e) = e ≤ last
+
+-- The state stands for the world: what both see is the same, memory holds what objects hold, a global stands at itself, the object of a
+-- native exception at that exception, and nothing at a call or an exception that is to come.
+pub record Stands (l : Lowering) (at : Places) (c : SourceContext) (w : SourceWorld) (s : State) : Type 0 where
+  pub world : s.world ≡ world_of l.program c w s.world.memory s.world.calls
+  pub turns : s.turns ≡ w.turns
+  pub memory : Remembers l.layout l.program at w s.world.memory
+  pub globals : (g : ℕ) → g < length l.program.globals → at g ≡ Some (record { base = of_global g; type = int_type })
+  pub exceptions : (i : ℕ) (e o : ℕ) (t : ObjectType) (kept : Installed) → slice_get w.live i ≡ Some (record { number = e; exception = source_native t o kept })
+      → at o ≡ Some (record { base = of_exception e; type = t })
+  pub made : (o : ℕ) (x : Stood) → at o ≡ Some x → IsMade s.world.calls w.last_number x.base
