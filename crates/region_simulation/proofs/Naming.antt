@@ -48,7 +48,7 @@ pub record PlacedFrom (l : Lowering) (kinds : Kinds) (at : Places) (f : Frame) (
   pub located : RootAt kinds f root n address
 
 module _ (l : Lowering) (own : Option ℕ) (kinds : Kinds) (v : SourceFrame) (at : Places) (c : SourceContext) (w : SourceWorld) (s : State)
-    (fit : KindsFit l kinds) (reach : Reaches l own at v s.frame) (stands : Stands l at c w s) where
+    (fit : KindsFit l kinds) (reach : Reaches l own at v s.frame) (stands : Stands l.layout l.program at c w s) where
   -- a name by itself
   name_placed : (b : Bound) (t : ObjectType) → IsNamed l own v.variables b t
       → PlacedFrom l kinds at s.frame (named l.program w v b) t (named_place l b).root (named_place l b).offset
@@ -58,8 +58,8 @@ module _ (l : Lowering) (own : Option ℕ) (kinds : Kinds) (v : SourceFrame) (at
       let x = reach.variables n h.0 in
       record {
         address = x.address;
-        refers = subst (λ u. Refers l.layout l.program at (named l.program w v (Local n)) u x.address) (sym h.2) x.refers;
-        located = variable_at kinds s.frame (l.first_variable + n) x.address (variable_type l n) (fit.variables n h.1) x.reached;
+        refers = subst (λ u. Refers l.layout l.program at (named l.program w v (Local n)) u x.address) (sym h.1) x.refers;
+        located = variable_at kinds s.frame (l.first_variable + n) x.address (variable_type l n) (fit.variables n x.there) x.reached;
       }
   name_placed (Field k i) t h = go own reach.this h
     where

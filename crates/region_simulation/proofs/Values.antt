@@ -84,7 +84,7 @@ right_means w op x (Some v) right y is = (refl, refl)
 right_means w op x None right y is = value_then w (right w) y (binary_value op x) (binary_result op x) is (binary_means w op x)
 
 module _ (l : Lowering) (own : Option ℕ) (kinds : Kinds) (v : SourceFrame) (at : Places) (d : SourceContext) (w : SourceWorld) (s : State)
-    (fit : KindsFit l kinds) (reach : Reaches l own at v s.frame) (stands : Stands l at d w s) where
+    (fit : KindsFit l kinds) (reach : Reaches l own at v s.frame) (stands : Stands l.layout l.program at d w s) where
   -- the int that a place holds
   pub place_means : (names : List Name) → AreNamed l own v.variables names int_type
       → IsValue w (read (lvalue l.program w v names) w) (value_in kinds s.frame s.world (load (place_of l names)))

@@ -4,3 +4,5 @@ pub mod Reach
 pub mod Names
 pub mod Stands
 pub mod Value
+pub mod Alike
+pub mod Calls

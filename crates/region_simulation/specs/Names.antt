@@ -18,7 +18,7 @@ pub record HasMember (p : Checked) (s : ObjectType) (k i : ℕ) (t : ObjectType)
 -- in a function of class `own`, if it is of one, where these variables are in reach, a name by itself names something of type t
 abbrev pub IsNamed : Lowering → (own : Option ℕ) → List Variable → Bound → ObjectType → Type 0
 IsNamed l own xs (Global g) t = (g < length l.program.globals) × (t ≡ int_type)
-IsNamed l own xs (Local n) t = (is_in_reach xs n ≡ true) × (n < length l.variables) × (t ≡ object_type (variable_type l n))
+IsNamed l own xs (Local n) t = (is_in_reach xs n ≡ true) × (t ≡ object_type (variable_type l n))
 IsNamed l None xs (Field k i) t = ⊥
 IsNamed l (Some c) xs (Field k i) t = HasMember l.program (class_type c) k i t
 IsNamed l own xs _ t = ⊥

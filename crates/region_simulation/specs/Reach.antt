@@ -26,12 +26,14 @@ IsReachedBy _ s f a = a ≡ slot_address f.call s
 
 -- a variable names a part of its type, where its slot says
 pub record VariableStands (l : Lowering) (at : Places) (v : SourceFrame) (f : Frame) (n : ℕ) : Type 0 where
+  pub there : n < length l.variables
   pub address : Address
   pub refers : Refers l.layout l.program at (variable_in v.variables n) (object_type (variable_type l n)) address
   pub reached : IsReachedBy (variable_type l n) (l.first_variable + n) f address
 
 -- the object of class k that a member function works on: its address is in the first slot
 pub record OwnStands (l : Lowering) (at : Places) (v : SourceFrame) (f : Frame) (k : ℕ) : Type 0 where
+  pub first : l.first_variable ≡ 1
   pub address : Address
   pub refers : Refers l.layout l.program at v.this (class_type k) address
   pub reached : f.slots 0 ≡ address_word address

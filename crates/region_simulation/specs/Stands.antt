@@ -9,7 +9,7 @@ use Rattle.region_forms.specs.World.{Base, of_global, of_variable, of_exception,
 use Rattle.region_forms.specs.Guard.{Guard, clauses, listed, everything}
 use Rattle.region_forms.specs.Outcome.{State, Context}
 use Rattle.region_forms.specs.Numbering.{type_number, destructor_of}
-use Rattle.region_forms.specs.LowerExpression.{Lowering}
+use Rattle.region_forms.specs.Layout.{Layout}
 use Rattle.region_simulation.specs.Places.{Places, Stood, Remembers}
 
 -- an exception: its type and its destructor by their numbers
@@ -63,11 +63,11 @@ IsMade calls last (of_exception e) = e ≤ last
 
 -- The state stands for the world: what both see is the same, memory holds what objects hold, a global stands at itself, the object of a
 -- native exception at that exception, and nothing at a call or an exception that is to come.
-pub record Stands (l : Lowering) (at : Places) (c : SourceContext) (w : SourceWorld) (s : State) : Type 0 where
-  pub world : s.world ≡ world_of l.program c w s.world.memory s.world.calls
+pub record Stands (l : Layout) (p : Checked) (at : Places) (c : SourceContext) (w : SourceWorld) (s : State) : Type 0 where
+  pub world : s.world ≡ world_of p c w s.world.memory s.world.calls
   pub turns : s.turns ≡ w.turns
-  pub memory : Remembers l.layout l.program at w s.world.memory
-  pub globals : (g : ℕ) → g < length l.program.globals → at g ≡ Some (record { base = of_global g; type = int_type })
+  pub memory : Remembers l p at w s.world.memory
+  pub globals : (g : ℕ) → g < length p.globals → at g ≡ Some (record { base = of_global g; type = int_type })
   pub exceptions : (i : ℕ) (e o : ℕ) (t : ObjectType) (kept : Installed) → slice_get w.live i ≡ Some (record { number = e; exception = source_native t o kept })
       → at o ≡ Some (record { base = of_exception e; type = t })
   pub made : (o : ℕ) (x : Stood) → at o ≡ Some x → IsMade s.world.calls w.last_number x.base

@@ -37,5 +37,5 @@ abbrev pub ValuesAreMeant : Type 0
 ValuesAreMeant =
     (l : Lowering) (own : Option ℕ) (kinds : Kinds) (r : SourceRunning) (v : SourceFrame) (at : Places) (e : Expression) (t : ℕ)
     (c d : SourceContext) (w : SourceWorld) (s : State) → r.program ≡ l.program → has_call e ≡ false → ReadsInts l own v.variables e
-    → KindsFit l kinds → Reaches l own at v s.frame → Stands l at d w s
+    → KindsFit l kinds → Reaches l own at v s.frame → Stands l.layout l.program at d w s
     → ((lower l e t).before ≡ []) × IsValue w (value_of r v e c w) (value_in kinds s.frame s.world (lower l e t).value)

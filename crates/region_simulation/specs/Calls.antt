@@ -1,0 +1,48 @@
+-- That calls of a source and calls of regions do the same.
+use Rattle.std.specs.Prelude.{◌≡◌, ℕ, ℤ, List, [], ◌∷◌}
+use Rattle.cxx_ast.specs.declared.types.Ty.{Ty}
+use Rattle.cxx_ast.specs.Plain.{Checked}
+use Rattle.scope_rules.specs.Class.{class_type, object_type, function_at, method_at}
+use Rattle.scope_rules.specs.World.{World as SourceWorld, Reference}
+use Rattle.scope_rules.specs.Context.{Context as SourceContext}
+use Rattle.scope_rules.specs.Running.{Running as SourceRunning, Argument, by_value, by_reference, Callee, function, method, constructor, destructor}
+use Rattle.scope_rules.specs.Expression.{types_of, constructor_types}
+use Rattle.region_forms.specs.Layout.{Layout}
+use Rattle.region_forms.specs.World.{Address, Word, number_word, address_word}
+use Rattle.region_forms.specs.Outcome.{State}
+use Rattle.region_forms.specs.Ending.{Running}
+use Rattle.region_forms.specs.Numbering.{number_of}
+use Rattle.region_simulation.specs.Places.{Places, Refers}
+use Rattle.region_simulation.specs.Stands.{Stands, context_of}
+use Rattle.region_simulation.specs.Alike.{Alike}
+
+-- an argument and the word that is passed for it
+abbrev pub SameArgument : Layout → Checked → Places → Ty → Argument → Word → Type 0
+SameArgument l p at t (by_value v) x = x ≡ number_word v
+SameArgument l p at t (by_reference r) x = (a : Address) × Refers l p at r (object_type t) a × (x ≡ address_word a)
+
+-- one for each parameter
+abbrev pub SameArguments : Layout → Checked → Places → List Ty → List Argument → List Word → Type 0
+SameArguments l p at [] [] [] = Unit {0}
+SameArguments l p at (t ∷ types) (a ∷ given) (x ∷ words) = SameArgument l p at t a x × SameArguments l p at types given words
+SameArguments l p at _ _ _ = ⊥
+
+-- the address of the object of class k that a function works on is passed before its arguments
+abbrev pub SameOwn : Layout → Checked → Places → ℕ → Reference → List Ty → List Argument → List Word → Type 0
+SameOwn l p at k this types given [] = ⊥
+SameOwn l p at k this types given (x ∷ words) =
+    (a : Address) × Refers l p at this (class_type k) a × (x ≡ address_word a) × SameArguments l p at types given words
+
+-- what is passed in a call
+abbrev pub SamePassed : Layout → Checked → Places → Callee → Reference → List Argument → List Word → Type 0
+SamePassed l p at (function n) this given words = SameArguments l p at (types_of (function_at p n).parameters) given words
+SamePassed l p at (method k i) this given words = SameOwn l p at k this (types_of (method_at p k i).parameters) given words
+SamePassed l p at (constructor k which) this given words = SameOwn l p at k this (constructor_types p k which) given words
+SamePassed l p at (destructor k) this given words = SameOwn l p at k this [] given words
+
+-- The same values come out of calls, from any call of the program, and the whole frame of the caller is kept.
+abbrev pub SameCalls : Layout → SourceRunning → Running → Type 0
+SameCalls l a b =
+    (at : Places) (callee : Callee) (this : Reference) (given : List Argument) (words : List Word) (k : ℕ) (c : SourceContext) (w : SourceWorld) (s : State)
+    → Stands l a.program at c w s → SamePassed l a.program at callee this given words
+    → Alike l a.program at k c w s (λ x y w2 at2 s2. x ≡ y) (a.call callee this given c w) (b.call (number_of a.program callee) words (context_of w.open_calls c) s)
