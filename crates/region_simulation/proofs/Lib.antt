@@ -2,3 +2,5 @@ pub mod Paths
 pub mod Members
 pub mod Naming
 pub mod Values
+pub mod Following
+pub mod Joining
