@@ -4,3 +4,5 @@ pub mod Naming
 pub mod Values
 pub mod Following
 pub mod Joining
+pub mod Storing
+pub mod Evaluating

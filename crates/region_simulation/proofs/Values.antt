@@ -34,7 +34,7 @@ neither true b e = absurd (cc e)
 neither false true e = absurd (cc e)
 
 -- what follows a value
-value_then : (w : SourceWorld) (x : SourceResult ℤ) (y : Option ℤ) (f : ℤ → Action ℤ) (g : ℤ → Option ℤ) → IsValue w x y
+pub value_then : (w : SourceWorld) (x : SourceResult ℤ) (y : Option ℤ) (f : ℤ → Action ℤ) (g : ℤ → Option ℤ) → IsValue w x y
     → ((v : ℤ) → IsValue w (f v w) (g v)) → IsValue w (continued x f) (with_some y g)
 value_then w (done v w2) y f g (e, i) h =
     subst (λ u. IsValue w (f v u) (with_some y g)) (sym e) (subst (λ z. IsValue w (f v w) (with_some z g)) (sym i) (h v))
@@ -58,11 +58,11 @@ quotient_means w x y v = go (is_zero y)
     go true = tt
     go false = in_range_means w v v (fits_int (int_div x y))
 
-unary_means : (w : SourceWorld) (op : UnaryOp) (x : ℤ) → IsValue w (unary_value op x w) (unary_result op x)
+pub unary_means : (w : SourceWorld) (op : UnaryOp) (x : ℤ) → IsValue w (unary_value op x w) (unary_result op x)
 unary_means w Minus x = in_range_means w x (neg_ℤ x) (fits_int (neg_ℤ x))
 unary_means w Not x = (refl, refl)
 
-binary_means : (w : SourceWorld) (op : BinaryOp) (x y : ℤ) → IsValue w (binary_value op x y w) (binary_result op x y)
+pub binary_means : (w : SourceWorld) (op : BinaryOp) (x y : ℤ) → IsValue w (binary_value op x y w) (binary_result op x y)
 binary_means w Add x y = in_range_means w x (x +ℤ y) (fits_int (x +ℤ y))
 binary_means w Subtract x y = in_range_means w x (x -ℤ y) (fits_int (x -ℤ y))
 binary_means w Multiply x y = in_range_means w x (x *ℤ y) (fits_int (x *ℤ y))

@@ -6,3 +6,4 @@ pub mod Stands
 pub mod Value
 pub mod Alike
 pub mod Calls
+pub mod Evaluates
