@@ -6,3 +6,4 @@ pub mod Following
 pub mod Joining
 pub mod Storing
 pub mod Evaluating
+pub mod Deciding
