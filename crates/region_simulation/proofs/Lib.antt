@@ -7,3 +7,4 @@ pub mod Joining
 pub mod Storing
 pub mod Evaluating
 pub mod Deciding
+pub mod Keeping

@@ -25,7 +25,8 @@ use Rattle.region_simulation.specs.Places.{Places, Refers}
 use Rattle.region_simulation.specs.Reach.{Reaches, KindsFit}
 use Rattle.region_simulation.specs.Names.{AreNamed}
 use Rattle.region_simulation.specs.Stands.{Stands}
-use Rattle.region_simulation.specs.Value.{ReadsInts, IsValue, ValuesAreMeant}
+use Rattle.region_simulation.specs.Typing.{IsTyped}
+use Rattle.region_simulation.specs.Value.{IsValue, ValuesAreMeant}
 use Rattle.region_simulation.proofs.Naming.{names_placed}
 
 pub neither : (a b : Bool) → (a || b) ≡ false → (a ≡ false) × (b ≡ false)
@@ -103,7 +104,7 @@ module _ (l : Lowering) (own : Option ℕ) (kinds : Kinds) (v : SourceFrame) (at
             stands.memory.holds (lvalue l.program w v names).object refers.stood (lvalue l.program w v names).path n refers.stands is,
       )
 
-  pub value_means : (r : SourceRunning) (c : SourceContext) → r.program ≡ l.program → (e : Expression) (t : ℕ) → has_call e ≡ false → ReadsInts l own v.variables e
+  pub value_means : (r : SourceRunning) (c : SourceContext) → r.program ≡ l.program → (e : Expression) (t : ℕ) → has_call e ≡ false → IsTyped l own v.variables e
       → ((lower l e t).before ≡ []) × IsValue w (value_of r v e c w) (value_in kinds s.frame s.world (lower l e t).value)
   value_means r c same (number n place) t quiet reads = (refl, (refl, refl))
   value_means r c same (path names) t quiet reads =

@@ -14,17 +14,8 @@ use Rattle.region_forms.specs.Outcome.{State}
 use Rattle.region_forms.specs.LowerExpression.{Lowering, lower, has_call}
 use Rattle.region_simulation.specs.Places.{Places}
 use Rattle.region_simulation.specs.Reach.{Reaches, KindsFit}
-use Rattle.region_simulation.specs.Names.{AreNamed}
+use Rattle.region_simulation.specs.Typing.{IsTyped}
 use Rattle.region_simulation.specs.Stands.{Stands}
-
--- each name that an expression without calls reads names an int
-abbrev pub ReadsInts : Lowering → (own : Option ℕ) → List Variable → Expression → Type 0
-ReadsInts l own xs (number v place) = Unit {0}
-ReadsInts l own xs (path names) = AreNamed l own xs names int_type
-ReadsInts l own xs (paren e place) = ReadsInts l own xs e
-ReadsInts l own xs (unary op e place) = ReadsInts l own xs e
-ReadsInts l own xs (binary op a b) = ReadsInts l own xs a × ReadsInts l own xs b
-ReadsInts l own xs _ = Unit {0}
 
 -- a value that is computed changes no world; where the source is undefined nothing is said, and no other stop is there
 abbrev pub IsValue : SourceWorld → SourceResult ℤ → Option ℤ → Type 0
@@ -36,6 +27,6 @@ IsValue w (stopped s w2) x = ⊥
 abbrev pub ValuesAreMeant : Type 0
 ValuesAreMeant =
     (l : Lowering) (own : Option ℕ) (kinds : Kinds) (r : SourceRunning) (v : SourceFrame) (at : Places) (e : Expression) (t : ℕ)
-    (c d : SourceContext) (w : SourceWorld) (s : State) → r.program ≡ l.program → has_call e ≡ false → ReadsInts l own v.variables e
+    (c d : SourceContext) (w : SourceWorld) (s : State) → r.program ≡ l.program → has_call e ≡ false → IsTyped l own v.variables e
     → KindsFit l kinds → Reaches l own at v s.frame → Stands l.layout l.program at d w s
     → ((lower l e t).before ≡ []) × IsValue w (value_of r v e c w) (value_in kinds s.frame s.world (lower l e t).value)

@@ -1,0 +1,55 @@
+-- Expressions whose names stand for what they are used as.
+use Rattle.std.specs.Prelude.{◌≡◌, ℕ, true, List, [], ◌∷◌, drop, length, Option}
+use Rattle.cxx_ast.specs.declared.name.Bound.{Bound}
+use Rattle.cxx_ast.specs.declared.name.Bound.TheVariants.{Func, Method, Builtin as BuiltinBound}
+use Rattle.cxx_ast.specs.declared.name.Builtin.TheVariants.{BadException}
+use Rattle.cxx_ast.specs.declared.name.Name.{Name}
+use Rattle.cxx_ast.specs.declared.types.Ty.{Ty}
+use Rattle.cxx_ast.specs.declared.types.Ty.TheVariants.{Int, IntRef, ObjectRef}
+use Rattle.cxx_ast.specs.Plain.{Expression, number, path, paren, unary, binary, call, std_call, Expressions, no_expressions, expression_then}
+use Rattle.scope_rules.specs.Class.{ObjectType, int_type, class_type, class_named, derives}
+use Rattle.scope_rules.specs.Frame.{Variable}
+use Rattle.scope_rules.specs.Expression.{lvalue_of, names_of, count_of, callee_bound, receiver, parameter_types}
+use Rattle.region_forms.specs.LowerExpression.{Lowering}
+use Rattle.region_simulation.specs.Names.{AreNamed}
+
+-- names stand for an object of class k, or of one derived from it
+abbrev pub AreOfClass : Lowering → (own : Option ℕ) → List Variable → ℕ → List Name → Type 0
+AreOfClass l own xs k names = (s : ObjectType) × AreNamed l own xs names s × (derives l.program s (class_type k) ≡ true)
+
+-- an expression can be passed for a parameter: for a reference it names what that can be bound to, and else its value is typed
+abbrev pub CanPass : Lowering → (own : Option ℕ) → List Variable → List Ty → Expression → Type 0 → Type 0
+CanPass l own xs (IntRef const ∷ types) e typed = AreNamed l own xs (names_of (lvalue_of e)) int_type
+CanPass l own xs (ObjectRef const n ∷ types) e typed = AreOfClass l own xs (class_named n) (names_of (lvalue_of e))
+CanPass l own xs _ e typed = typed
+
+-- what a name is bound to can be called on the object that names stand for, with so many arguments
+abbrev pub CanCall : Lowering → (own : Option ℕ) → List Variable → Bound → List Name → Expressions → Type 0
+CanCall l own xs (Func n) object es = count_of es ≡ length (parameter_types l.program (Func n))
+CanCall l own xs (Method k i) object es = (count_of es ≡ length (parameter_types l.program (Method k i))) × AreOfClass l own xs k object
+CanCall l own xs (BuiltinBound BadException) object es = ⊥
+CanCall l own xs (BuiltinBound b) object es = Unit {0}
+CanCall l own xs _ object es = ⊥
+
+-- each name that an expression reads names an int, and each call can be made
+abbrev mutual
+  pub IsTyped : Lowering → (own : Option ℕ) → List Variable → Expression → Type 0
+  IsTyped l own xs (number v place) = Unit {0}
+  IsTyped l own xs (path names) = AreNamed l own xs names int_type
+  IsTyped l own xs (paren e place) = IsTyped l own xs e
+  IsTyped l own xs (unary op e place) = IsTyped l own xs e
+  IsTyped l own xs (binary op a b) = IsTyped l own xs a × IsTyped l own xs b
+  IsTyped l own xs (call names es) =
+      CanCall l own xs (callee_bound names) (receiver names) es × AreTyped l own xs es (parameter_types l.program (callee_bound names))
+  IsTyped l own xs (std_call n es place) = CanCall l own xs n.bound [] es × AreTyped l own xs es []
+
+  -- arguments can be passed for parameters of these types
+  pub AreTyped : Lowering → (own : Option ℕ) → List Variable → Expressions → List Ty → Type 0
+  AreTyped l own xs no_expressions types = Unit {0}
+  AreTyped l own xs (expression_then e es) types = CanPass l own xs types e (IsTyped l own xs e) × AreTyped l own xs es (drop 1 types)
+
+-- the types that arguments are passed for: a built-in function takes ints
+abbrev pub types_for : List Ty → Expressions → List Ty
+types_for types no_expressions = []
+types_for [] (expression_then e es) = Int ∷ types_for [] es
+types_for (t ∷ types) (expression_then e es) = t ∷ types_for types es
