@@ -8,3 +8,5 @@ pub mod Storing
 pub mod Evaluating
 pub mod Deciding
 pub mod Keeping
+pub mod Passing
+pub mod Given
