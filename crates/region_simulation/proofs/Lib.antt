@@ -10,3 +10,4 @@ pub mod Deciding
 pub mod Keeping
 pub mod Passing
 pub mod Given
+pub mod Calling
