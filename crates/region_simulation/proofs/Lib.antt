@@ -11,3 +11,4 @@ pub mod Keeping
 pub mod Passing
 pub mod Given
 pub mod Calling
+pub mod Expressions

@@ -9,3 +9,4 @@ pub mod Alike
 pub mod Calls
 pub mod Evaluates
 pub mod Passes
+pub mod Expressions

@@ -23,12 +23,17 @@ CanPass l own xs (IntRef const ∷ types) e typed = AreNamed l own xs (names_of 
 CanPass l own xs (ObjectRef const n ∷ types) e typed = AreOfClass l own xs (class_named n) (names_of (lvalue_of e))
 CanPass l own xs _ e typed = typed
 
+-- a function of the language that gives a value
+abbrev pub IsStandard : Bound → Type 0
+IsStandard (BuiltinBound BadException) = ⊥
+IsStandard (BuiltinBound b) = Unit {0}
+IsStandard _ = ⊥
+
 -- what a name is bound to can be called on the object that names stand for, with so many arguments
 abbrev pub CanCall : Lowering → (own : Option ℕ) → List Variable → Bound → List Name → Expressions → Type 0
 CanCall l own xs (Func n) object es = count_of es ≡ length (parameter_types l.program (Func n))
 CanCall l own xs (Method k i) object es = (count_of es ≡ length (parameter_types l.program (Method k i))) × AreOfClass l own xs k object
-CanCall l own xs (BuiltinBound BadException) object es = ⊥
-CanCall l own xs (BuiltinBound b) object es = Unit {0}
+CanCall l own xs (BuiltinBound b) object es = IsStandard (BuiltinBound b)
 CanCall l own xs _ object es = ⊥
 
 -- each name that an expression reads names an int, and each call can be made
@@ -41,7 +46,7 @@ abbrev mutual
   IsTyped l own xs (binary op a b) = IsTyped l own xs a × IsTyped l own xs b
   IsTyped l own xs (call names es) =
       CanCall l own xs (callee_bound names) (receiver names) es × AreTyped l own xs es (parameter_types l.program (callee_bound names))
-  IsTyped l own xs (std_call n es place) = CanCall l own xs n.bound [] es × AreTyped l own xs es []
+  IsTyped l own xs (std_call n es place) = IsStandard n.bound × AreTyped l own xs es []
 
   -- arguments can be passed for parameters of these types
   pub AreTyped : Lowering → (own : Option ℕ) → List Variable → Expressions → List Ty → Type 0

@@ -1,8 +1,16 @@
 // Laws of lowering: calls of no effect, whose contracts state what holds of every program.
+ghost use Rattle.region_simulation.specs.Expressions.{ExpressionsEvaluate};
 ghost use Rattle.region_simulation.specs.Value.{ValuesAreMeant};
 
 /// An expression that makes no call, in which each name stands for an int in reach, is lowered to a value with nothing before it. Where a
 /// state of regions stands for the source's world, the value is there what the expression means.
 pub fn values_are_meant()
     ensures { ValuesAreMeant }
+{}
+
+/// With calls and built-in functions that do the same, every typed expression is lowered to what it means: what comes before its value comes
+/// out as the expression does, and then the value is the expression's. Operands and arguments are evaluated left to right, and the right
+/// side of an operator that decides only where it decides.
+pub fn expressions_evaluate()
+    ensures { ExpressionsEvaluate }
 {}

@@ -1,0 +1,5 @@
+use Rattle.region_simulation.proofs.Expressions.{expressions_evaluate}
+use Rattle.region_simulation.proofs.laws.expressions_evaluate.Goals as goal
+
+pub returns : goal.returns
+returns c = expressions_evaluate

@@ -1,0 +1,38 @@
+-- That expressions are lowered to what they mean, with calls that do the same.
+use Rattle.std.specs.Prelude.{ℕ, ℤ, ◌≤◌, List, [], Option}
+use Rattle.cxx_ast.specs.declared.name.Bound.TheVariants.{Builtin as BuiltinBound}
+use Rattle.cxx_ast.specs.declared.name.Builtin.{Builtin}
+use Rattle.cxx_ast.specs.declared.name.Name.{Name}
+use Rattle.cxx_ast.specs.Plain.{Expression, Expressions}
+use Rattle.scope_rules.specs.World.{Reference}
+use Rattle.scope_rules.specs.Context.{Context as SourceContext}
+use Rattle.scope_rules.specs.Outcome.{Action as SourceAction}
+use Rattle.scope_rules.specs.Frame.{Frame as SourceFrame}
+use Rattle.scope_rules.specs.Running.{Running as SourceRunning, Argument as SourceArgument, Callee}
+use Rattle.scope_rules.specs.Expression.{value_of, called}
+use Rattle.region_forms.specs.Ending.{Running}
+use Rattle.region_forms.specs.LowerExpression.{Lowering, LoweredArguments, first_temporary, lower, call_of, call_stored}
+use Rattle.region_simulation.specs.Reach.{KindsFit}
+use Rattle.region_simulation.specs.Typing.{IsTyped, CanCall, types_for}
+use Rattle.region_simulation.specs.Calls.{SameCalls}
+use Rattle.region_simulation.specs.Evaluates.{Evaluates}
+use Rattle.region_simulation.specs.Passes.{Passes}
+
+-- a running source: the program that is lowered, and what its calls do
+abbrev pub source_running : Lowering → (Callee → Reference → List SourceArgument → SourceContext → SourceAction ℤ) → SourceRunning
+source_running l call = record { program = l.program; call = call }
+
+-- a built-in function that can be called does the same, with arguments that are passed alike
+abbrev pub SameBuiltins : Lowering → (own : Option ℕ) → (Callee → Reference → List SourceArgument → SourceContext → SourceAction ℤ) → Running → SourceFrame → SourceContext → Type 0
+SameBuiltins l own call b v c =
+    (f : Builtin) (object : List Name) (es : Expressions) (act : SourceAction (List SourceArgument)) (y : LoweredArguments) (t : ℕ) → first_temporary l ≤ t
+    → CanCall l own v.variables (BuiltinBound f) object es → Passes l own b v c t (types_for [] es) act y
+    → Evaluates l own b v c t (called (source_running l call) v (BuiltinBound f) object es act c) (call_stored t (call_of l (BuiltinBound f) object es y))
+
+-- with calls and built-in functions that do the same, what an expression is lowered to evaluates to what it means
+abbrev pub ExpressionsEvaluate : Type 0
+ExpressionsEvaluate =
+    (l : Lowering) (own : Option ℕ) (call : Callee → Reference → List SourceArgument → SourceContext → SourceAction ℤ) (b : Running) (v : SourceFrame) (c : SourceContext)
+    → KindsFit l b.kinds → SameCalls l.layout (source_running l call) b → SameBuiltins l own call b v c
+    → (e : Expression) (t : ℕ) → first_temporary l ≤ t → IsTyped l own v.variables e
+    → Evaluates l own b v c t (value_of (source_running l call) v e c) (lower l e t)
