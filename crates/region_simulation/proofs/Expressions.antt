@@ -5,6 +5,7 @@ use Rattle.cxx_ast.specs.declared.expression.BinaryOp.{BinaryOp}
 use Rattle.cxx_ast.specs.declared.expression.BinaryOp.TheVariants.{Add, Subtract, Multiply, Divide, Remainder, Less, Greater, LessEqual, GreaterEqual, Equal, NotEqual, And, Or}
 use Rattle.cxx_ast.specs.declared.name.Bound.{Bound}
 use Rattle.cxx_ast.specs.declared.name.Bound.TheVariants.{Free, Global, Local, Field, Class, Func, Method, Builtin as BuiltinBound}
+use Rattle.cxx_ast.specs.declared.name.Builtin.TheVariants.{WriteInt, ReadByte, Exit, Module, Cancel, Terminate, SetTerminate, SetUnexpected, Uncaught, BadException}
 use Rattle.cxx_ast.specs.declared.name.Name.{Name}
 use Rattle.cxx_ast.specs.declared.types.Ty.{Ty}
 use Rattle.cxx_ast.specs.declared.types.Ty.TheVariants.{Int, Void, Object, IntRef, ObjectRef}
@@ -22,7 +23,7 @@ use Rattle.region_forms.specs.World.{address_word}
 use Rattle.region_forms.specs.Ending.{Running}
 use Rattle.region_forms.specs.LowerExpression.{Lowering, result_slot, first_temporary, Lowered, LoweredArguments, place_of, has_call, some_call, both, int_passed, lower, lower_arguments, left_stored, call_of, call_stored}
 use Rattle.region_simulation.specs.Reach.{KindsFit}
-use Rattle.region_simulation.specs.Typing.{IsStandard, CanCall, IsTyped, AreTyped, types_for}
+use Rattle.region_simulation.specs.Typing.{IsStandard, UnlessHandler, CanCall, IsTyped, AreTyped, types_for}
 use Rattle.region_simulation.specs.Calls.{SameArguments, SameCalls}
 use Rattle.region_simulation.specs.Evaluates.{Evaluates, IsMeant}
 use Rattle.region_simulation.specs.Passes.{Passes, GivesMeant}
@@ -35,6 +36,25 @@ use Rattle.region_simulation.proofs.Keeping.{names_addressed, class_addressed}
 use Rattle.region_simulation.proofs.Passing.{words_address, by_its_value, before_others, meant_int, pass_quiet}
 use Rattle.region_simulation.proofs.Given.{pass_none, meant_none, NamesAddressed, pass_address, meant_address, pass_stored}
 use Rattle.region_simulation.proofs.Calling.{call_case}
+
+unless_handler : {A B : Type 0} (f : Bound) → (A → B) → UnlessHandler f A → UnlessHandler f B
+unless_handler (BuiltinBound SetTerminate) g h = tt
+unless_handler (BuiltinBound SetUnexpected) g h = tt
+unless_handler (BuiltinBound WriteInt) g h = g h
+unless_handler (BuiltinBound ReadByte) g h = g h
+unless_handler (BuiltinBound Exit) g h = g h
+unless_handler (BuiltinBound Module) g h = g h
+unless_handler (BuiltinBound Cancel) g h = g h
+unless_handler (BuiltinBound Terminate) g h = g h
+unless_handler (BuiltinBound Uncaught) g h = g h
+unless_handler (BuiltinBound BadException) g h = g h
+unless_handler Free g h = g h
+unless_handler (Global n) g h = g h
+unless_handler (Local n) g h = g h
+unless_handler (Field k n) g h = g h
+unless_handler (Class n) g h = g h
+unless_handler (Func n) g h = g h
+unless_handler (Method k n) g h = g h
 
 -- each argument has its parameter
 types_all : (types : List Ty) (es : Expressions) → count_of es ≡ length types → types_for types es ≡ types
@@ -80,46 +100,47 @@ module _ (l : Lowering) (own : Option ℕ) (calls : Callee → Reference → Lis
       go true e NotEqual = other NotEqual (λ n. refl)
 
   -- a call of what a name is bound to
-  call_evaluates : (f : Bound) (object : List Name) (es : Expressions) (act : SourceAction (List SourceArgument)) (y : LoweredArguments) (t : ℕ) → first_temporary l ≤ t
-      → CanCall l own v.variables f object es → Passes l own b v c t (types_for (parameter_types l.program f) es) act y
-      → Evaluates l own b v c t (called (source_running l calls) v f object es act c) (call_stored t (call_of l f object es y))
-  call_evaluates (Func n) object es act y t high can passes =
-      call_case l own b v c fit t high calls same (types_for (parameter_types l.program (Func n)) es) act y y.arguments (function n) (λ w. nowhere)
+  call_evaluates : (f : Bound) (object : List Name) (es : Expressions) (t : ℕ) → first_temporary l ≤ t → CanCall l own v.variables f object es
+      → UnlessHandler f (Passes l own b v c t (types_for (parameter_types l.program f) es) (arguments (source_running l calls) v es (parameter_types l.program f) c)
+      (lower_arguments l es (parameter_types l.program f) t))
+      → Evaluates l own b v c t (called (source_running l calls) v f object es (arguments (source_running l calls) v es (parameter_types l.program f) c) c)
+      (call_stored t (call_of l f object es (lower_arguments l es (parameter_types l.program f) t)))
+  call_evaluates (Func n) object es t high can passes =
+      call_case l own b v c fit t high calls same (types_for (parameter_types l.program (Func n)) es)
+      (arguments (source_running l calls) v es (parameter_types l.program (Func n)) c) (lower_arguments l es (parameter_types l.program (Func n)) t)
+      (lower_arguments l es (parameter_types l.program (Func n)) t).arguments (function n) (λ w. nowhere)
       (λ at w s stands reach given words i ok.
       (words, i, subst (λ ts. SameArguments l.layout l.program at ts given words) (types_all (parameter_types l.program (Func n)) es can) ok)) passes
-  call_evaluates (Method k i) object es act y t high can passes =
-      call_case l own b v c fit t high calls same (types_for (parameter_types l.program (Method k i)) es) act y (address_argument (place_of l object) ∷ y.arguments) (method k i)
+  call_evaluates (Method k i) object es t high can passes =
+      call_case l own b v c fit t high calls same (types_for (parameter_types l.program (Method k i)) es)
+      (arguments (source_running l calls) v es (parameter_types l.program (Method k i)) c) (lower_arguments l es (parameter_types l.program (Method k i)) t)
+      (address_argument (place_of l object) ∷ (lower_arguments l es (parameter_types l.program (Method k i)) t).arguments) (method k i)
       (λ w. as_class w k (lvalue l.program w v object))
       (λ at w s stands reach given words j ok.
       let x = class_addressed l own b.kinds v at c w s t (omega (arith, high)) fit reach stands object k can.1 in (
         address_word x.address ∷ words,
-        words_address b.kinds s.frame s.world (place_of l object) y.arguments x.address words (x.stays s.frame (keeps_all t s.frame)) j,
+        words_address b.kinds s.frame s.world (place_of l object) (lower_arguments l es (parameter_types l.program (Method k i)) t).arguments x.address words (x.stays s.frame (keeps_all t s.frame)) j,
         (x.address, x.refers, refl, subst (λ ts. SameArguments l.layout l.program at ts given words) (types_all (parameter_types l.program (Method k i)) es can.0) ok),
       )) passes
-  call_evaluates (BuiltinBound f) object es act y t high can passes = builtins f object es act y t high can passes
-  call_evaluates Free object es act y t high can passes = absurd can
-  call_evaluates (Global n) object es act y t high can passes = absurd can
-  call_evaluates (Local n) object es act y t high can passes = absurd can
-  call_evaluates (Field k n) object es act y t high can passes = absurd can
-  call_evaluates (Class n) object es act y t high can passes = absurd can
+  call_evaluates (BuiltinBound f) object es t high can passes = builtins f object es t high can passes
+  call_evaluates Free object es t high can passes = absurd can
+  call_evaluates (Global n) object es t high can passes = absurd can
+  call_evaluates (Local n) object es t high can passes = absurd can
+  call_evaluates (Field k n) object es t high can passes = absurd can
+  call_evaluates (Class n) object es t high can passes = absurd can
 
   -- a function of the language, which takes ints
-  std_evaluates : (n : Name) (es : Expressions) (t : ℕ) → first_temporary l ≤ t → IsStandard n.bound
-      → Passes l own b v c t (types_for [] es) (arguments (source_running l calls) v es [] c) (lower_arguments l es [] t)
-      → Evaluates l own b v c t (called (source_running l calls) v n.bound [] es (arguments (source_running l calls) v es [] c) c)
-      (call_stored t (call_of l n.bound [] es (lower_arguments l es [] t)))
-  std_evaluates n es t high can passes = go n.bound can
-    where
-      go : (f : Bound) → IsStandard f
-          → Evaluates l own b v c t (called (source_running l calls) v f [] es (arguments (source_running l calls) v es [] c) c) (call_stored t (call_of l f [] es (lower_arguments l es [] t)))
-      go (BuiltinBound f) is = builtins f [] es (arguments (source_running l calls) v es [] c) (lower_arguments l es [] t) t high is passes
-      go Free is = absurd is
-      go (Global k) is = absurd is
-      go (Local k) is = absurd is
-      go (Field j k) is = absurd is
-      go (Class k) is = absurd is
-      go (Func k) is = absurd is
-      go (Method j k) is = absurd is
+  std_evaluates : (f : Bound) (es : Expressions) (t : ℕ) → first_temporary l ≤ t → IsStandard f es
+      → UnlessHandler f (Passes l own b v c t (types_for [] es) (arguments (source_running l calls) v es [] c) (lower_arguments l es [] t))
+      → Evaluates l own b v c t (called (source_running l calls) v f [] es (arguments (source_running l calls) v es [] c) c) (call_stored t (call_of l f [] es (lower_arguments l es [] t)))
+  std_evaluates (BuiltinBound f) es t high can passes = builtins f [] es t high can passes
+  std_evaluates Free es t high can passes = absurd can
+  std_evaluates (Global k) es t high can passes = absurd can
+  std_evaluates (Local k) es t high can passes = absurd can
+  std_evaluates (Field j k) es t high can passes = absurd can
+  std_evaluates (Class k) es t high can passes = absurd can
+  std_evaluates (Func k) es t high can passes = absurd can
+  std_evaluates (Method j k) es t high can passes = absurd can
 
   -- references among arguments
   int_names : (t : ℕ) → first_temporary l ≤ t → (k : Bool) (e : Expression) → AreTyped l own v.variables (expression_then e no_expressions) (IntRef k ∷ [])
@@ -213,11 +234,10 @@ module _ (l : Lowering) (own : Option ℕ) (calls : Callee → Reference → Lis
     expression_evaluates (binary op x y) t high typed =
         binary_evaluates op x y t high typed.1 (expression_evaluates x t high typed.0) (λ u h. expression_evaluates y u h typed.1)
     expression_evaluates (call names es) t high typed =
-        call_evaluates (callee_bound names) (receiver names) es (arguments (source_running l calls) v es (parameter_types l.program (callee_bound names)) c)
-        (lower_arguments l es (parameter_types l.program (callee_bound names)) t) t high typed.0
-        (expressions_pass es (parameter_types l.program (callee_bound names)) t high typed.1)
+        call_evaluates (callee_bound names) (receiver names) es t high typed.0
+        (unless_handler (callee_bound names) (λ ok. expressions_pass es (parameter_types l.program (callee_bound names)) t high ok) typed.1)
     expression_evaluates (std_call n es place) t high typed =
-        std_evaluates n es t high typed.0 (expressions_pass es [] t high typed.1)
+        std_evaluates n.bound es t high typed.0 (unless_handler n.bound (λ ok. expressions_pass es [] t high ok) typed.1)
 
     pub expressions_pass : (es : Expressions) (types : List Ty) (t : ℕ) → first_temporary l ≤ t → AreTyped l own v.variables es types
         → Passes l own b v c t (types_for types es) (arguments (source_running l calls) v es types c) (lower_arguments l es types t)

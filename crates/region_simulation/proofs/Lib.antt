@@ -12,3 +12,4 @@ pub mod Passing
 pub mod Given
 pub mod Calling
 pub mod Expressions
+pub mod Builtins

@@ -9,11 +9,11 @@ use Rattle.scope_rules.specs.Context.{Context as SourceContext}
 use Rattle.scope_rules.specs.Outcome.{Action as SourceAction}
 use Rattle.scope_rules.specs.Frame.{Frame as SourceFrame}
 use Rattle.scope_rules.specs.Running.{Running as SourceRunning, Argument as SourceArgument, Callee}
-use Rattle.scope_rules.specs.Expression.{value_of, called}
+use Rattle.scope_rules.specs.Expression.{value_of, arguments, called}
 use Rattle.region_forms.specs.Ending.{Running}
-use Rattle.region_forms.specs.LowerExpression.{Lowering, LoweredArguments, first_temporary, lower, call_of, call_stored}
+use Rattle.region_forms.specs.LowerExpression.{Lowering, first_temporary, lower, lower_arguments, call_of, call_stored}
 use Rattle.region_simulation.specs.Reach.{KindsFit}
-use Rattle.region_simulation.specs.Typing.{IsTyped, CanCall, types_for}
+use Rattle.region_simulation.specs.Typing.{IsTyped, IsStandard, UnlessHandler, types_for}
 use Rattle.region_simulation.specs.Calls.{SameCalls}
 use Rattle.region_simulation.specs.Evaluates.{Evaluates}
 use Rattle.region_simulation.specs.Passes.{Passes}
@@ -23,11 +23,16 @@ abbrev pub source_running : Lowering → (Callee → Reference → List SourceAr
 source_running l call = record { program = l.program; call = call }
 
 -- a built-in function that can be called does the same, with arguments that are passed alike
+abbrev pub SameBuiltin : Lowering → (own : Option ℕ) → (Callee → Reference → List SourceArgument → SourceContext → SourceAction ℤ) → Running → SourceFrame → SourceContext → Builtin → Type 0
+SameBuiltin l own call b v c f =
+    (object : List Name) (es : Expressions) (t : ℕ) → first_temporary l ≤ t → IsStandard (BuiltinBound f) es
+    → UnlessHandler (BuiltinBound f) (Passes l own b v c t (types_for [] es) (arguments (source_running l call) v es [] c) (lower_arguments l es [] t))
+    → Evaluates l own b v c t (called (source_running l call) v (BuiltinBound f) object es (arguments (source_running l call) v es [] c) c)
+    (call_stored t (call_of l (BuiltinBound f) object es (lower_arguments l es [] t)))
+
+-- each does
 abbrev pub SameBuiltins : Lowering → (own : Option ℕ) → (Callee → Reference → List SourceArgument → SourceContext → SourceAction ℤ) → Running → SourceFrame → SourceContext → Type 0
-SameBuiltins l own call b v c =
-    (f : Builtin) (object : List Name) (es : Expressions) (act : SourceAction (List SourceArgument)) (y : LoweredArguments) (t : ℕ) → first_temporary l ≤ t
-    → CanCall l own v.variables (BuiltinBound f) object es → Passes l own b v c t (types_for [] es) act y
-    → Evaluates l own b v c t (called (source_running l call) v (BuiltinBound f) object es act c) (call_stored t (call_of l (BuiltinBound f) object es y))
+SameBuiltins l own call b v c = (f : Builtin) → SameBuiltin l own call b v c f
 
 -- with calls and built-in functions that do the same, what an expression is lowered to evaluates to what it means
 abbrev pub ExpressionsEvaluate : Type 0

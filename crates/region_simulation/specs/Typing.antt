@@ -1,8 +1,9 @@
 -- Expressions whose names stand for what they are used as.
-use Rattle.std.specs.Prelude.{◌≡◌, ℕ, true, List, [], ◌∷◌, drop, length, Option}
+use Rattle.std.specs.Prelude.{◌≡◌, ℕ, true, List, [], ◌∷◌, drop, length, Option, Some, None}
 use Rattle.cxx_ast.specs.declared.name.Bound.{Bound}
 use Rattle.cxx_ast.specs.declared.name.Bound.TheVariants.{Func, Method, Builtin as BuiltinBound}
-use Rattle.cxx_ast.specs.declared.name.Builtin.TheVariants.{BadException}
+use Rattle.cxx_ast.specs.declared.name.Builtin.{Builtin}
+use Rattle.cxx_ast.specs.declared.name.Builtin.TheVariants.{WriteInt, ReadByte, Exit, Module, Cancel, Terminate, SetTerminate, SetUnexpected, Uncaught, BadException}
 use Rattle.cxx_ast.specs.declared.name.Name.{Name}
 use Rattle.cxx_ast.specs.declared.types.Ty.{Ty}
 use Rattle.cxx_ast.specs.declared.types.Ty.TheVariants.{Int, IntRef, ObjectRef}
@@ -23,17 +24,35 @@ CanPass l own xs (IntRef const ∷ types) e typed = AreNamed l own xs (names_of 
 CanPass l own xs (ObjectRef const n ∷ types) e typed = AreOfClass l own xs (class_named n) (names_of (lvalue_of e))
 CanPass l own xs _ e typed = typed
 
--- a function of the language that gives a value
-abbrev pub IsStandard : Bound → Type 0
-IsStandard (BuiltinBound BadException) = ⊥
-IsStandard (BuiltinBound b) = Unit {0}
-IsStandard _ = ⊥
+-- how many arguments a function of the language takes; `std::bad_exception` gives no value
+abbrev pub standard_count : Builtin → Option ℕ
+standard_count WriteInt = Some 1
+standard_count ReadByte = Some 0
+standard_count Exit = Some 1
+standard_count Module = Some 2
+standard_count Cancel = Some 1
+standard_count Terminate = Some 0
+standard_count SetTerminate = Some 1
+standard_count SetUnexpected = Some 1
+standard_count Uncaught = Some 0
+standard_count BadException = None
+
+-- a function of the language with its arguments
+abbrev pub IsStandard : Bound → Expressions → Type 0
+IsStandard (BuiltinBound f) es = standard_count f ≡ Some (count_of es)
+IsStandard _ es = ⊥
+
+-- said of the arguments of a call, but of those that set a handler: the name of the function is not evaluated
+abbrev pub UnlessHandler : Bound → Type 0 → Type 0
+UnlessHandler (BuiltinBound SetTerminate) said = Unit {0}
+UnlessHandler (BuiltinBound SetUnexpected) said = Unit {0}
+UnlessHandler _ said = said
 
 -- what a name is bound to can be called on the object that names stand for, with so many arguments
 abbrev pub CanCall : Lowering → (own : Option ℕ) → List Variable → Bound → List Name → Expressions → Type 0
 CanCall l own xs (Func n) object es = count_of es ≡ length (parameter_types l.program (Func n))
 CanCall l own xs (Method k i) object es = (count_of es ≡ length (parameter_types l.program (Method k i))) × AreOfClass l own xs k object
-CanCall l own xs (BuiltinBound b) object es = IsStandard (BuiltinBound b)
+CanCall l own xs (BuiltinBound f) object es = IsStandard (BuiltinBound f) es
 CanCall l own xs _ object es = ⊥
 
 -- each name that an expression reads names an int, and each call can be made
@@ -45,8 +64,9 @@ abbrev mutual
   IsTyped l own xs (unary op e place) = IsTyped l own xs e
   IsTyped l own xs (binary op a b) = IsTyped l own xs a × IsTyped l own xs b
   IsTyped l own xs (call names es) =
-      CanCall l own xs (callee_bound names) (receiver names) es × AreTyped l own xs es (parameter_types l.program (callee_bound names))
-  IsTyped l own xs (std_call n es place) = IsStandard n.bound × AreTyped l own xs es []
+      CanCall l own xs (callee_bound names) (receiver names) es ×
+      UnlessHandler (callee_bound names) (AreTyped l own xs es (parameter_types l.program (callee_bound names)))
+  IsTyped l own xs (std_call n es place) = IsStandard n.bound es × UnlessHandler n.bound (AreTyped l own xs es [])
 
   -- arguments can be passed for parameters of these types
   pub AreTyped : Lowering → (own : Option ℕ) → List Variable → Expressions → List Ty → Type 0
