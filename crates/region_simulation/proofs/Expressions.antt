@@ -27,7 +27,7 @@ use Rattle.region_simulation.specs.Typing.{IsStandard, UnlessHandler, CanCall, I
 use Rattle.region_simulation.specs.Calls.{SameArguments, SameCalls}
 use Rattle.region_simulation.specs.Evaluates.{Evaluates, IsMeant}
 use Rattle.region_simulation.specs.Passes.{Passes, GivesMeant}
-use Rattle.region_simulation.specs.Expressions.{source_running, SameBuiltins, ExpressionsEvaluate}
+use Rattle.region_simulation.specs.Expressions.{source_running, SameBuiltins}
 use Rattle.region_simulation.proofs.Following.{keeps_all}
 use Rattle.region_simulation.proofs.Values.{neither, value_means}
 use Rattle.region_simulation.proofs.Evaluating.{meant_case, unary_case, quiet_case, stored_case}
@@ -244,6 +244,3 @@ module _ (l : Lowering) (own : Option ℕ) (calls : Callee → Reference → Lis
     expressions_pass no_expressions types t high typed = pass_none l own b v c fit t t
     expressions_pass (expression_then e es) types t high typed =
         argument_passes types e es t high typed (λ ok. expression_evaluates e t high ok) (λ ts u h ok. expressions_pass es ts u h ok)
-
-pub expressions_evaluate : ExpressionsEvaluate
-expressions_evaluate l own calls b v c fit same builtins e t high typed = expression_evaluates l own calls b v c fit same builtins e t high typed

@@ -13,3 +13,4 @@ pub mod Given
 pub mod Calling
 pub mod Expressions
 pub mod Builtins
+pub mod Standard

@@ -2,6 +2,7 @@
 use Rattle.std.specs.Prelude.{ℕ, ℤ, ◌≤◌, List, [], Option}
 use Rattle.cxx_ast.specs.declared.name.Bound.TheVariants.{Builtin as BuiltinBound}
 use Rattle.cxx_ast.specs.declared.name.Builtin.{Builtin}
+use Rattle.cxx_ast.specs.declared.name.Builtin.TheVariants.{Module, Terminate}
 use Rattle.cxx_ast.specs.declared.name.Name.{Name}
 use Rattle.cxx_ast.specs.Plain.{Expression, Expressions}
 use Rattle.scope_rules.specs.World.{Reference}
@@ -34,10 +35,11 @@ SameBuiltin l own call b v c f =
 abbrev pub SameBuiltins : Lowering → (own : Option ℕ) → (Callee → Reference → List SourceArgument → SourceContext → SourceAction ℤ) → Running → SourceFrame → SourceContext → Type 0
 SameBuiltins l own call b v c = (f : Builtin) → SameBuiltin l own call b v c f
 
--- with calls and built-in functions that do the same, what an expression is lowered to evaluates to what it means
+-- With calls that do the same, and the two built-in functions that may terminate or raise, what an expression is lowered to evaluates to
+-- what it means.
 abbrev pub ExpressionsEvaluate : Type 0
 ExpressionsEvaluate =
     (l : Lowering) (own : Option ℕ) (call : Callee → Reference → List SourceArgument → SourceContext → SourceAction ℤ) (b : Running) (v : SourceFrame) (c : SourceContext)
-    → KindsFit l b.kinds → SameCalls l.layout (source_running l call) b → SameBuiltins l own call b v c
+    → KindsFit l b.kinds → SameCalls l.layout (source_running l call) b → SameBuiltin l own call b v c Terminate → SameBuiltin l own call b v c Module
     → (e : Expression) (t : ℕ) → first_temporary l ≤ t → IsTyped l own v.variables e
     → Evaluates l own b v c t (value_of (source_running l call) v e c) (lower l e t)

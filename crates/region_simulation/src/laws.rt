@@ -8,9 +8,9 @@ pub fn values_are_meant()
     ensures { ValuesAreMeant }
 {}
 
-/// With calls and built-in functions that do the same, every typed expression is lowered to what it means: what comes before its value comes
-/// out as the expression does, and then the value is the expression's. Operands and arguments are evaluated left to right, and the right
-/// side of an operator that decides only where it decides.
+/// With calls that do the same, and the two built-in functions that may terminate or raise, every typed expression is lowered to what it
+/// means: what comes before its value comes out as the expression does, and then the value is the expression's. Operands and arguments are
+/// evaluated left to right, and the right side of an operator that decides only where it decides.
 pub fn expressions_evaluate()
     ensures { ExpressionsEvaluate }
 {}

@@ -1,4 +1,4 @@
-use Rattle.region_simulation.proofs.Expressions.{expressions_evaluate}
+use Rattle.region_simulation.proofs.Standard.{expressions_evaluate}
 use Rattle.region_simulation.proofs.laws.expressions_evaluate.Goals as goal
 
 pub returns : goal.returns
