@@ -14,3 +14,4 @@ pub mod Calling
 pub mod Expressions
 pub mod Builtins
 pub mod Standard
+pub mod Offsets
