@@ -15,3 +15,4 @@ pub mod Expressions
 pub mod Builtins
 pub mod Standard
 pub mod Offsets
+pub mod Parts
