@@ -16,3 +16,4 @@ pub mod Builtins
 pub mod Standard
 pub mod Offsets
 pub mod Parts
+pub mod Writing
