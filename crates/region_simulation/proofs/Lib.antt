@@ -17,3 +17,4 @@ pub mod Standard
 pub mod Offsets
 pub mod Parts
 pub mod Writing
+pub mod Assigning

@@ -19,7 +19,7 @@ use Rattle.region_simulation.proofs.Offsets.{one_place}
 use Rattle.region_simulation.proofs.Parts.{set_typed, shaped_written, written_same, written_other}
 
 -- a list with another item at a place
-set_length : {A : Type 0} (xs : List A) (i : ℕ) (x : A) → length (slice_set xs i x) ≡ length xs
+pub set_length : {A : Type 0} (xs : List A) (i : ℕ) (x : A) → length (slice_set xs i x) ≡ length xs
 set_length [] i x = refl
 set_length (y ∷ xs) zero x = refl
 set_length (y ∷ xs) (suc i) x = ap suc (set_length xs i x)

@@ -10,3 +10,4 @@ pub mod Calls
 pub mod Evaluates
 pub mod Passes
 pub mod Expressions
+pub mod Writing

@@ -1,6 +1,7 @@
 // Laws of lowering: calls of no effect, whose contracts state what holds of every program.
 ghost use Rattle.region_simulation.specs.Expressions.{ExpressionsEvaluate};
 ghost use Rattle.region_simulation.specs.Value.{ValuesAreMeant};
+ghost use Rattle.region_simulation.specs.Writing.{AssignmentsStore, WritesStand};
 
 /// An expression that makes no call, in which each name stands for an int in reach, is lowered to a value with nothing before it. Where a
 /// state of regions stands for the source's world, the value is there what the expression means.
@@ -13,4 +14,15 @@ pub fn values_are_meant()
 /// evaluated left to right, and the right side of an operator that decides only where it decides.
 pub fn expressions_evaluate()
     ensures { ExpressionsEvaluate }
+{}
+
+/// Where the parts of objects do not overlap, a state after a write to memory stands for the world after the write to the object: that int is
+/// set, and every other int of every object stays.
+pub fn writes_stand()
+    ensures { WritesStand }
+{}
+
+/// An assignment to what names stand for is a store in their place, behind what comes before the value that is assigned.
+pub fn assignments_store()
+    ensures { AssignmentsStore }
 {}
