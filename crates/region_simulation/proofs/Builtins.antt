@@ -25,7 +25,7 @@ use Rattle.region_forms.specs.LowerExpression.{Lowering, result_slot, first_temp
 use Rattle.region_simulation.specs.Typed.{Shaped}
 use Rattle.region_simulation.specs.Places.{Places, Stood, address_along, Remembers}
 use Rattle.region_simulation.specs.Reach.{Reaches, KindsFit}
-use Rattle.region_simulation.specs.Stands.{world_of, IsMade, Stands, context_of}
+use Rattle.region_simulation.specs.Stands.{world_of, IsMade, AreHandlers, Stands, context_of}
 use Rattle.region_simulation.specs.Alike.{Keeps, Follows, Alike}
 use Rattle.region_simulation.specs.Calls.{SameArguments}
 use Rattle.region_simulation.specs.Evaluates.{IsComputed, Evaluates}
@@ -47,9 +47,9 @@ remembers_same l p at w w2 memory e m = record {
 
 -- a change of what is neither memory nor an object
 pub stands_changed : (l : Layout) (p : Checked) (at : Places) (c : SourceContext) (w w2 : SourceWorld) (s : State) (y : World)
-    → y ≡ world_of p c w2 s.world.memory s.world.calls → w2.objects ≡ w.objects → w2.live ≡ w.live → w2.last_number ≡ w.last_number → w2.turns ≡ w.turns
+    → y ≡ world_of p c w2 s.world.memory s.world.calls → w2.objects ≡ w.objects → w2.live ≡ w.live → w2.last_number ≡ w.last_number → w2.turns ≡ w.turns → AreHandlers p w2.installed
     → Stands l p at c w s → Stands l p at c w2 (record s { world = y })
-stands_changed l p at c w w2 s y is objects live last turns h =
+stands_changed l p at c w w2 s y is objects live last turns handlers h =
     subst (λ z. Stands l p at c w2 (record s { world = z })) (sym is) (record {
       world = refl;
       turns = h.turns ∙ sym turns;
@@ -57,6 +57,8 @@ stands_changed l p at c w w2 s y is objects live last turns h =
       globals = h.globals;
       exceptions = λ i e o t kept there. h.exceptions i e o t kept (subst (λ xs. slice_get xs i ≡ Some (record { number = e; exception = native t o kept })) live there);
       made = λ o x there. subst (λ n. IsMade s.world.calls n x.base) (sym last) (h.made o x there);
+      handlers = handlers;
+      kept = λ i e o t kept there. h.kept i e o t kept (subst (λ xs. slice_get xs i ≡ Some (record { number = e; exception = native t o kept })) live there);
     })
 
 -- the ints among arguments are those among the words that are passed
@@ -85,11 +87,11 @@ module _ (l : Lowering) (own : Option ℕ) (b : Running) (v : SourceFrame) (c : 
   -- a value is stored in a world that changed
   pub seen_alike : (at : Places) (w w2 : SourceWorld) (s : State) (d : Context) (y : World) (m n : ℤ) → Stands l.layout l.program at c w s → n ≡ m
       → y ≡ world_of l.program c w2 s.world.memory s.world.calls → w2.objects ≡ w.objects → w2.live ≡ w.live → w2.last_number ≡ w.last_number → w2.turns ≡ w.turns
-      → w2.open_calls ≡ w.open_calls
+      → w2.open_calls ≡ w.open_calls → AreHandlers l.program w2.installed
       → Alike l.layout l.program at t c w s Next (source_done m w2) (ending (perform b (finished b.kinds (Some (slot_place t)) n s.frame y) d s))
-  seen_alike at w w2 s d y m n stands same is objects live last turns opened =
+  seen_alike at w w2 s d y m n stands same is objects live last turns opened handlers =
       let s2 = record s { world = y } in
-      let stands2 = stands_changed l.layout l.program at c w w2 s y is objects live last turns stands in
+      let stands2 = stands_changed l.layout l.program at c w w2 s y is objects live last turns handlers stands in
       let calls : y.calls ≡ s.world.calls = ap (λ z. z.calls) is in
       let more = ap (λ os. length os) objects in
       let h : Follows l.layout l.program at t w s c w2 s2 = record {

@@ -20,7 +20,7 @@ use Rattle.region_simulation.specs.Places.{Places}
 use Rattle.region_simulation.specs.Reach.{Reaches, KindsFit}
 use Rattle.region_simulation.specs.Stands.{Stands, context_of}
 use Rattle.region_simulation.specs.Alike.{Follows, Alike}
-use Rattle.region_simulation.specs.Calls.{SameArguments, SamePassed, SameCalls}
+use Rattle.region_simulation.specs.Calls.{IsCallable, SameArguments, SamePassed, SameCalls}
 use Rattle.region_simulation.specs.Evaluates.{IsComputed, Evaluates, Everywhere}
 use Rattle.region_simulation.specs.Passes.{IsGiven, Passes}
 use Rattle.region_simulation.proofs.Following.{follows_on, alike_then, reaches_kept}
@@ -63,10 +63,10 @@ module _ (l : Lowering) (own : Option ℕ) (b : Running) (v : SourceFrame) (c : 
   pub call_case : (call : Callee → Reference → List SourceArgument → SourceContext → SourceAction ℤ)
       → SameCalls l.layout (record { program = l.program; call = call }) b
       → (types : List Ty) (act : SourceAction (List SourceArgument)) (y : LoweredArguments) (all : List Argument) (callee : Callee) (this : SourceWorld → Reference)
-      → IsReady types y.arguments all callee this → Passes l own b v c t types act y
+      → IsCallable l.program callee → IsReady types y.arguments all callee this → Passes l own b v c t types act y
       → Evaluates l own b v c t (act >>= (λ given w. call callee (this w) given c w))
       (in_temporary (y.before ++ stored_in t (call_value (defined (number_of l.program callee)) (arguments_from all)) ∷ []) t)
-  call_case call same types act y all callee this ready first at w s stands reach =
+  call_case call same types act y all callee this there ready first at w s stands reach =
       let ctx = context_of w.open_calls c in
       let next = IsComputed b.kinds (load (slot_place t)) in
       let last = stored_in t (call_value (defined (number_of l.program callee)) (arguments_from all)) in
@@ -78,7 +78,7 @@ module _ (l : Lowering) (own : Option ℕ) (b : Running) (v : SourceFrame) (c : 
       let (passed, is, ok) = ready h.places w2 s2 h.stands (reaches_kept l own v at t w s c c w2 s2 stands h (omega (arith, high)) reach) given words i passes in
       let made : Alike l.layout l.program h.places t c w2 s2 (λ m n w3 at3 s3. m ≡ n) (call callee (this w2) given c w2) (b.call (number_of l.program callee) passed ctx s2) =
       subst (λ m. Alike l.layout l.program h.places t c w2 s2 (λ m n w3 at3 s3. m ≡ n) (call callee (this w2) given c w2)
-      (b.call (number_of l.program callee) passed (context_of m c) s2)) h.open_calls (same h.places callee (this w2) given passed t c w2 s2 h.stands ok) in
+      (b.call (number_of l.program callee) passed (context_of m c) s2)) h.open_calls (same h.places callee (this w2) given passed t c w2 s2 there h.stands ok) in
       subst (λ f. Alike l.layout l.program h.places t c w2 s2 next (call callee (this w2) given c w2) (followed after f s2)) (sym fl)
       (subst (λ z. Alike l.layout l.program h.places t c w2 s2 next (call callee (this w2) given c w2)
       (continued (continued (perform b (if_some z (λ q. called b.kinds (defined (number_of l.program callee)) (Some (slot_place t)) q s2.frame s2.world)) ctx s2) (λ u. pure normal))

@@ -108,19 +108,19 @@ module _ (l : Lowering) (own : Option ℕ) (calls : Callee → Reference → Lis
   call_evaluates (Func n) object es t high can passes =
       call_case l own b v c fit t high calls same (types_for (parameter_types l.program (Func n)) es)
       (arguments (source_running l calls) v es (parameter_types l.program (Func n)) c) (lower_arguments l es (parameter_types l.program (Func n)) t)
-      (lower_arguments l es (parameter_types l.program (Func n)) t).arguments (function n) (λ w. nowhere)
+      (lower_arguments l es (parameter_types l.program (Func n)) t).arguments (function n) (λ w. nowhere) can.0
       (λ at w s stands reach given words i ok.
-      (words, i, subst (λ ts. SameArguments l.layout l.program at ts given words) (types_all (parameter_types l.program (Func n)) es can) ok)) passes
+      (words, i, subst (λ ts. SameArguments l.layout l.program at ts given words) (types_all (parameter_types l.program (Func n)) es can.1) ok)) passes
   call_evaluates (Method k i) object es t high can passes =
       call_case l own b v c fit t high calls same (types_for (parameter_types l.program (Method k i)) es)
       (arguments (source_running l calls) v es (parameter_types l.program (Method k i)) c) (lower_arguments l es (parameter_types l.program (Method k i)) t)
       (address_argument (place_of l object) ∷ (lower_arguments l es (parameter_types l.program (Method k i)) t).arguments) (method k i)
-      (λ w. as_class w k (lvalue l.program w v object))
+      (λ w. as_class w k (lvalue l.program w v object)) can.0
       (λ at w s stands reach given words j ok.
-      let x = class_addressed l own b.kinds v at c w s t (omega (arith, high)) fit reach stands object k can.1 in (
+      let x = class_addressed l own b.kinds v at c w s t (omega (arith, high)) fit reach stands object k can.2 in (
         address_word x.address ∷ words,
         words_address b.kinds s.frame s.world (place_of l object) (lower_arguments l es (parameter_types l.program (Method k i)) t).arguments x.address words (x.stays s.frame (keeps_all t s.frame)) j,
-        (x.address, x.refers, refl, subst (λ ts. SameArguments l.layout l.program at ts given words) (types_all (parameter_types l.program (Method k i)) es can.0) ok),
+        (x.address, x.refers, refl, subst (λ ts. SameArguments l.layout l.program at ts given words) (types_all (parameter_types l.program (Method k i)) es can.1) ok),
       )) passes
   call_evaluates (BuiltinBound f) object es t high can passes = builtins f object es t high can passes
   call_evaluates Free object es t high can passes = absurd can
@@ -130,7 +130,7 @@ module _ (l : Lowering) (own : Option ℕ) (calls : Callee → Reference → Lis
   call_evaluates (Class n) object es t high can passes = absurd can
 
   -- a function of the language, which takes ints
-  std_evaluates : (f : Bound) (es : Expressions) (t : ℕ) → first_temporary l ≤ t → IsStandard f es
+  std_evaluates : (f : Bound) (es : Expressions) (t : ℕ) → first_temporary l ≤ t → IsStandard l.program f es
       → UnlessHandler f (Passes l own b v c t (types_for [] es) (arguments (source_running l calls) v es [] c) (lower_arguments l es [] t))
       → Evaluates l own b v c t (called (source_running l calls) v f [] es (arguments (source_running l calls) v es [] c) c) (call_stored t (call_of l f [] es (lower_arguments l es [] t)))
   std_evaluates (BuiltinBound f) es t high can passes = builtins f [] es t high can passes

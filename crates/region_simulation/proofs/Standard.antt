@@ -22,7 +22,7 @@ use Rattle.region_forms.specs.Ending.{Running, perform}
 use Rattle.region_forms.specs.LowerExpression.{Lowering, first_temporary, slot_place, lower_arguments, handler_arguments}
 use Rattle.region_simulation.specs.Places.{Places}
 use Rattle.region_simulation.specs.Reach.{KindsFit}
-use Rattle.region_simulation.specs.Stands.{Stands, context_of}
+use Rattle.region_simulation.specs.Stands.{IsHandler, Stands, context_of}
 use Rattle.region_simulation.specs.Typing.{types_for}
 use Rattle.region_simulation.specs.Alike.{Alike}
 use Rattle.region_simulation.specs.Expressions.{source_running, SameBuiltin, SameBuiltins, ExpressionsEvaluate}
@@ -52,7 +52,7 @@ module _ (l : Lowering) (own : Option ℕ) (calls : SourceCallee → Reference �
       (λ at w s d given words stands ok.
       seen_alike l own b v c fit t high at w (record w { items = w.items ++ Line (value_at given 0) ∷ [] }) s d (with_item (Line (number_at words 0)) s.world) (pos 0) (pos 0) stands refl
       (ap (λ n. with_item (Line n) s.world) (number_passed l.layout l.program at (types_for [] es) given words 0 ok) ∙ ap (λ y. with_item (Line (value_at given 0)) y) stands.world)
-      refl refl refl refl refl) passes
+      refl refl refl refl refl stands.handlers) passes
 
   pub exits : SameBuiltin l own calls b v c Exit
   exits object es t high can passes =
@@ -75,7 +75,7 @@ module _ (l : Lowering) (own : Option ℕ) (calls : SourceCallee → Reference �
       )) passes
 
   pub read_byte : SameBuiltin l own calls b v c ReadByte
-  read_byte object (expression_then e es) t high can passes = let n = some_number can in absurd (omega (arith, n))
+  read_byte object (expression_then e es) t high can passes = let n = some_number can.0 in absurd (omega (arith, n))
     where
       some_number : {m n : ℕ} → Some m ≡ Some n → m ≡ n
       some_number e = cc e
@@ -86,10 +86,10 @@ module _ (l : Lowering) (own : Option ℕ) (calls : SourceCallee → Reference �
       subst (λ z. Alike l.layout l.program at t c w s (Next l own b v c fit t high) z
       (ending (perform b (called b.kinds (builtin ReadByte) (Some (slot_place t)) words s.frame s.world) d s))) (sym (next_is w.input w refl))
       (seen_alike l own b v c fit t high at w (record w { input = bytes_after w.input }) s d (record (s.world) { input = bytes_after s.world.input }) (byte_of w.input) (byte_of s.world.input) stands
-      (ap (λ y. byte_of y.input) stands.world) (ap {A = World} (λ y. record y { input = bytes_after y.input }) stands.world) refl refl refl refl refl)) passes
+      (ap (λ y. byte_of y.input) stands.world) (ap {A = World} (λ y. record y { input = bytes_after y.input }) stands.world) refl refl refl refl refl stands.handlers)) passes
 
   pub uncaught : SameBuiltin l own calls b v c Uncaught
-  uncaught object (expression_then e es) t high can passes = let n = some_number can in absurd (omega (arith, n))
+  uncaught object (expression_then e es) t high can passes = let n = some_number can.0 in absurd (omega (arith, n))
     where
       some_number : {m n : ℕ} → Some m ≡ Some n → m ≡ n
       some_number e = cc e
@@ -98,35 +98,35 @@ module _ (l : Lowering) (own : Option ℕ) (calls : SourceCallee → Reference �
       (λ vs. source_pure (truth (is_travelling c.travelling)))
       (λ at w s d given words stands ok.
       seen_alike l own b v c fit t high at w w s d s.world (truth (is_travelling c.travelling)) (truth (some_travel s.world.uncaught)) stands
-      (ap (λ y. truth (some_travel y.uncaught)) stands.world ∙ ap (λ x. truth x) (travels c.travelling)) stands.world refl refl refl refl refl) passes
+      (ap (λ y. truth (some_travel y.uncaught)) stands.world ∙ ap (λ x. truth x) (travels c.travelling)) stands.world refl refl refl refl refl stands.handlers) passes
 
   pub set_terminate : SameBuiltin l own calls b v c SetTerminate
-  set_terminate object es t high can passes at w s stands reach = go (function_named es)
+  set_terminate object es t high can passes at w s stands reach = go (function_named es) can.1
     where
-      go : (h : Option ℕ) → Alike l.layout l.program at t c w s (Next l own b v c fit t high)
+      go : (h : Option ℕ) → IsHandler l.program h → Alike l.layout l.program at t c w s (Next l own b v c fit t high)
           (source_done (pos 0) (record w { installed = record (w.installed) { terminate_handler = h } }))
           (ending (perform b (if_some (words_in b.kinds s.frame s.world (arguments_from (handler_arguments h)))
           (λ given. called b.kinds (builtin SetTerminate) (Some (slot_place t)) given s.frame s.world)) (context_of w.open_calls c) s))
-      go None = seen_alike l own b v c fit t high at w (record w { installed = record (w.installed) { terminate_handler = None } }) s (context_of w.open_calls c)
+      go None there = seen_alike l own b v c fit t high at w (record w { installed = record (w.installed) { terminate_handler = None } }) s (context_of w.open_calls c)
           (record (s.world) { installed = record (s.world.installed) { terminate_handler = None } }) (pos 0) (pos 0) stands refl
-          (ap {A = World} (λ y. record y { installed = record (y.installed) { terminate_handler = None } }) stands.world) refl refl refl refl refl
-      go (Some n) = seen_alike l own b v c fit t high at w (record w { installed = record (w.installed) { terminate_handler = Some n } }) s (context_of w.open_calls c)
+          (ap {A = World} (λ y. record y { installed = record (y.installed) { terminate_handler = None } }) stands.world) refl refl refl refl refl (there, stands.handlers.1)
+      go (Some n) there = seen_alike l own b v c fit t high at w (record w { installed = record (w.installed) { terminate_handler = Some n } }) s (context_of w.open_calls c)
           (record (s.world) { installed = record (s.world.installed) { terminate_handler = Some n } }) (pos 0) (pos 0) stands refl
-          (ap {A = World} (λ y. record y { installed = record (y.installed) { terminate_handler = Some n } }) stands.world) refl refl refl refl refl
+          (ap {A = World} (λ y. record y { installed = record (y.installed) { terminate_handler = Some n } }) stands.world) refl refl refl refl refl (there, stands.handlers.1)
 
   pub set_unexpected : SameBuiltin l own calls b v c SetUnexpected
-  set_unexpected object es t high can passes at w s stands reach = go (function_named es)
+  set_unexpected object es t high can passes at w s stands reach = go (function_named es) can.1
     where
-      go : (h : Option ℕ) → Alike l.layout l.program at t c w s (Next l own b v c fit t high)
+      go : (h : Option ℕ) → IsHandler l.program h → Alike l.layout l.program at t c w s (Next l own b v c fit t high)
           (source_done (pos 0) (record w { installed = record (w.installed) { unexpected_handler = h } }))
           (ending (perform b (if_some (words_in b.kinds s.frame s.world (arguments_from (handler_arguments h)))
           (λ given. called b.kinds (builtin SetUnexpected) (Some (slot_place t)) given s.frame s.world)) (context_of w.open_calls c) s))
-      go None = seen_alike l own b v c fit t high at w (record w { installed = record (w.installed) { unexpected_handler = None } }) s (context_of w.open_calls c)
+      go None there = seen_alike l own b v c fit t high at w (record w { installed = record (w.installed) { unexpected_handler = None } }) s (context_of w.open_calls c)
           (record (s.world) { installed = record (s.world.installed) { unexpected_handler = None } }) (pos 0) (pos 0) stands refl
-          (ap {A = World} (λ y. record y { installed = record (y.installed) { unexpected_handler = None } }) stands.world) refl refl refl refl refl
-      go (Some n) = seen_alike l own b v c fit t high at w (record w { installed = record (w.installed) { unexpected_handler = Some n } }) s (context_of w.open_calls c)
+          (ap {A = World} (λ y. record y { installed = record (y.installed) { unexpected_handler = None } }) stands.world) refl refl refl refl refl (stands.handlers.0, there)
+      go (Some n) there = seen_alike l own b v c fit t high at w (record w { installed = record (w.installed) { unexpected_handler = Some n } }) s (context_of w.open_calls c)
           (record (s.world) { installed = record (s.world.installed) { unexpected_handler = Some n } }) (pos 0) (pos 0) stands refl
-          (ap {A = World} (λ y. record y { installed = record (y.installed) { unexpected_handler = Some n } }) stands.world) refl refl refl refl refl
+          (ap {A = World} (λ y. record y { installed = record (y.installed) { unexpected_handler = Some n } }) stands.world) refl refl refl refl refl (stands.handlers.0, there)
 
   -- so each does, where the two that raise or terminate do
   pub builtins_same : SameBuiltin l own calls b v c Terminate → SameBuiltin l own calls b v c Module → SameBuiltins l own calls b v c
@@ -139,7 +139,7 @@ module _ (l : Lowering) (own : Option ℕ) (calls : SourceCallee → Reference �
   builtins_same terminates modules SetTerminate = set_terminate
   builtins_same terminates modules SetUnexpected = set_unexpected
   builtins_same terminates modules Uncaught = uncaught
-  builtins_same terminates modules BadException = λ object es t high can passes. absurd (none_is (count_of es) can)
+  builtins_same terminates modules BadException = λ object es t high can passes. absurd (none_is (count_of es) can.0)
     where
       none_is : (n : ℕ) → None ≡ Some n → ⊥
       none_is n e = cc e

@@ -163,4 +163,6 @@ stands_written l p apart at c w s r a v h refers = record {
   globals = h.globals;
   exceptions = h.exceptions;
   made = h.made;
+  handlers = h.handlers;
+  kept = h.kept;
 }

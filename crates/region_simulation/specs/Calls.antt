@@ -1,16 +1,19 @@
 -- That calls of a source and calls of regions do the same.
-use Rattle.std.specs.Prelude.{◌≡◌, ℕ, ℤ, List, [], ◌∷◌}
+use Rattle.std.specs.Prelude.{◌≡◌, ℕ, ◌<◌, ℤ, true, false, List, [], ◌∷◌, length}
 use Rattle.cxx_ast.specs.declared.types.Ty.{Ty}
+use Rattle.cxx_ast.specs.declared.declaration.FuncKind.TheVariants.{Plain}
 use Rattle.cxx_ast.specs.Plain.{Checked}
-use Rattle.scope_rules.specs.Class.{class_type, object_type, function_at, method_at}
+use Rattle.scope_rules.specs.Class.{class_type, object_type, class_at, function_at, method_at}
+use Rattle.scope_rules.specs.Construct.{is_constructor}
 use Rattle.scope_rules.specs.World.{World as SourceWorld, Reference}
 use Rattle.scope_rules.specs.Context.{Context as SourceContext}
-use Rattle.scope_rules.specs.Running.{Running as SourceRunning, Argument, by_value, by_reference, Callee, function, method, constructor, destructor}
+use Rattle.scope_rules.specs.Running.{Running as SourceRunning, Argument, by_value, by_reference, Callee, function, method, constructor, destructor, declared, implicit_default, implicit_copy}
 use Rattle.scope_rules.specs.Expression.{types_of, constructor_types}
 use Rattle.region_forms.specs.Layout.{Layout}
 use Rattle.region_forms.specs.World.{Address, Word, number_word, address_word}
 use Rattle.region_forms.specs.Outcome.{State}
 use Rattle.region_forms.specs.Ending.{Running}
+use Rattle.region_forms.specs.LowerProgram.{some_constructor}
 use Rattle.region_forms.specs.Numbering.{number_of}
 use Rattle.region_simulation.specs.Places.{Places, Refers}
 use Rattle.region_simulation.specs.Stands.{Stands, context_of}
@@ -33,6 +36,15 @@ SameOwn l p at k this types given [] = ⊥
 SameOwn l p at k this types given (x ∷ words) =
     (a : Address) × Refers l p at this (class_type k) a × (x ≡ address_word a) × SameArguments l p at types given words
 
+-- What can be called: a function that is there, by what it is; an implicit default constructor is there where no constructor is declared.
+abbrev pub IsCallable : Checked → Callee → Type 0
+IsCallable p (function n) = n < length p.functions
+IsCallable p (method k i) = (k < length p.classes) × (i < length (class_at p k).functions) × ((method_at p k i).kind ≡ Plain)
+IsCallable p (constructor k (declared i)) = (k < length p.classes) × (i < length (class_at p k).functions) × (is_constructor (method_at p k i).kind ≡ true)
+IsCallable p (constructor k implicit_default) = (k < length p.classes) × (some_constructor (class_at p k).functions ≡ false)
+IsCallable p (constructor k implicit_copy) = k < length p.classes
+IsCallable p (destructor k) = k < length p.classes
+
 -- what is passed in a call
 abbrev pub SamePassed : Layout → Checked → Places → Callee → Reference → List Argument → List Word → Type 0
 SamePassed l p at (function n) this given words = SameArguments l p at (types_of (function_at p n).parameters) given words
@@ -44,5 +56,5 @@ SamePassed l p at (destructor k) this given words = SameOwn l p at k this [] giv
 abbrev pub SameCalls : Layout → SourceRunning → Running → Type 0
 SameCalls l a b =
     (at : Places) (callee : Callee) (this : Reference) (given : List Argument) (words : List Word) (k : ℕ) (c : SourceContext) (w : SourceWorld) (s : State)
-    → Stands l a.program at c w s → SamePassed l a.program at callee this given words
+    → IsCallable a.program callee → Stands l a.program at c w s → SamePassed l a.program at callee this given words
     → Alike l a.program at k c w s (λ x y w2 at2 s2. x ≡ y) (a.call callee this given c w) (b.call (number_of a.program callee) words (context_of w.open_calls c) s)

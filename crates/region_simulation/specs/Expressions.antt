@@ -26,7 +26,7 @@ source_running l call = record { program = l.program; call = call }
 -- a built-in function that can be called does the same, with arguments that are passed alike
 abbrev pub SameBuiltin : Lowering → (own : Option ℕ) → (Callee → Reference → List SourceArgument → SourceContext → SourceAction ℤ) → Running → SourceFrame → SourceContext → Builtin → Type 0
 SameBuiltin l own call b v c f =
-    (object : List Name) (es : Expressions) (t : ℕ) → first_temporary l ≤ t → IsStandard (BuiltinBound f) es
+    (object : List Name) (es : Expressions) (t : ℕ) → first_temporary l ≤ t → IsStandard l.program (BuiltinBound f) es
     → UnlessHandler (BuiltinBound f) (Passes l own b v c t (types_for [] es) (arguments (source_running l call) v es [] c) (lower_arguments l es [] t))
     → Evaluates l own b v c t (called (source_running l call) v (BuiltinBound f) object es (arguments (source_running l call) v es [] c) c)
     (call_stored t (call_of l (BuiltinBound f) object es (lower_arguments l es [] t)))

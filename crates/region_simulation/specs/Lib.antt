@@ -2,11 +2,11 @@ pub mod Typed
 pub mod Places
 pub mod Reach
 pub mod Names
-pub mod Typing
 pub mod Stands
 pub mod Value
 pub mod Alike
 pub mod Calls
+pub mod Typing
 pub mod Evaluates
 pub mod Passes
 pub mod Expressions

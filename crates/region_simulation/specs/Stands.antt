@@ -1,7 +1,7 @@
 -- A state of regions that stands for a world of a source in a context.
-use Rattle.std.specs.Prelude.{◌≡◌, ℕ, ◌<◌, ◌≤◌, ℤ, List, map, length, Option, Some, None, slice_get}
+use Rattle.std.specs.Prelude.{◌≡◌, ℕ, ◌<◌, ◌≤◌, ℤ, List, [], map, length, Option, Some, None, slice_get}
 use Rattle.cxx_ast.specs.Plain.{Checked}
-use Rattle.scope_rules.specs.Class.{ObjectType, int_type}
+use Rattle.scope_rules.specs.Class.{ObjectType, int_type, function_at}
 use Rattle.scope_rules.specs.World.{World as SourceWorld, Live as SourceLive, Exception as SourceException, Installed, building as source_building, native as source_native, foreign as source_foreign}
 use Rattle.scope_rules.specs.Context.{Context as SourceContext, Clause as SourceClause, catch_all, catch_type, Guard as SourceGuard, try_block, specification, barrier as source_barrier}
 use Rattle.region_forms.specs.Caught.{caught_of}
@@ -61,8 +61,17 @@ IsMade calls last (of_global g) = Unit {0}
 IsMade calls last (of_variable c s) = c < calls
 IsMade calls last (of_exception e) = e ≤ last
 
+-- a handler that is set is a function of the program without parameters
+abbrev pub IsHandler : Checked → Option ℕ → Type 0
+IsHandler p None = Unit {0}
+IsHandler p (Some n) = (n < length p.functions) × ((function_at p n).parameters ≡ [])
+
+-- both handlers are
+abbrev pub AreHandlers : Checked → Installed → Type 0
+AreHandlers p x = IsHandler p x.terminate_handler × IsHandler p x.unexpected_handler
+
 -- The state stands for the world: what both see is the same, memory holds what objects hold, a global stands at itself, the object of a
--- native exception at that exception, and nothing at a call or an exception that is to come.
+-- native exception at that exception, and nothing at a call or an exception that is to come. Handlers that are set or kept can be called.
 pub record Stands (l : Layout) (p : Checked) (at : Places) (c : SourceContext) (w : SourceWorld) (s : State) : Type 0 where
   pub world : s.world ≡ world_of p c w s.world.memory s.world.calls
   pub turns : s.turns ≡ w.turns
@@ -71,3 +80,5 @@ pub record Stands (l : Layout) (p : Checked) (at : Places) (c : SourceContext) (
   pub exceptions : (i : ℕ) (e o : ℕ) (t : ObjectType) (kept : Installed) → slice_get w.live i ≡ Some (record { number = e; exception = source_native t o kept })
       → at o ≡ Some (record { base = of_exception e; type = t })
   pub made : (o : ℕ) (x : Stood) → at o ≡ Some x → IsMade s.world.calls w.last_number x.base
+  pub handlers : AreHandlers p w.installed
+  pub kept : (i : ℕ) (e o : ℕ) (t : ObjectType) (kept : Installed) → slice_get w.live i ≡ Some (record { number = e; exception = source_native t o kept }) → AreHandlers p kept

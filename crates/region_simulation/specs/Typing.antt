@@ -7,12 +7,15 @@ use Rattle.cxx_ast.specs.declared.name.Builtin.TheVariants.{WriteInt, ReadByte, 
 use Rattle.cxx_ast.specs.declared.name.Name.{Name}
 use Rattle.cxx_ast.specs.declared.types.Ty.{Ty}
 use Rattle.cxx_ast.specs.declared.types.Ty.TheVariants.{Int, IntRef, ObjectRef}
-use Rattle.cxx_ast.specs.Plain.{Expression, number, path, paren, unary, binary, call, std_call, Expressions, no_expressions, expression_then}
+use Rattle.cxx_ast.specs.Plain.{Checked, Expression, number, path, paren, unary, binary, call, std_call, Expressions, no_expressions, expression_then}
 use Rattle.scope_rules.specs.Class.{ObjectType, int_type, class_type, class_named, derives}
 use Rattle.scope_rules.specs.Frame.{Variable}
-use Rattle.scope_rules.specs.Expression.{lvalue_of, names_of, count_of, callee_bound, receiver, parameter_types}
+use Rattle.scope_rules.specs.Expression.{lvalue_of, names_of, count_of, function_named, callee_bound, receiver, parameter_types}
 use Rattle.region_forms.specs.LowerExpression.{Lowering}
+use Rattle.scope_rules.specs.Running.{function, method}
+use Rattle.region_simulation.specs.Calls.{IsCallable}
 use Rattle.region_simulation.specs.Names.{AreNamed}
+use Rattle.region_simulation.specs.Stands.{IsHandler}
 
 -- names stand for an object of class k, or of one derived from it
 abbrev pub AreOfClass : Lowering → (own : Option ℕ) → List Variable → ℕ → List Name → Type 0
@@ -37,10 +40,16 @@ standard_count SetUnexpected = Some 1
 standard_count Uncaught = Some 0
 standard_count BadException = None
 
+-- what is given to be set as a handler is one
+abbrev pub GivesHandler : Checked → Builtin → Expressions → Type 0
+GivesHandler p SetTerminate es = IsHandler p (function_named es)
+GivesHandler p SetUnexpected es = IsHandler p (function_named es)
+GivesHandler p _ es = Unit {0}
+
 -- a function of the language with its arguments
-abbrev pub IsStandard : Bound → Expressions → Type 0
-IsStandard (BuiltinBound f) es = standard_count f ≡ Some (count_of es)
-IsStandard _ es = ⊥
+abbrev pub IsStandard : Checked → Bound → Expressions → Type 0
+IsStandard p (BuiltinBound f) es = (standard_count f ≡ Some (count_of es)) × GivesHandler p f es
+IsStandard p _ es = ⊥
 
 -- said of the arguments of a call, but of those that set a handler: the name of the function is not evaluated
 abbrev pub UnlessHandler : Bound → Type 0 → Type 0
@@ -50,9 +59,10 @@ UnlessHandler _ said = said
 
 -- what a name is bound to can be called on the object that names stand for, with so many arguments
 abbrev pub CanCall : Lowering → (own : Option ℕ) → List Variable → Bound → List Name → Expressions → Type 0
-CanCall l own xs (Func n) object es = count_of es ≡ length (parameter_types l.program (Func n))
-CanCall l own xs (Method k i) object es = (count_of es ≡ length (parameter_types l.program (Method k i))) × AreOfClass l own xs k object
-CanCall l own xs (BuiltinBound f) object es = IsStandard (BuiltinBound f) es
+CanCall l own xs (Func n) object es = IsCallable l.program (function n) × (count_of es ≡ length (parameter_types l.program (Func n)))
+CanCall l own xs (Method k i) object es =
+    IsCallable l.program (method k i) × (count_of es ≡ length (parameter_types l.program (Method k i))) × AreOfClass l own xs k object
+CanCall l own xs (BuiltinBound f) object es = IsStandard l.program (BuiltinBound f) es
 CanCall l own xs _ object es = ⊥
 
 -- each name that an expression reads names an int, and each call can be made
@@ -66,7 +76,7 @@ abbrev mutual
   IsTyped l own xs (call names es) =
       CanCall l own xs (callee_bound names) (receiver names) es ×
       UnlessHandler (callee_bound names) (AreTyped l own xs es (parameter_types l.program (callee_bound names)))
-  IsTyped l own xs (std_call n es place) = IsStandard n.bound es × UnlessHandler n.bound (AreTyped l own xs es [])
+  IsTyped l own xs (std_call n es place) = IsStandard l.program n.bound es × UnlessHandler n.bound (AreTyped l own xs es [])
 
   -- arguments can be passed for parameters of these types
   pub AreTyped : Lowering → (own : Option ℕ) → List Variable → Expressions → List Ty → Type 0
