@@ -25,7 +25,7 @@ use Rattle.region_forms.specs.LowerExpression.{Lowering, result_slot, first_temp
 use Rattle.region_simulation.specs.Typed.{Shaped}
 use Rattle.region_simulation.specs.Places.{Places, Stood, address_along, Remembers}
 use Rattle.region_simulation.specs.Reach.{Reaches, KindsFit}
-use Rattle.region_simulation.specs.Stands.{world_of, IsMade, AreHandlers, Stands, context_of}
+use Rattle.region_simulation.specs.Stands.{world_of, IsMade, IsSound, AreHandlers, Stands, context_of}
 use Rattle.region_simulation.specs.Alike.{Keeps, Follows, Alike}
 use Rattle.region_simulation.specs.Calls.{SameArguments}
 use Rattle.region_simulation.specs.Evaluates.{IsComputed, Evaluates}
@@ -57,6 +57,7 @@ stands_changed l p at c w w2 s y is objects live last turns handlers h =
       globals = h.globals;
       exceptions = λ i e o t kept there. h.exceptions i e o t kept (subst (λ xs. slice_get xs i ≡ Some (record { number = e; exception = native t o kept })) live there);
       made = λ o x there. subst (λ n. IsMade s.world.calls n x.base) (sym last) (h.made o x there);
+      sound = subst (λ n. IsSound c n w2.live) (sym last) (subst (λ xs. IsSound c w.last_number xs) (sym live) h.sound);
       handlers = handlers;
       kept = λ i e o t kept there. h.kept i e o t kept (subst (λ xs. slice_get xs i ≡ Some (record { number = e; exception = native t o kept })) live there);
     })

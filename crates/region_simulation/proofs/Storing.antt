@@ -78,6 +78,7 @@ follows_stored l p at k c w s t x le stands = record {
     globals = stands.globals;
     exceptions = stands.exceptions;
     made = stands.made;
+    sound = stands.sound;
     handlers = stands.handlers;
     kept = stands.kept;
   };

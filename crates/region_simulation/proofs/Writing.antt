@@ -163,6 +163,7 @@ stands_written l p apart at c w s r a v h refers = record {
   globals = h.globals;
   exceptions = h.exceptions;
   made = h.made;
+  sound = h.sound;
   handlers = h.handlers;
   kept = h.kept;
 }

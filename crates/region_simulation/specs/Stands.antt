@@ -1,10 +1,10 @@
 -- A state of regions that stands for a world of a source in a context.
-use Rattle.std.specs.Prelude.{◌≡◌, ℕ, ◌<◌, ◌≤◌, ℤ, List, [], map, length, Option, Some, None, slice_get}
+use Rattle.std.specs.Prelude.{◌≡◌, ℕ, ◌<◌, ◌≤◌, ℤ, true, List, [], ◌∷◌, map, length, Option, Some, None, slice_get}
 use Rattle.cxx_ast.specs.Plain.{Checked}
-use Rattle.scope_rules.specs.Class.{ObjectType, int_type, function_at}
+use Rattle.scope_rules.specs.Class.{ObjectType, int_type, contains, function_at}
 use Rattle.scope_rules.specs.World.{World as SourceWorld, Live as SourceLive, Exception as SourceException, Installed, building as source_building, native as source_native, foreign as source_foreign}
 use Rattle.scope_rules.specs.Context.{Context as SourceContext, Clause as SourceClause, catch_all, catch_type, Guard as SourceGuard, try_block, specification, barrier as source_barrier}
-use Rattle.region_forms.specs.Caught.{caught_of}
+use Rattle.region_forms.specs.Caught.{caught_of, only_front}
 use Rattle.region_forms.specs.World.{Base, of_global, of_variable, of_exception, Address, World, Exception, building, native, foreign, Live}
 use Rattle.region_forms.specs.Guard.{Guard, clauses, listed, everything}
 use Rattle.region_forms.specs.Outcome.{State, Context}
@@ -61,6 +61,20 @@ IsMade calls last (of_global g) = Unit {0}
 IsMade calls last (of_variable c s) = c < calls
 IsMade calls last (of_exception e) = e ≤ last
 
+-- the entries of each exception among the handled ones stand side by side
+abbrev pub AreTogether : List ℕ → Type 0
+AreTogether [] = Unit {0}
+AreTogether (e ∷ es) = (only_front e es ≡ true) × AreTogether es
+
+-- What is handled, what travels and what is live was made, so an exception to come has another number. The handled ones stand as they do
+-- where handlers are entered and left, and those that travel again in front.
+pub record IsSound (c : SourceContext) (last : ℕ) (lives : List SourceLive) : Type 0 where
+  pub handled : (e : ℕ) → contains c.handled e ≡ true → e ≤ last
+  pub travelling : (e : ℕ) → contains c.travelling e ≡ true → e ≤ last
+  pub live : (i : ℕ) (x : SourceLive) → slice_get lives i ≡ Some x → x.number ≤ last
+  pub together : AreTogether c.handled
+  pub front : (e : ℕ) → contains c.travelling e ≡ true → only_front e c.handled ≡ true
+
 -- a handler that is set is a function of the program without parameters
 abbrev pub IsHandler : Checked → Option ℕ → Type 0
 IsHandler p None = Unit {0}
@@ -71,7 +85,8 @@ abbrev pub AreHandlers : Checked → Installed → Type 0
 AreHandlers p x = IsHandler p x.terminate_handler × IsHandler p x.unexpected_handler
 
 -- The state stands for the world: what both see is the same, memory holds what objects hold, a global stands at itself, the object of a
--- native exception at that exception, and nothing at a call or an exception that is to come. Handlers that are set or kept can be called.
+-- native exception at that exception, and nothing at a call or an exception that is to come. Handlers that are set or kept
+-- can be called.
 pub record Stands (l : Layout) (p : Checked) (at : Places) (c : SourceContext) (w : SourceWorld) (s : State) : Type 0 where
   pub world : s.world ≡ world_of p c w s.world.memory s.world.calls
   pub turns : s.turns ≡ w.turns
@@ -80,5 +95,6 @@ pub record Stands (l : Layout) (p : Checked) (at : Places) (c : SourceContext) (
   pub exceptions : (i : ℕ) (e o : ℕ) (t : ObjectType) (kept : Installed) → slice_get w.live i ≡ Some (record { number = e; exception = source_native t o kept })
       → at o ≡ Some (record { base = of_exception e; type = t })
   pub made : (o : ℕ) (x : Stood) → at o ≡ Some x → IsMade s.world.calls w.last_number x.base
+  pub sound : IsSound c w.last_number w.live
   pub handlers : AreHandlers p w.installed
   pub kept : (i : ℕ) (e o : ℕ) (t : ObjectType) (kept : Installed) → slice_get w.live i ≡ Some (record { number = e; exception = source_native t o kept }) → AreHandlers p kept
