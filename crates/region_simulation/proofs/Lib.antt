@@ -18,3 +18,4 @@ pub mod Offsets
 pub mod Parts
 pub mod Writing
 pub mod Assigning
+pub mod First

@@ -20,11 +20,11 @@ into p k i path t e = go (slice_get (parts_of p k) i) refl e
     go None is e = absurd (cc e)
     go (Some u) is e = record { type = u; part = is; typed = e }
 
-nothing_there : (path : List ℕ) → part_at (cell None) path ≡ cell None
+pub nothing_there : (path : List ℕ) → part_at (cell None) path ≡ cell None
 nothing_there [] = refl
 nothing_there (i ∷ path) = nothing_there path
 
-not_set : (v : ℤ) → cell None ≡ cell (Some v) → ⊥
+pub not_set : (v : ℤ) → cell None ≡ cell (Some v) → ⊥
 not_set v e = cc e
 
 nth_none : (p : Checked) (types : List ObjectType) (parts : Parts) (i : ℕ) → AllShaped p types parts → slice_get types i ≡ None → nth_part parts i ≡ cell None
@@ -100,6 +100,16 @@ written_same p (class_type k) (object c parts) (i ∷ path) x h e =
 type_int : (p : Checked) (t : ObjectType) (i : ℕ) (path : List ℕ) → Some t ≡ Some int_type → type_along p t (i ∷ path) ≡ Some int_type → ⊥
 type_int p t i path e f = let g : None ≡ Some int_type = subst (λ x. type_along p x (i ∷ path) ≡ Some int_type) (some_same e) f in cc g
 
+pub same_or_not : (m n : ℕ) → (m ≡ n) ⊎ (m ≡ n → ⊥)
+same_or_not zero zero = inl refl
+same_or_not zero (suc n) = inr (λ e. absurd (omega (arith, e)))
+same_or_not (suc m) zero = inr (λ e. absurd (omega (arith, e)))
+same_or_not (suc m) (suc n) = next (same_or_not m n)
+  where
+    next : (m ≡ n) ⊎ (m ≡ n → ⊥) → (suc m ≡ suc n) ⊎ (suc m ≡ suc n → ⊥)
+    next (inl e) = inl (ap suc e)
+    next (inr ne) = inr (λ e. ne (omega (arith, e)))
+
 -- every other int stays
 pub written_other : (p : Checked) (t : ObjectType) (a : Part) (path other : List ℕ) (x : Option ℤ) → Shaped p t a → type_along p t path ≡ Some int_type
     → type_along p t other ≡ Some int_type → (path ≡ other → ⊥) → part_at (with_part_at a path (cell x)) other ≡ part_at a other
@@ -112,18 +122,8 @@ written_other p (class_type k) (object c parts) (i ∷ path) (j ∷ other) x h e
     let s = into p k i path int_type e in
     let r = into p k j other int_type f in
     let shaped = nth_shaped p (parts_of p k) parts i s.type h.1 s.part in
-    go s.type r.type s.part r.part s.typed r.typed shaped (λ f2 ne2. written_other p s.type (nth_part parts i) path other x shaped s.typed f2 ne2) (dec i j)
+    go s.type r.type s.part r.part s.typed r.typed shaped (λ f2 ne2. written_other p s.type (nth_part parts i) path other x shaped s.typed f2 ne2) (same_or_not i j)
   where
-    dec : (m n : ℕ) → (m ≡ n) ⊎ (m ≡ n → ⊥)
-    dec zero zero = inl refl
-    dec zero (suc n) = inr (λ e. absurd (omega (arith, e)))
-    dec (suc m) zero = inr (λ e. absurd (omega (arith, e)))
-    dec (suc m) (suc n) = next (dec m n)
-      where
-        next : (m ≡ n) ⊎ (m ≡ n → ⊥) → (suc m ≡ suc n) ⊎ (suc m ≡ suc n → ⊥)
-        next (inl e) = inl (ap suc e)
-        next (inr ne) = inr (λ e. ne (omega (arith, e)))
-
     go : (u y : ObjectType) → slice_get (parts_of p k) i ≡ Some u → slice_get (parts_of p k) j ≡ Some y → type_along p u path ≡ Some int_type → type_along p y other ≡ Some int_type
         → Shaped p u (nth_part parts i)
         → (type_along p u other ≡ Some int_type → (path ≡ other → ⊥) → part_at (with_part_at (nth_part parts i) path (cell x)) other ≡ part_at (nth_part parts i) other)

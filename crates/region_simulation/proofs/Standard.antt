@@ -26,6 +26,7 @@ use Rattle.region_simulation.specs.Stands.{IsHandler, Stands, context_of}
 use Rattle.region_simulation.specs.Typing.{types_for}
 use Rattle.region_simulation.specs.Alike.{Alike}
 use Rattle.region_simulation.specs.Expressions.{source_running, SameBuiltin, SameBuiltins, ExpressionsEvaluate}
+use Rattle.region_simulation.proofs.Paths.{some_same}
 use Rattle.region_simulation.proofs.Following.{follows_now}
 use Rattle.region_simulation.proofs.Expressions.{expression_evaluates}
 use Rattle.region_simulation.proofs.Builtins.{number_passed, ending, Next, seen_alike, builtin_case}
@@ -75,10 +76,7 @@ module _ (l : Lowering) (own : Option ℕ) (calls : SourceCallee → Reference �
       )) passes
 
   pub read_byte : SameBuiltin l own calls b v c ReadByte
-  read_byte object (expression_then e es) t high can passes = let n = some_number can.0 in absurd (omega (arith, n))
-    where
-      some_number : {m n : ℕ} → Some m ≡ Some n → m ≡ n
-      some_number e = cc e
+  read_byte object (expression_then e es) t high can passes = let n = some_same can.0 in absurd (omega (arith, n))
   read_byte object no_expressions t high can passes =
       builtin_case l own b v c fit t high [] (source_pure []) (lower_arguments l no_expressions [] t) (builtin ReadByte)
       (λ vs w. next_byte w.input w)
@@ -89,10 +87,7 @@ module _ (l : Lowering) (own : Option ℕ) (calls : SourceCallee → Reference �
       (ap (λ y. byte_of y.input) stands.world) (ap {A = World} (λ y. record y { input = bytes_after y.input }) stands.world) refl refl refl refl refl stands.handlers)) passes
 
   pub uncaught : SameBuiltin l own calls b v c Uncaught
-  uncaught object (expression_then e es) t high can passes = let n = some_number can.0 in absurd (omega (arith, n))
-    where
-      some_number : {m n : ℕ} → Some m ≡ Some n → m ≡ n
-      some_number e = cc e
+  uncaught object (expression_then e es) t high can passes = let n = some_same can.0 in absurd (omega (arith, n))
   uncaught object no_expressions t high can passes =
       builtin_case l own b v c fit t high [] (source_pure []) (lower_arguments l no_expressions [] t) (builtin Uncaught)
       (λ vs. source_pure (truth (is_travelling c.travelling)))

@@ -16,7 +16,7 @@ use Rattle.region_simulation.specs.Places.{Places, Stood, address_along, Refers,
 use Rattle.region_simulation.specs.Stands.{Stands}
 use Rattle.region_simulation.proofs.Paths.{some_same}
 use Rattle.region_simulation.proofs.Offsets.{one_place}
-use Rattle.region_simulation.proofs.Parts.{set_typed, shaped_written, written_same, written_other}
+use Rattle.region_simulation.proofs.Parts.{same_or_not, set_typed, shaped_written, written_same, written_other}
 
 -- a list with another item at a place
 pub set_length : {A : Type 0} (xs : List A) (i : ℕ) (x : A) → length (slice_set xs i x) ≡ length xs
@@ -35,16 +35,6 @@ set_other (y ∷ xs) zero zero x ne = absurd (ne refl)
 set_other (y ∷ xs) zero (suc j) x ne = refl
 set_other (y ∷ xs) (suc i) zero x ne = refl
 set_other (y ∷ xs) (suc i) (suc j) x ne = set_other xs i j x (λ e. ne (ap suc e))
-
-same_or_not : (m n : ℕ) → (m ≡ n) ⊎ (m ≡ n → ⊥)
-same_or_not zero zero = inl refl
-same_or_not zero (suc n) = inr (λ e. absurd (omega (arith, e)))
-same_or_not (suc m) zero = inr (λ e. absurd (omega (arith, e)))
-same_or_not (suc m) (suc n) = next (same_or_not m n)
-  where
-    next : (m ≡ n) ⊎ (m ≡ n → ⊥) → (suc m ≡ suc n) ⊎ (suc m ≡ suc n → ⊥)
-    next (inl e) = inl (ap suc e)
-    next (inr ne) = inr (λ e. ne (omega (arith, e)))
 
 both_true : (a b : Bool) → (a && b) ≡ true → (a ≡ true) × (b ≡ true)
 both_true true true e = (refl, refl)

@@ -11,3 +11,4 @@ pub mod Evaluates
 pub mod Passes
 pub mod Expressions
 pub mod Writing
+pub mod First

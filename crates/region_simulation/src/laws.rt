@@ -1,7 +1,13 @@
 // Laws of lowering: calls of no effect, whose contracts state what holds of every program.
 ghost use Rattle.region_simulation.specs.Expressions.{ExpressionsEvaluate};
+ghost use Rattle.region_simulation.specs.First.{FirstStands};
 ghost use Rattle.region_simulation.specs.Value.{ValuesAreMeant};
 ghost use Rattle.region_simulation.specs.Writing.{AssignmentsStore, WritesStand};
+
+/// The state of regions before main stands for the world of the source before main.
+pub fn first_stands()
+    ensures { FirstStands }
+{}
 
 /// An expression that makes no call, in which each name stands for an int in reach, is lowered to a value with nothing before it. Where a
 /// state of regions stands for the source's world, the value is there what the expression means.
