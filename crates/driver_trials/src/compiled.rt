@@ -112,9 +112,6 @@ fn worked_programs(rt: HostRuntime) -> Result<(), Fail> {
                 assert_eq!(rt; seen.out.bytes(), row.lines.as_bytes(), "{}", row.source);
                 assert_eq!(rt; seen.status, row.status, "{}", row.source);
                 assert_eq!(rt; seen.err.bytes(), b"".as_slice(), "{}", row.source);
-                let at_once = ran_at_once(alloc, row)?;
-                assert_eq!(rt; at_once.out.bytes(), row.lines.as_bytes(), "{}", row.source);
-                assert_eq!(rt; at_once.status, row.status, "{}", row.source);
                 count = count.wrapping_add(1);
             }
         }
@@ -185,28 +182,6 @@ fn again(rt: HostRuntime) -> Result<(), Fail> {
     }
     assert!(rt; store.file("ONE").is_some());
     assert_eq!(rt; store.file("ONE"), store.file("TWO"));
-    Ok(())
-}
-
-// Steps are counted alike in two commands and in one, also of a main of literals, and no fewer are enough.
-#[test]
-fn counts(rt: HostRuntime) -> Result<(), Fail> {
-    let alloc = rt.alloc();
-    for source in [
-        "int main() { write_int(5); return 3; }",
-        "int main() { try { throw 2; } catch (int e) { return e; } }",
-    ] {
-        let mut store = holding(alloc, source, b"", &[])?;
-        let compiled = answered(alloc, &["compile", "SRC", "IMG"], &mut store)?;
-        assert_eq!(rt; compiled.status, Status::Done);
-        let exec = answered(alloc, &["exec", "IMG", "--count"], &mut store)?;
-        let run = answered(alloc, &["run", "SRC", "--count"], &mut store)?;
-        assert_eq!(rt; run.status, Status::Done);
-        assert_eq!(rt; run.out.bytes(), exec.out.bytes());
-        let short = answered(alloc, &["run", "SRC", "--count", "--max=1"], &mut store)?;
-        assert_eq!(rt; short.out.bytes(), b"= budget\n= count 1\n".as_slice());
-        assert_eq!(rt; short.status, Status::Budget);
-    }
     Ok(())
 }
 
