@@ -1,5 +1,5 @@
 -- In the program of a source classes' names are those of nothing else, so its regions are well-formed.
-use Rattle.std.proofs.Common.{◌≡◌, ◌||◌, ℕ, true, false, not, List, [], ◌∷◌, ◌++◌, map, length, Option, Some, None, bytes_eq, codes, refl, sym, ap, subst}
+use Rattle.std.proofs.Common.{◌≡◌, ◌||◌, ℕ, true, false, not, List, [], ◌∷◌, ◌++◌, map, Option, Some, None, bytes_eq, codes, refl, sym, ap, subst}
 use Rattle.std.specs.Prelude.{flat_map}
 use Rattle.std.proofs.lemmas.Slice.Eq.{bytes_eq-Decides}
 use Rattle.cxx_ast.specs.declared.name.Name.{Name}
@@ -188,12 +188,12 @@ valid_parts p valid =
 
 -- the program of a source
 pub source_well_formed : CheckedRegionsAreWellFormed
-source_well_formed p c source lexed =
+source_well_formed p c =
     let ds = c.program.declarations in
     let defined = definitions ds in
     let ws = c.tree.written in
     let back = sym c.tree.declarations in
-    let passed = program_passed ws 0 c.tree.grammatical (source_above source c.tokens _ lexed c.tree.spelled) in
+    let passed = program_passed ws 0 c.tree.grammatical (source_above c.source c.tokens _ c.lexed c.tree.spelled) in
     let fine = valid_parts c.program c.valid in
     let walked = subst (λ xs. Fine defined (declarations_found (at_the_start ds) xs)) back fine.0 in
     let once = subst (λ xs. Fine defined (once_only_found xs)) back fine.1 in
@@ -206,4 +206,4 @@ source_well_formed p c source lexed =
 pub valid_well_formed : SourceRegionsAreWellFormed
 valid_well_formed source tokens p lexed tree valid =
     source_well_formed (checked p)
-    (record { tokens = tokens; end = length source; program = p; few = lexed.few; tree = tree; valid = valid; resolved = refl }) source lexed
+    (record { source = source; tokens = tokens; program = p; lexed = lexed; tree = tree; valid = valid; resolved = refl })

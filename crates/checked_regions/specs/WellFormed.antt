@@ -1,5 +1,4 @@
--- The regions of each checked program are well-formed, where its tokens are those of a source: they stand in its order, so no two names stand at one
--- place.
+-- The regions of each checked program are well-formed.
 use Rattle.std.specs.Prelude.{ℕ, ◌≡◌, true, List, length}
 use Rattle.cxx_ast.specs.declared.token.Token.{Token}
 use Rattle.cxx_ast.specs.Plain.{Program, Checked}
@@ -12,7 +11,7 @@ use Rattle.region_forms.specs.LowerProgram.{regions_of}
 use Rattle.region_forms.specs.WellFormed.{is_well_formed}
 
 abbrev pub CheckedRegionsAreWellFormed : Type 0
-CheckedRegionsAreWellFormed = (p : Checked) (c : IsChecked p) (source : List ℕ) → Lex source c.tokens → is_well_formed (regions_of p (layout_of p)) ≡ true
+CheckedRegionsAreWellFormed = (p : Checked) → IsChecked p → is_well_formed (regions_of p (layout_of p)) ≡ true
 
 -- so are those of each valid source: of the checked program of the tree of its tokens
 abbrev pub SourceRegionsAreWellFormed : Type 0

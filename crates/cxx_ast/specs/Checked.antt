@@ -1,11 +1,11 @@
 -- The checked program of a program: the same tree, with each name bound.
-use Rattle.std.specs.Prelude.{ℕ, ◌+◌, ◌≡◌, ◌≤◌, ℤ, List, [], ◌∷◌, length, codes, Option, Some, None, if◌then◌else◌}
+use Rattle.std.specs.Prelude.{ℕ, ◌+◌, ◌≡◌, ℤ, List, [], ◌∷◌, length, codes, Option, Some, None, if◌then◌else◌}
 use Rattle.cxx_ast.specs.declared.name.Bound.TheVariants.{Global, Field, Class as ClassBound, Func, Method}
 use Rattle.cxx_ast.specs.declared.name.Name.{Name}
 use Rattle.cxx_ast.specs.declared.token.Token.{Token}
 use Rattle.cxx_ast.specs.declared.types.Param.{Param}
 use Rattle.cxx_ast.specs.Plain.{Function, Class, Declaration, class_declaration, global_declaration, function_declaration, Program, Checked}
-use Rattle.cxx_ast.specs.Limits.{most_tokens}
+use Rattle.cxx_ast.specs.Lex.{Lex}
 use Rattle.cxx_ast.specs.Tree.{Tree}
 use Rattle.cxx_ast.specs.Broken.{Valid}
 use Rattle.cxx_ast.specs.Environment.{Environment}
@@ -94,10 +94,10 @@ Resolves p c = c ≡ checked p
 
 -- a checked program: that of a valid program, which is the tree of a source's tokens
 pub record IsChecked (c : Checked) : Type 0 where
+  pub source : List ℕ
   pub tokens : List Token
-  pub end : ℕ
   pub program : Program
-  pub few : length tokens ≤ most_tokens
-  pub tree : Tree tokens end program
+  pub lexed : Lex source tokens
+  pub tree : Tree tokens (length source) program
   pub valid : Valid program
   pub resolved : Resolves program c

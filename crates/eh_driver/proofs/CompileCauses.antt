@@ -26,10 +26,10 @@ pub is_checked : (source : List ℕ) (c : CheckedValue) → FrontAnswers source 
 is_checked source c a =
     let program = a.1.is.0 in
     record {
+      source = source;
       tokens = program.tokens;
-      end = length source;
       program = a.0;
-      few = program.lexed.few;
+      lexed = program.lexed;
       tree = program.tree;
       valid = a.1.is.1;
       resolved = a.2;

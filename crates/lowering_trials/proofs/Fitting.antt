@@ -1,5 +1,5 @@
 -- The classes of a source that was read and checked can be laid out.
-use Rattle.std.specs.Prelude.{ℕ, List, length, map}
+use Rattle.std.specs.Prelude.{ℕ, List, map}
 use Rattle.std.proofs.Common.{Ok}
 use Rattle.cxx_ast.specs.declared.program.Checked.{Checked as CheckedValue}
 use Rattle.cxx_ast.specs.Checked.{IsChecked}
@@ -12,10 +12,10 @@ is_checked : (source : List ℕ) (c : CheckedValue) → Answers source (Ok c) �
 is_checked source c a =
     let program = a.1.is.0 in
     record {
+      source = source;
       tokens = program.tokens;
-      end = length source;
       program = a.0;
-      few = program.lexed.few;
+      lexed = program.lexed;
       tree = program.tree;
       valid = a.1.is.1;
       resolved = a.2;

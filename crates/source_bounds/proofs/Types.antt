@@ -21,7 +21,7 @@ tokens_kept p = refl
 pub tokens_are_few : TokensAreFew
 tokens_are_few p h =
     let same : p.program.tokens ≡ (checked h.program).program.tokens = ap (λ q. q.program.tokens) h.resolved in
-    omega (arith, same, tokens_kept h.program, h.tree.tokens_counted, h.few)
+    omega (arith, same, tokens_kept h.program, h.tree.tokens_counted, h.lexed.few)
 
 -- rows whose bases stand before them
 bases_within : (rows : List TypeRow) (n all : ℕ) → rows_test n rows ≡ true → n + length rows ≤ all →

@@ -93,7 +93,7 @@ later (stopped_by deep) m few more run le h = λ n enough. h n (omega (arith, le
 pub sources_run_in_time : ValidSourcesRunInTime
 sources_run_in_time source tokens p lexed tree valid =
     let r = regions_of (checked p) (layout_of (checked p)) in
-    let c : IsChecked (checked p) = record { tokens = tokens; end = length source; program = p; few = lexed.few; tree = tree; valid = valid; resolved = refl } in
+    let c : IsChecked (checked p) = record { source = source; tokens = tokens; program = p; lexed = lexed; tree = tree; valid = valid; resolved = refl } in
     let few : program_cost r ≤ steps_for (length tokens) = costs_fit (checked p) (layout_of (checked p)) c in
     let runs = sources_run source tokens p lexed tree valid in
     record {

@@ -1,5 +1,5 @@
 -- The regions of a checked program of a source are well-formed, and what catches in them has a clause; so their linear code runs.
-use Rattle.std.proofs.Common.{◌≡◌, true, length, refl}
+use Rattle.std.proofs.Common.{◌≡◌, true, refl}
 use Rattle.cxx_ast.specs.Checked.{checked}
 use Rattle.region_forms.specs.Form.{Regions}
 use Rattle.region_forms.specs.Layout.{layout_of}
@@ -18,9 +18,9 @@ regions_run r h k = record {
 }
 
 pub checked_runs : CheckedProgramsRun
-checked_runs p c source lexed = regions_run (regions_of p (layout_of p)) (source_well_formed p c source lexed) (checked_clauses p (layout_of p) c)
+checked_runs p c = regions_run (regions_of p (layout_of p)) (source_well_formed p c) (checked_clauses p (layout_of p) c)
 
 pub sources_run : ValidSourcesRun
 sources_run source tokens p lexed tree valid =
     checked_runs (checked p)
-    (record { tokens = tokens; end = length source; program = p; few = lexed.few; tree = tree; valid = valid; resolved = refl }) source lexed
+    (record { source = source; tokens = tokens; program = p; lexed = lexed; tree = tree; valid = valid; resolved = refl })

@@ -31,9 +31,9 @@ pub record RunAsMeant (r : Regions) (most : ℕ) : Type 0 where
 abbrev pub RunAtCost : Regions → Type 0
 RunAtCost r = RunAsMeant r (program_cost r)
 
--- so it is of each checked program whose tokens are those of a source
+-- so it is of each checked program
 abbrev pub CheckedProgramsRun : Type 0
-CheckedProgramsRun = (p : Checked) (c : IsChecked p) (source : List ℕ) → Lex source c.tokens → RunAtCost (regions_of p (layout_of p))
+CheckedProgramsRun = (p : Checked) → IsChecked p → RunAtCost (regions_of p (layout_of p))
 
 -- and of each valid source: of the checked program of the tree of its tokens
 abbrev pub ValidSourcesRun : Type 0

@@ -8,7 +8,7 @@ pub fn checked_catches_have_clauses()
     ensures clauses { CheckedCatchesHaveClauses }
 {}
 
-/// For each checked program of a source: for every limit of open calls, every input, all replies and every number of turns the run of its linear
+/// For each checked program: for every limit of open calls, every input, all replies and every number of turns the run of its linear
 /// code comes to the end of the watched meaning of its regions, with its items, its deepest call and its replies, in steps in proportion to its
 /// turns; where the turns are used up or calls are too deep, it begins with the items so far. Where the watched meaning does not stop as a call that
 /// is too deep, so it is of the meaning.
