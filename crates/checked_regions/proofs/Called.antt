@@ -17,6 +17,7 @@ use Rattle.cxx_ast.specs.Resolve.{bind, bound_of, resolve_members, resolve_path,
 use Rattle.cxx_ast.specs.Grammatical.{NotEmpty}
 use Rattle.scope_rules.specs.Expression.{callee_bound, receiver}
 use Rattle.region_forms.specs.LowerExpression.{place_of, lvalue_type}
+use Rattle.std.specs.Cmp.Derive.{both_true}
 use Rattle.region_forms.specs.WellFormed.{address_place}
 use Rattle.checked_regions.proofs.Fine.{Fine, fine_parts, fine_sound}
 use Rattle.checked_regions.proofs.Meant.{IsFunction, Typed, HasKind, FunctionThere, SignatureMeant, numbered, Given, lowering_in, slots_in, regions_in, classes_in, Reach, MethodThere, MemberMeant, MeaningMeant}
@@ -133,7 +134,7 @@ module _ (g : Given) (sc : Scope) (r : Reach g sc) (thrown : Bool) (n : Name) (g
   by_meaning unknown h f = absurd f
   by_meaning (a_method k i s) h f =
       let v = call_fine g s n.place given f in
-      record { what = calls_method k i s; bound = refl; type = v.type; fine = (h.0, own_there g h.1, v.fitting) }
+      record { what = calls_method k i s; bound = refl; type = v.type; fine = (h.0, both_true (own_there g h.1) refl, v.fitting) }
   by_meaning (a_function s) h f = function_called s h (bytes_eq n.text (codes "main")) f
   by_meaning (a_class k) h f = built g sc thrown k n.place n.place given [] h f
   by_meaning (a_builtin b) h f = builtin_called g sc thrown b n.place given [] h f

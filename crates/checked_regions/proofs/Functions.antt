@@ -34,7 +34,7 @@ use Rattle.region_forms.specs.LowerStatement.{statements}
 use Rattle.region_forms.specs.LowerProgram.{first_result, limited, initial_part, body_of, declared_function, regions_of}
 use Rattle.region_forms.specs.WellFormed.{every}
 use Rattle.region_ir.specs.Implicit.{body_passes}
-use Rattle.region_ir.proofs.ImplicitLeaves.{parts_there}
+use Rattle.region_ir.proofs.ImplicitLeaves.{parts_there, parts_within}
 use Rattle.checked_regions.proofs.Fine.{Fine, fine_parts}
 use Rattle.checked_regions.proofs.Meant.{IsHeld, Meant, Given, lowering_in, Reach}
 use Rattle.checked_regions.proofs.Slots.{result_at, int_in}
@@ -197,10 +197,10 @@ module _ (p : Checked) (checked : IsChecked p) (defined special : List (List ℕ
       (λ j t at below. let none : j ≡ 0 + j = omega arith in
       subst (λ n. Pass g (initial_part (lowering_in g) k n (initialiser_for p bound.initialisers n) t)) none
       (initial_passes g c.is_member sc reach k own_is limit_none c.entry c.is [] f.initialisers w.initialisers (building c f.body form.1 e parts.1) j t at below))
-      (parts_there p checked k c.below) rest
+      (parts_there p checked k c.below) (parts_within p checked k c.below) rest
   body_by Destructor e form c d =
       destroyed_passes g c.is_member k 0 (parts_of p k) (statements (lowering_in g) (statements_in bound.body) 0 (length bound.parameters)) d
-      (parts_there p checked k c.below) rest
+      (parts_there p checked k c.below) (parts_within p checked k c.below) rest
 
   -- the types of a specification
   listed : (types : List Ty) → Each IsListedType types → Fine defined (flat_map (type_found head (heading hown hlimit 0)) types) →

@@ -22,10 +22,12 @@ use Rattle.cxx_ast.specs.Grammatical.{Each, AreExpressions, IsInitialiser}
 use Rattle.scope_rules.specs.Class.{ObjectType, int_type, class_type, class_named, object_type, class_at, base_part, member_part, parts_of, member_place}
 use Rattle.scope_rules.specs.Call.{place_named, initialiser_for}
 use Rattle.region_forms.specs.Form.{Region}
-use Rattle.region_forms.specs.Layout.{layout_of}
+use Rattle.region_forms.specs.Layout.{layout_of, laid_part}
 use Rattle.region_forms.specs.LowerExpression.{first_temporary}
 use Rattle.region_forms.specs.LowerProgram.{part_place, build_parts, destroy_parts, initial_part}
+use Rattle.region_forms.specs.WellFormed.{within_object}
 use Rattle.class_layout.specs.Fit.{IsBefore, AreBefore}
+use Rattle.region_ir.proofs.ImplicitLeaves.{PartsWithin, part_within}
 use Rattle.region_ir.proofs.Specials.{take_objects}
 use Rattle.checked_regions.proofs.Fine.{Fine, fine_parts}
 use Rattle.checked_regions.proofs.Meant.{Typed, FieldsMeant, EntryMeant, Given, lowering_in, classes_in, Reach}
@@ -41,27 +43,28 @@ use Rattle.checked_regions.proofs.Statements.{Rest, value}
 module _ (g : Given) (member : g.is_member ≡ true) where
   pub built_passes : (k : ℕ) (build : ℕ → ObjectType → List Region) (i : ℕ) (parts : List ObjectType) (left : ℕ → List Region) (d : ℕ) →
       ((j : ℕ) (t : ObjectType) → slice_get parts j ≡ Some t → IsBefore (classes_in g) t → Pass g (build (i + j) t)) → AreBefore (classes_in g) parts →
-      Rest g left → Pass g (build_parts (lowering_in g) k build i parts left d)
-  built_passes k build i [] left d b h rest = rest d
-  built_passes k build i (int_type ∷ parts) left d b h rest =
+      PartsWithin (layout_of g.program) g.program k i parts → Rest g left → Pass g (build_parts (lowering_in g) k build i parts left d)
+  built_passes k build i [] left d b h w rest = rest d
+  built_passes k build i (int_type ∷ parts) left d b h w rest =
       let none : i + 0 ≡ i = omega arith in
       then_pass (subst (λ n. Pass g (build n int_type)) none (b 0 int_type refl tt))
       (built_passes k build (i + 1) parts left d (λ j t e below. let same : i + suc j ≡ i + 1 + j = omega arith in
-      subst (λ n. Pass g (build n t)) same (b (suc j) t e below)) h.1 rest)
-  built_passes k build i (class_type c ∷ parts) left d b h rest =
+      subst (λ n. Pass g (build n t)) same (b (suc j) t e below)) h.1 w.1 rest)
+  built_passes k build i (class_type c ∷ parts) left d b h w rest =
       let none : i + 0 ≡ i = omega arith in
       then_pass (subst (λ n. Pass g (build n (class_type c))) none (b 0 (class_type c) refl h.0))
       (one_pass (protected (built_passes k build (i + 1) parts left (d + 2) (λ j t e below. let same : i + suc j ≡ i + 1 + j = omega arith in
-      subst (λ n. Pass g (build n t)) same (b (suc j) t e below)) h.1 rest)
-      (both_true (own_there g member) (take_objects g.program (layout_of g.program) g.checked c h.0).destroyed)))
+      subst (λ n. Pass g (build n t)) same (b (suc j) t e below)) h.1 w.1 rest)
+      (both_true (both_true (own_there g member) w.0) (take_objects g.program (layout_of g.program) g.checked c h.0).destroyed)))
 
-  pub destroyed_passes : (k i : ℕ) (parts : List ObjectType) (body : ℕ → List Region) (d : ℕ) → AreBefore (classes_in g) parts → Rest g body →
+  pub destroyed_passes : (k i : ℕ) (parts : List ObjectType) (body : ℕ → List Region) (d : ℕ) → AreBefore (classes_in g) parts →
+      PartsWithin (layout_of g.program) g.program k i parts → Rest g body →
       Pass g (destroy_parts (lowering_in g) k i parts body d)
-  destroyed_passes k i [] body d h rest = rest d
-  destroyed_passes k i (int_type ∷ parts) body d h rest = destroyed_passes k (i + 1) parts body d h.1 rest
-  destroyed_passes k i (class_type c ∷ parts) body d h rest =
-      one_pass (protected (destroyed_passes k (i + 1) parts body (d + 2) h.1 rest)
-      (both_true (own_there g member) (take_objects g.program (layout_of g.program) g.checked c h.0).destroyed))
+  destroyed_passes k i [] body d h w rest = rest d
+  destroyed_passes k i (int_type ∷ parts) body d h w rest = destroyed_passes k (i + 1) parts body d h.1 w.1 rest
+  destroyed_passes k i (class_type c ∷ parts) body d h w rest =
+      one_pass (protected (destroyed_passes k (i + 1) parts body (d + 2) h.1 w.1 rest)
+      (both_true (both_true (own_there g member) w.0) (take_objects g.program (layout_of g.program) g.checked c h.0).destroyed))
 
 -- the data member that a name has stands among the members
 record FieldPlace (n k i : ℕ) (text : List ℕ) (kind : Kind) (fs : List FieldEntry) (ms : List Param) : Type 0 where
@@ -239,23 +242,27 @@ module _ (g : Given) (member : g.is_member ≡ true) (sc : Scope) (r : Reach g s
       of_field (Some x) q h = field_right n kind (q ∙ h)
       of_field None q h = of_base c.base refl h
 
+  -- a part lies within the largest object
+  lies : (i : ℕ) (t : ObjectType) → slice_get (parts_of g.program k) i ≡ Some t → within_object (laid_part (layout_of g.program) g.program k i) ≡ true
+  lies i t at = part_within g.program g.checked k (g.meant.classes k c is).below i t at
+
   -- a part with its initialiser
   part_passes : (i : ℕ) (t : ObjectType) (place : ℕ) (es : Expressions) → AreExpressions es → (kind : Kind) → Typed (classes_in g) kind t →
-      Fine g.defined (part_found g.env place (all_judged g.env sc es) kind) →
+      Fine g.defined (part_found g.env place (all_judged g.env sc es) kind) → within_object (laid_part (layout_of g.program) g.program k i) ≡ true →
       Pass g (initial_part (lowering_in g) k i (Some (resolve_expressions g.env sc es)) t)
-  part_passes i t place es w int_kind typed f = subst (λ u. Pass g (initial_part (lowering_in g) k i (Some (resolve_expressions g.env sc es)) u)) (sym typed) (ints es w f)
+  part_passes i t place es w int_kind typed f inside = subst (λ u. Pass g (initial_part (lowering_in g) k i (Some (resolve_expressions g.env sc es)) u)) (sym typed) (ints es w f)
     where
       ints : (es : Expressions) → AreExpressions es → Fine g.defined (int_part_found place (all_judged g.env sc es)) →
           Pass g (initial_part (lowering_in g) k i (Some (resolve_expressions g.env sc es)) int_type)
       ints no_expressions w f = absurd f
-      ints (expression_then e no_expressions) w f = value_put (part_place (layout_of g.program) g.program k 0 i) (value g sc r e w.0 f) (own_there g member)
+      ints (expression_then e no_expressions) w f = value_put (part_place (layout_of g.program) g.program k 0 i) (value g sc r e w.0 f) (both_true (own_there g member) inside)
       ints (expression_then e (expression_then x es)) w f = absurd f
-  part_passes i t place es w (class_kind j) typed f =
+  part_passes i t place es w (class_kind j) typed f inside =
       subst (λ u. Pass g (initial_part (lowering_in g) k i (Some (resolve_expressions g.env sc es)) u)) (sym typed.0)
-      (construct_passes g sc r j typed.1 es w place place f (part_place (layout_of g.program) g.program k 0 i) (own_there g member) (first_temporary (lowering_in g)) (free g))
-  part_passes i t place es w truth_kind typed f = absurd typed
-  part_passes i t place es w void_kind typed f = absurd typed
-  part_passes i t place es w no_kind typed f = absurd typed
+      (construct_passes g sc r j typed.1 es w place place f (part_place (layout_of g.program) g.program k 0 i) (both_true (own_there g member) inside) (first_temporary (lowering_in g)) (free g))
+  part_passes i t place es w truth_kind typed f inside = absurd typed
+  part_passes i t place es w void_kind typed f inside = absurd typed
+  part_passes i t place es w no_kind typed f inside = absurd typed
 
   -- a part, with or without
   pub initial_passes : (seen : List (List ℕ)) (xs : List Initialiser) → Each IsInitialiser xs → Fine g.defined (initialisers_found g.env sc c seen xs) →
@@ -263,7 +270,8 @@ module _ (g : Given) (member : g.is_member ≡ true) (sc : Scope) (r : Reach g s
       Pass g (initial_part (lowering_in g) k i (initialiser_for g.program (map (resolve_initialiser g.env sc) xs) i) t)
   initial_passes seen [] w f i int_type at below = none_pass
   initial_passes seen [] w f i (class_type j) at below =
-      one_pass (op_passes (both_true (own_there g member) (both_true refl (take_objects g.program (layout_of g.program) g.checked j below).default)))
+      one_pass (op_passes (both_true (both_true (own_there g member) (lies i (class_type j) at))
+      (both_true refl (take_objects g.program (layout_of g.program) g.checked j below).default)))
   initial_passes seen (x ∷ xs) w f i t at below =
       let parts = fine_parts g.defined (initialiser_found g.env sc c seen x) (initialisers_found g.env sc c (x.name.text ∷ seen) xs) f in
       by (place_named g.program (initial_bound x.name) == i) refl (named_part g.env c x.name.text) refl parts.0
@@ -281,3 +289,4 @@ module _ (g : Given) (member : g.is_member ≡ true) (sc : Scope) (r : Reach g s
       by true e (Some kind) q h rest =
           part_passes i t x.name.place x.arguments w.0 kind (named_right x.name kind q i t e at)
           (fine_parts g.defined (breaks_if (has_text x.name.text seen) initialiser_list x.name.place) (part_found g.env x.name.place (all_judged g.env sc x.arguments) kind) h).1
+          (lies i t at)

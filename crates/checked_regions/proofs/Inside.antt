@@ -12,7 +12,7 @@ use Rattle.region_forms.specs.LowerExpression.{member_type}
 use Rattle.class_layout.proofs.Apart.{stand_apart}
 use Rattle.class_layout.proofs.Program.{classes_fit}
 use Rattle.checked_regions.proofs.Meant.{Typed, FieldThere, size_in_program}
-use Rattle.checked_regions.proofs.Meanings.{class_there}
+use Rattle.region_ir.proofs.EachFunction.{class_there}
 use Rattle.checked_regions.proofs.Slots.{behind}
 
 -- objects have 4 bytes at least

@@ -9,10 +9,11 @@ use Rattle.cxx_ast.specs.Environment.{Signature, Field, ClassEntry, Thing, globa
 use Rattle.cxx_ast.specs.Lookup.{variable_named, in_reach, Found, field_named, is_method, method_named, first_of_two, member_of, own_meaning, builtin_named, function_meaning, thing_meaning, entry_of, outer_meaning, look}
 use Rattle.cxx_ast.specs.Grammatical.{Each}
 use Rattle.cxx_ast.specs.Checked.{IsChecked}
-use Rattle.scope_rules.specs.Class.{class_type, class_named, no_class, no_function, class_at, method_at}
+use Rattle.scope_rules.specs.Class.{class_type, class_named, no_function, class_at, method_at}
 use Rattle.region_forms.specs.Layout.{class_parts}
 use Rattle.class_layout.proofs.Apart.{stand_apart}
 use Rattle.class_layout.proofs.Program.{classes_fit}
+use Rattle.region_ir.proofs.EachFunction.{class_there}
 use Rattle.checked_regions.proofs.Meant.{ParamsMeant, MethodsMeant, FieldsMeant, EntryMeant, ThingMeant, Meant, Given, size_in_program, VariableMeant, Reach, MemberMeant, MeaningMeant}
 
 -- an item of a list that is found is one of them
@@ -32,15 +33,6 @@ found_passes test (y ∷ xs) x e = go (test y) refl e (found_passes test xs x)
     go : (b : Bool) → test y ≡ b → (if b then Some y else find test xs) ≡ Some x → (find test xs ≡ Some x → test x ≡ true) → test x ≡ true
     go true t q rest = let same : y ≡ x = cc q in subst (λ z. test z ≡ true) same t
     go false t q rest = rest q
-
--- what stands at a place that is there
-pub slice_some : {A : Type 0} (xs : List A) (i : ℕ) (other : A) → i < length xs → slice_get xs i ≡ Some (unwrap_or (slice_get xs i) other)
-slice_some [] i other h = absurd (omega (arith, h))
-slice_some (x ∷ xs) zero other h = refl
-slice_some (x ∷ xs) (suc i) other h = slice_some xs i other (omega (arith, h))
-
-pub class_there : (p : Checked) (k : ℕ) → k < length p.classes → slice_get p.classes k ≡ Some (class_at p k)
-class_there p k h = slice_some p.classes k no_class h
 
 -- a base is no larger than what derives from it
 base_size : (p : Checked) → IsChecked p → (k b : ℕ) (base : Option Name) → k < length p.classes → (class_at p k).base ≡ base → option_map class_named base ≡ Some b →

@@ -16,8 +16,10 @@ use Rattle.cxx_ast.specs.Resolve.{bind, bound_of, resolve_members, resolve_path}
 use Rattle.scope_rules.specs.Class.{ObjectType, int_type, class_type, object_type}
 use Rattle.region_forms.specs.LowerExpression.{Lowering, variable_type, variable_root, member_type, named_type, lvalue_type, members_offset, place_of}
 use Rattle.region_forms.specs.LowerProgram.{slot_for, slots_for}
-use Rattle.region_forms.specs.Layout.{layout_of}
-use Rattle.region_forms.specs.WellFormed.{holds_ints, holds_address, is_variable, slot_test, within, int_place, address_place}
+use Rattle.region_forms.specs.Layout.{layout_of, laid_member}
+use Rattle.region_forms.specs.WellFormed.{holds_ints, holds_address, is_variable, slot_test, within, within_object, int_place, address_place}
+use Rattle.class_layout.proofs.Program.{classes_fit}
+use Rattle.class_layout.proofs.Small.{size_small}
 use Rattle.region_ir.proofs.Specials.{own_address}
 use Rattle.checked_regions.proofs.Fine.{Fine}
 use Rattle.checked_regions.proofs.Meant.{Typed, IsHeld, Given, lowering_in, slots_in, regions_in, classes_in, size_in_program, Reach, MemberMeant, MeaningMeant}
@@ -91,6 +93,10 @@ pub record PathMeant (g : Given) (kind : Kind) (names : List Name) : Type 0 wher
   pub int : int_place (regions_in g) (slots_in g) (place_of (lowering_in g) names) ≡ true
   pub address : address_place (regions_in g) (slots_in g) (place_of (lowering_in g) names) ≡ true
 
+-- an int inside an object lies within the largest one
+small_enough : (g : Given) (off : ℕ) (t : ObjectType) → off + 4 ≤ size_in_program g.program t → within_object off ≡ true
+small_enough g off t h = let most = size_small g.program.classes (classes_fit g.program g.checked) t in grind (arith, nat_tests, h, most)
+
 -- a place in a variable, or behind the address that it holds
 pub in_variable : (g : Given) (s off : ℕ) (t : Ty) → slice_get (slots_in g) s ≡ Some (slot_for (layout_of g.program) t) → IsHeld t →
     off + 4 ≤ size_in_program g.program (object_type t) →
@@ -105,8 +111,10 @@ in_variable g s off (Object n) e h inside =
     let fits : nat_le (off + 4) (size_in_program g.program (object_type (Object n))) ≡ true = grind (arith, nat_tests, inside) in
     let there = ap (λ o. within o off) e ∙ fits in
     (both_true (slot_there holds_ints (slots_in g) s _ e refl) there, both_true (slot_there is_variable (slots_in g) s _ e refl) there)
-in_variable g s off (IntRef const) e h inside = (slot_there holds_address (slots_in g) s _ e refl, slot_there holds_address (slots_in g) s _ e refl)
-in_variable g s off (ObjectRef const n) e h inside = (slot_there holds_address (slots_in g) s _ e refl, slot_there holds_address (slots_in g) s _ e refl)
+in_variable g s off (IntRef const) e h inside =
+    let there = both_true (slot_there holds_address (slots_in g) s _ e refl) (small_enough g off (object_type (IntRef const)) inside) in (there, there)
+in_variable g s off (ObjectRef const n) e h inside =
+    let there = both_true (slot_there holds_address (slots_in g) s _ e refl) (small_enough g off (object_type (ObjectRef const n)) inside) in (there, there)
 
 -- the own object has an address
 pub own_there : (g : Given) → g.is_member ≡ true → slot_test holds_address (slots_in g) 0 ≡ true
@@ -143,10 +151,15 @@ module _ (g : Given) (n : Name) (names : List Name) where
       let l = lowering_in g in
       let m = members g names n.place kind (member_type g.program k i) (field_typed g.program g.checked k i kind h.0) f in
       let rest = resolve_members g.env kind names in
+      let size = some_bytes g.program g.checked (reached_from g.env names n.place kind).kind (last_type l (member_type g.program k i) rest) m.typed in
+      let inside = m.inside in
+      let whole = field_inside g.program g.checked k i kind h.0 in
+      let within : within_object (laid_member l.layout k i + members_offset l rest) ≡ true =
+      small_enough g (laid_member l.layout k i + members_offset l rest) (class_type k) (omega (arith, size, inside, whole)) in
       record {
         typed = subst (Typed (classes_in g) (reached_from g.env names n.place kind).kind) (sym (behind_type l (bind n (Field k i)) rest)) m.typed;
-        int = own_there g h.1;
-        address = own_there g h.1;
+        int = both_true (own_there g h.1) within;
+        address = both_true (own_there g h.1) within;
       }
   by_meaning (a_global x) h f =
       let l = lowering_in g in

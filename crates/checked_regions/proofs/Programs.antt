@@ -141,6 +141,6 @@ module _ (p : Program) (ws : List Written) (e : map declared ws ≡ p.declaratio
 pub well_formed : (p : Checked) (c : IsChecked p) → Each (DeclarationAlone (class_texts c.program.declarations)) c.program.declarations →
     is_well_formed (regions_of p (layout_of p)) ≡ true
 well_formed p c alone =
-    checked_joined p (layout_of p) c
+    checked_joined p c
     (subst (λ q. IsChecked q → DeclaredPass q (layout_of q)) (sym c.resolved)
     (program_passes c.program c.tree.written c.tree.declarations c.tree.grammatical c.valid alone) c)

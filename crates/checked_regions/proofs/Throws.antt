@@ -53,7 +53,7 @@ help_there g = slot_there is_help (slots_in g) (exception_slot (lowering_in g)) 
 
 -- the exception object
 pub thrown_there : (g : Given) → address_place (regions_in g) (slots_in g) (thrown_place (lowering_in g)) ≡ true
-thrown_there g = slot_there holds_address (slots_in g) (exception_slot (lowering_in g)) _ (exception_at g) refl
+thrown_there g = both_true (slot_there holds_address (slots_in g) (exception_slot (lowering_in g)) _ (exception_at g) refl) refl
 
 -- a region with a cleanup
 pub protected : {g : Given} {xs : List Region} {c : Cleanup} → Pass g xs → cleanup_test (regions_in g) (slots_in g) c ≡ true → OnePasses g (protect (in_order xs) c)

@@ -12,4 +12,4 @@ program_tokens p = refl
 pub tokens_same : CheckedRegionsHaveTheTokens
 tokens_same p l c =
     let same : p.program.tokens ≡ length c.tokens = ap (λ q. q.program.tokens) c.resolved ∙ (program_tokens c.program ∙ c.tree.tokens_counted) in
-    (same, subst (λ n. n ≤ most_tokens) (sym same) c.few)
+    (same, subst (λ n. n ≤ most_tokens) (sym same) c.lexed.few)

@@ -10,7 +10,7 @@ use Rattle.class_layout.specs.Fit.{IsBefore, AreBefore, FitBehind, Fit}
 use Rattle.class_layout.specs.StandApart.{StandApart}
 
 -- a size is some words
-abbrev AreWords : ℕ → Type 0
+abbrev pub AreWords : ℕ → Type 0
 AreWords n = (4 ≤ n) × (n % 4 ≡ 0)
 
 abbrev AllWords : List ClassLayout → Type 0
@@ -43,6 +43,10 @@ words_behind : (cs : List Class) (laid : List ClassLayout) → AllWords laid →
 words_behind [] laid h = h
 words_behind (c ∷ cs) laid h =
     words_behind cs (laid ++ class_layout laid c ∷ []) (words_and laid (class_layout laid c) h (words_of_parts laid h (class_parts c)))
+
+-- each object has some words
+pub some_words : (cs : List Class) (t : ObjectType) → AreWords (size_in (layouts cs) t)
+some_words cs t = words_in (layouts cs) (words_behind cs [] tt) t
 
 -- a layout stays where others come behind it
 layout_front : (laid more : List ClassLayout) (k : ℕ) → k < length laid → layout_at (laid ++ more) k ≡ layout_at laid k

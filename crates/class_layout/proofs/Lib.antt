@@ -5,3 +5,4 @@ pub mod Program
 pub mod Onward
 pub mod Members
 pub mod Apart
+pub mod Small

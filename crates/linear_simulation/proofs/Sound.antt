@@ -5,7 +5,7 @@ use Rattle.std.proofs.lemmas.Bool.Decides.{nat_tests}
 use Rattle.scope_rules.specs.Class.{contains}
 use Rattle.region_forms.specs.Form.{SlotKind, Slot, Root, in_slot, through, in_global, Value, number, load, unary, binary, call_value, Argument, int_argument, address_argument, handler_argument, Arguments, no_arguments, argument_then, Op, evaluate, store, bind, call, construct, destroy, make, throw, rethrow, enter, leave, Cleanup, destroy_scope, destroy_part, free_object, leave_handler, Region, seq, op, branch, loop, protect, catch, limit, barrier, leave_region, RegionList, no_regions, region_then, Clauses, no_clauses, clause_then, RegionFunction, Regions, kinds_of}
 use Rattle.region_forms.specs.Mentioned.{slots_of_root, slots_of_value, slots_of_argument, slots_of_arguments, slots_of_op, slots_of_cleanup, slots_of, slots_of_all, slots_of_clauses}
-use Rattle.region_forms.specs.WellFormed.{every, holds_ints, holds_address, is_variable, is_help, slot_test, within, int_place, address_place, pure_value, argument_test, arguments_test, callee_test, takes_object, value_test, destructor_test, op_test, cleanup_test, is_op, clause_type_test, region_test, regions_test, clauses_test, result_test, function_test, rows_test}
+use Rattle.region_forms.specs.WellFormed.{every, holds_ints, holds_address, is_variable, is_help, slot_test, within, within_object, int_place, address_place, pure_value, argument_test, arguments_test, callee_test, takes_object, value_test, destructor_test, op_test, cleanup_test, is_op, clause_type_test, region_test, regions_test, clauses_test, result_test, function_test, rows_test}
 use Rattle.linear_forms.specs.Exits.{beyond, outs_of, outs_of_all, outs_of_clauses}
 use Rattle.linear_forms.specs.Cost.{cost, is_barred, all_barred, clauses_barred}
 use Rattle.linear_forms.proofs.Integers.{both_hold}
@@ -79,12 +79,12 @@ module _ (p : Regions) (slots : List Slot) where
 
   int_in : (r : Root) (o : ℕ) → int_place p slots (record { root = r; offset = o }) ≡ true → slots_of_root r ≤ n
   int_in (in_slot s) o h = slot_in holds_ints s (both_hold (slot_test holds_ints slots s) (within (slice_get slots s) o) h).0
-  int_in (through s) o h = slot_in holds_address s h
+  int_in (through s) o h = slot_in holds_address s (both_hold (slot_test holds_address slots s) (within_object o) h).0
   int_in (in_global g) o h = omega arith
 
   address_in : (r : Root) (o : ℕ) → address_place p slots (record { root = r; offset = o }) ≡ true → slots_of_root r ≤ n
   address_in (in_slot s) o h = slot_in is_variable s (both_hold (slot_test is_variable slots s) (within (slice_get slots s) o) h).0
-  address_in (through s) o h = slot_in holds_address s h
+  address_in (through s) o h = slot_in holds_address s (both_hold (slot_test holds_address slots s) (within_object o) h).0
   address_in (in_global g) o h = omega arith
 
   value_in : (v : Value) → pure_value p slots v ≡ true → slots_of_value v ≤ n

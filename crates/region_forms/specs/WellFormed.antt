@@ -1,6 +1,8 @@
 -- What is asked of regions: numbers are in range, calls stand at the top of operations alone, a barrier holds one operation, slots have
--- the kinds that their uses need, and a function is called with the arguments that its slots are for.
+-- the kinds that their uses need, offsets lie within what they are offsets in, and a function is called with the arguments that its slots
+-- are for.
 use Rattle.std.specs.Prelude.{ℕ, ◌+◌, Bool, true, false, ◌&&◌, nat_lt, nat_le, ◌==◌, List, [], ◌∷◌, length, Option, Some, None, slice_get}
+use Rattle.cxx_ast.specs.Limits.{most_class_bytes}
 use Rattle.region_forms.specs.Form.{SlotKind, int_slot, address_slot, object_slot, help_slot, Slot, in_slot, through, in_global, Place, Callee, defined, builtin, Value, number, load, unary, binary, call_value, Argument, int_argument, address_argument, handler_argument, Arguments, no_arguments, argument_then, Op, evaluate, store, bind, call, construct, destroy, make, throw, rethrow, enter, leave, Cleanup, destroy_scope, destroy_part, free_object, leave_handler, Region, seq, op, branch, loop, protect, catch, limit, barrier, leave_region, RegionList, no_regions, region_then, Clauses, no_clauses, clause_then, TypeRow, RegionFunction, Regions, kinds_of, function_at}
 
 -- every item of a list passes a test
@@ -34,11 +36,15 @@ abbrev pub within : Option Slot → ℕ → Bool
 within None n = false
 within (Some s) n = nat_le (n + 4) s.size
 
+-- an int behind an address lies within the largest object
+abbrev pub within_object : ℕ → Bool
+within_object n = nat_le (n + 4) most_class_bytes
+
 -- a place with an int, and one with an address
 abbrev pub int_place : Regions → List Slot → Place → Bool
 int_place r slots p = elim p.root [
   | in_slot s ↦ slot_test holds_ints slots s && within (slice_get slots s) p.offset
-  | through s ↦ slot_test holds_address slots s
+  | through s ↦ slot_test holds_address slots s && within_object p.offset
   | in_global g ↦ nat_lt g (length r.globals) && p.offset == 0
 ]
 
@@ -46,7 +52,7 @@ int_place r slots p = elim p.root [
 abbrev pub address_place : Regions → List Slot → Place → Bool
 address_place r slots p = elim p.root [
   | in_slot s ↦ slot_test is_variable slots s && within (slice_get slots s) p.offset
-  | through s ↦ slot_test holds_address slots s
+  | through s ↦ slot_test holds_address slots s && within_object p.offset
   | in_global g ↦ nat_lt g (length r.globals) && p.offset == 0
 ]
 

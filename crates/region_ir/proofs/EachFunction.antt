@@ -4,7 +4,7 @@ use Rattle.std.specs.Prelude.{slice_get, unwrap_or}
 use Rattle.std.proofs.lemmas.Bool.{and_parts}
 use Rattle.std.specs.Cmp.Derive.{both_true}
 use Rattle.cxx_ast.specs.Plain.{Checked, Function}
-use Rattle.scope_rules.specs.Class.{class_at}
+use Rattle.scope_rules.specs.Class.{class_at, no_class}
 use Rattle.region_forms.specs.Form.{RegionFunction}
 use Rattle.region_forms.specs.Layout.{Layout}
 use Rattle.region_forms.specs.LowerProgram.{declared_function, implicit_default_function, implicit_copy_function, implicit_destructor_function, own_functions, functions_of_class, functions_of_classes, regions_of}
@@ -24,6 +24,15 @@ at_or test [] zero other h k = k
 at_or test [] (suc i) other h k = k
 at_or test (x ∷ xs) zero other h k = (and_parts (test x) (every test xs) h).0
 at_or test (x ∷ xs) (suc i) other h k = at_or test xs i other (and_parts (test x) (every test xs) h).1 k
+
+-- what stands at a place that is there
+slice_some : {A : Type 0} (xs : List A) (i : ℕ) (other : A) → i < length xs → slice_get xs i ≡ Some (unwrap_or (slice_get xs i) other)
+slice_some [] i other h = absurd (omega (arith, h))
+slice_some (x ∷ xs) zero other h = refl
+slice_some (x ∷ xs) (suc i) other h = slice_some xs i other (omega (arith, h))
+
+pub class_there : (p : Checked) (k : ℕ) → k < length p.classes → slice_get p.classes k ≡ Some (class_at p k)
+class_there p k h = slice_some p.classes k no_class h
 
 -- so do the items of both lists
 both_lists : (test : RegionFunction → Bool) (fs others : List RegionFunction) → every test fs ≡ true → every test others ≡ true → every test (fs ++ others) ≡ true

@@ -5,7 +5,7 @@ use Rattle.std.proofs.lemmas.Bool.{and_parts}
 use Rattle.std.specs.Cmp.Derive.{both_true}
 use Rattle.cxx_ast.specs.Plain.{Checked}
 use Rattle.cxx_ast.specs.Checked.{IsChecked}
-use Rattle.region_forms.specs.Layout.{Layout}
+use Rattle.region_forms.specs.Layout.{layout_of}
 use Rattle.region_forms.specs.LowerProgram.{regions_of}
 use Rattle.region_forms.specs.Form.{Slot, Region, seq, op, branch, loop, protect, catch, limit, barrier, leave_region, RegionList, no_regions, region_then, Clauses, no_clauses, clause_then, RegionFunction, Regions, function_at}
 use Rattle.region_forms.specs.Mentioned.{slots_of}
@@ -118,17 +118,18 @@ all_joined_well r s e n rows main h =
     both_true parts.0 (both_true parts.1 (both_true rows (functions_joined r r.functions s e n h)))
 
 -- the functions of a checked program
-leaves_pass : (p : Checked) (l : Layout) → IsChecked p → DeclaredPass p l → program_leaves_test (regions_of p l) ≡ true
-leaves_pass p l c h = each_passes p l (body_passes (regions_of p l)) (record {
+leaves_pass : (p : Checked) → IsChecked p → DeclaredPass p (layout_of p) → program_leaves_test (regions_of p (layout_of p)) ≡ true
+leaves_pass p c h = each_passes p (layout_of p) (body_passes (regions_of p (layout_of p))) (record {
   own = h.own;
   method = h.method;
-  default = λ k below. (implicit_pass p l c k below).default;
-  copy = λ k below. (implicit_pass p l c k below).copy;
-  destructor = λ k below. (implicit_pass p l c k below).destructor;
+  default = λ k below. (implicit_pass p c k below).default;
+  copy = λ k below. (implicit_pass p c k below).copy;
+  destructor = λ k below. (implicit_pass p c k below).destructor;
 })
 
 -- the regions of a checked program
-pub checked_joined : (p : Checked) (l : Layout) → IsChecked p → DeclaredPass p l → is_well_formed (regions_of p l) ≡ true
-checked_joined p l c h =
+pub checked_joined : (p : Checked) → IsChecked p → DeclaredPass p (layout_of p) → is_well_formed (regions_of p (layout_of p)) ≡ true
+checked_joined p c h =
+    let l = layout_of p in
     all_joined_well (regions_of p l) (regions_shaped p l) (exits_inside_checked p l c) (regions_suffice p l) (bases_before p c) (checked_main p l c)
-    (leaves_pass p l c h)
+    (leaves_pass p c h)

@@ -5,7 +5,7 @@ ghost use Rattle.cxx_ast.specs.Plain.{Checked};
 ghost use Rattle.cxx_ast.specs.Checked.{IsChecked};
 ghost use Rattle.scope_rules.specs.Running.{Callee};
 ghost use Rattle.region_forms.specs.Form.{Region};
-ghost use Rattle.region_forms.specs.Layout.{Layout};
+ghost use Rattle.region_forms.specs.Layout.{Layout, layout_of};
 ghost use Rattle.region_forms.specs.LowerProgram.{regions_of};
 ghost use Rattle.region_forms.specs.Numbering.{number_of, type_rows};
 ghost use Rattle.region_forms.specs.WellFormed.{every, rows_test, is_well_formed};
@@ -50,10 +50,10 @@ pub fn checked_main_is_there()
     ensures there { (p : Checked) (l : Layout) → IsChecked p → main_test (regions_of p l) ≡ true }
 {}
 
-/// The regions of a checked program are well-formed where the operations, values, cleanups and clauses of its declared functions pass their
+/// The regions of a checked program, by its layout, are well-formed where the operations, values, cleanups and clauses of its declared functions pass their
 /// tests: all else that is asked of regions holds.
 pub fn checked_regions_are_joined()
-    ensures joined { (p : Checked) (l : Layout) → IsChecked p → DeclaredPass p l → is_well_formed (regions_of p l) ≡ true }
+    ensures joined { (p : Checked) → IsChecked p → DeclaredPass p (layout_of p) → is_well_formed (regions_of p (layout_of p)) ≡ true }
 {}
 
 /// Each function that is there and that can be called has its number among the functions of a program's regions, valid or not.
@@ -68,7 +68,7 @@ pub fn checked_classes_take_objects()
     ensures taken { (p : Checked) (l : Layout) → IsChecked p → (k : ℕ) → k < length p.classes → TakeObjects p l k }
 {}
 
-/// What the implicit functions of each class of a checked program do passes the tests of operations and cleanups.
+/// What the implicit functions of each class of a checked program do, by its layout, passes the tests of operations and cleanups.
 pub fn checked_implicit_functions_pass()
-    ensures pass { (p : Checked) (l : Layout) → IsChecked p → (k : ℕ) → k < length p.classes → ImplicitPass p l k }
+    ensures pass { (p : Checked) → IsChecked p → (k : ℕ) → k < length p.classes → ImplicitPass p (layout_of p) k }
 {}
