@@ -31,7 +31,7 @@ use Rattle.region_forms.specs.Layout.{layout_of}
 use Rattle.region_forms.specs.Numbering.{type_number, type_rows, declared_in_body, variables_of}
 use Rattle.region_forms.specs.LowerExpression.{result_slot}
 use Rattle.region_forms.specs.LowerStatement.{statements}
-use Rattle.region_forms.specs.LowerProgram.{first_result, limited, initial_part, body_of, declared_function, regions_of}
+use Rattle.region_forms.specs.LowerProgram.{last_result, limited, initial_part, body_of, declared_function, regions_of}
 use Rattle.region_forms.specs.WellFormed.{every}
 use Rattle.region_ir.specs.Implicit.{body_passes}
 use Rattle.region_ir.proofs.ImplicitLeaves.{parts_there, parts_within}
@@ -39,7 +39,7 @@ use Rattle.checked_regions.proofs.Fine.{Fine, fine_parts}
 use Rattle.checked_regions.proofs.Meant.{IsHeld, Meant, Given, lowering_in, Reach}
 use Rattle.checked_regions.proofs.Slots.{result_at, int_in}
 use Rattle.checked_regions.proofs.Types.{From, from_front, from_back}
-use Rattle.checked_regions.proofs.Passing.{Pass, OnePasses, then_pass, one_pass, none_pass, in_order_passes, put_passes, number_passes}
+use Rattle.checked_regions.proofs.Passing.{Pass, OnePasses, one_then, one_pass, none_pass, in_order_passes, put_passes, number_passes}
 use Rattle.checked_regions.proofs.Throws.{type_there, typed_before}
 use Rattle.checked_regions.proofs.Statements.{Rest}
 use Rattle.checked_regions.proofs.Blocks.{statements_pass}
@@ -216,12 +216,12 @@ module _ (p : Checked) (checked : IsChecked p) (defined special : List (List ℕ
   limited_passes None v h act r = in_order_passes (r (1 + 1))
   limited_passes (Some types) v h act r = record { holds = λ few. both_true (listed types v h) ((r (1 + 2)).holds few) }
 
-  first_passes : (main : Bool) → Pass g (first_result (lowering_in g) main)
-  first_passes false = none_pass
-  first_passes true = one_pass (put_passes (λ few. int_in g (result_slot (lowering_in g)) (result_at g)) (number_passes (pos 0)))
+  last_passes : (main : Bool) → Pass g (last_result (lowering_in g) main)
+  last_passes false = none_pass
+  last_passes true = one_pass (put_passes (λ few. int_in g (result_slot (lowering_in g)) (result_at g)) (number_passes (pos 0)))
 
   -- the whole
   pub declared_passes : HasClass f.kind (OfClass p env member inside k) → body_passes (regions_of p (layout_of p)) (declared_function p (layout_of p) member is_main k bound) ≡ true
   declared_passes c =
-      (then_pass (first_passes is_main) (one_pass (limited_passes f.specification w.specification heads.1 (body_of (lowering_in g) f.kind k bound) (body_by f.kind refl w.form c)))).holds
+      (one_then (limited_passes f.specification w.specification heads.1 (body_of (lowering_in g) f.kind k bound) (body_by f.kind refl w.form c)) (last_passes is_main)).holds
       (omega arith)

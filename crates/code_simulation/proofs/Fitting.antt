@@ -13,7 +13,7 @@ use Rattle.emission_forms.specs.Shape.{Shape, slot_offset, prologue, epilogue}
 use Rattle.emission_forms.specs.PlaceCode.{within, number_set}
 use Rattle.emission_forms.specs.LinearCode.{linear_code}
 use Rattle.code_simulation.specs.Standing.{PieceFits}
-use Rattle.code_simulation.specs.SmallMain.{write_op, set_op, main_ops, pieces_of}
+use Rattle.code_simulation.specs.SmallMain.{write_op, set_op, end_ops, main_ops, pieces_of}
 use Rattle.code_simulation.proofs.Fetching.{immediate_small, upper_small}
 
 pub all_then : (xs ys : List Piece) → AllByRecursion PieceFits xs → AllByRecursion PieceFits ys → AllByRecursion PieceFits (xs ++ ys)
@@ -50,9 +50,11 @@ lines_fit f (n ∷ lines) ops h = all_then (linear_code f (write_op n)) (pieces_
 
 pub main_fits : (f : Shape) (r : ℕ) (lines : List ℤ) (z : ℤ) (i l : ℕ) → AllByRecursion PieceFits (prologue f ++ pieces_of f (main_ops r lines z i l))
 main_fits f r lines z i l =
-    let ops : List LinearOp = set_op r z ∷ jump l ∷ label i ∷ label l ∷ return (Some r) ∷ [] in
-    let end : List Piece = pieces_of f (jump l ∷ label i ∷ label l ∷ return (Some r) ∷ []) in
+    let ops : List LinearOp = end_ops r z i l in
+    let last : List Piece = pieces_of f (label l ∷ return (Some r) ∷ []) in
+    let end : List Piece = pieces_of f (jump l ∷ label i ∷ set_op r (pos 0) ∷ label l ∷ return (Some r) ∷ []) in
     let left = epilogue_fits f in
-    let tail : AllByRecursion PieceFits end = (tt, ((omega arith, omega arith, immediate_small (pos (slot_offset f r + 0))), all_then (epilogue f) [] left tt)) in
+    let returned : AllByRecursion PieceFits last = ((omega arith, omega arith, immediate_small (pos (slot_offset f r + 0))), all_then (epilogue f) [] left tt) in
+    let tail : AllByRecursion PieceFits end = (tt, all_then (linear_code f (set_op r (pos 0))) last (set_fits f r (pos 0)) returned) in
     all_then (prologue f) (pieces_of f (main_ops r lines z i l)) (prologue_fits f)
-    (all_then (linear_code f (set_op r (pos 0))) (pieces_of f (map write_op lines ++ ops)) (set_fits f r (pos 0)) (lines_fit f lines ops (all_then (linear_code f (set_op r z)) end (set_fits f r z) tail)))
+    (lines_fit f lines ops (all_then (linear_code f (set_op r z)) end (set_fits f r z) tail))

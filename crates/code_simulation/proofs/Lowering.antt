@@ -47,9 +47,10 @@ body_ops : (em : Emitting) (c : Cover) (l p r : ℕ) (lines : List LineTree) (a 
 body_ops em c l p r [] a = refl
 body_ops em c l p r (t ∷ lines) a = ap (λ ops. write_op t.value ∷ ops) (body_ops em c (l + 0) (p + 1) r lines a)
 
-tail_ops : (code : List Placed) (r : ℕ) → ops_of (code ++ quiet (label 1) ∷ [] ++ [] ++ quiet (label 0) ∷ [] ++ quiet (return (Some r)) ∷ []) ≡ ops_of code ++ label 1 ∷ label 0 ∷ return (Some r) ∷ []
-tail_ops [] r = refl
-tail_ops (x ∷ code) r = ap (λ ops. x.op ∷ ops) (tail_ops code r)
+tail_ops : (code : List Placed) (y : Placed) (r : ℕ) →
+    ops_of (code ++ quiet (label 1) ∷ [] ++ y ∷ [] ++ quiet (label 0) ∷ [] ++ quiet (return (Some r)) ∷ []) ≡ ops_of code ++ label 1 ∷ y.op ∷ label 0 ∷ return (Some r) ∷ []
+tail_ops [] y r = refl
+tail_ops (x ∷ code) y r = ap (λ ops. x.op ∷ ops) (tail_ops code y r)
 
 -- main as a function of regions
 abbrev pub main_lowered : Checked → Layout → Name → ℕ → List LineTree → AnswerTree → RegionFunction
@@ -62,14 +63,14 @@ lowered_ops p layout name tokens lines a =
     let l : Lowering = lowering p layout false (all_declared_in (main_statements lines a)) in
     let r : ℕ = result_slot l in
     let em : Emitting = emitting (main_lowered p layout name tokens lines a) in
-    let code : List Placed = all_code em unpadded (exit_to 1 ∷ exit_to 0 ∷ []) 2 1 (regions_from (statements l (main_statements lines a) 0 0 2)) in
+    let code : List Placed = all_code em unpadded (exit_to 1 ∷ exit_to 0 ∷ []) 2 0 (regions_from (statements l (main_statements lines a) 0 0 2)) in
     let front : List LinearOp = map write_op (map (λ t. t.value) lines) in
     let body : ops_of code ≡ front ++ set_op r a.value ∷ jump 0 ∷ []
-    = ap (λ rs. ops_of (all_code em unpadded (exit_to 1 ∷ exit_to 0 ∷ []) 2 1 (regions_from rs))) (body_regions l lines a 0 0 2) ∙ body_ops em unpadded 2 1 r lines a in
+    = ap (λ rs. ops_of (all_code em unpadded (exit_to 1 ∷ exit_to 0 ∷ []) 2 0 (regions_from rs))) (body_regions l lines a 0 0 2) ∙ body_ops em unpadded 2 0 r lines a in
     let slot : r ≡ 0 = ap (λ (v : List Ty). 0 + length v) (no_variables lines a) in
     let whole : (function_code (main_lowered p layout name tokens lines a)).ops ≡ main_ops r (map (λ t. t.value) lines) a.value 1 0
-    = ap (λ ops. set_op r (pos 0) ∷ ops)
-    (tail_ops code r ∙ ap (λ ops. ops ++ label 1 ∷ label 0 ∷ return (Some r) ∷ []) body ∙ append_assoc front (set_op r a.value ∷ jump 0 ∷ []) (label 1 ∷ label 0 ∷ return (Some r) ∷ [])) in
+    = tail_ops code _ r ∙ ap (λ ops. ops ++ label 1 ∷ set_op r (pos 0) ∷ label 0 ∷ return (Some r) ∷ []) body
+    ∙ append_assoc front (set_op r a.value ∷ jump 0 ∷ []) (label 1 ∷ set_op r (pos 0) ∷ label 0 ∷ return (Some r) ∷ []) in
     whole ∙ ap (λ n. main_ops n (map (λ t. t.value) lines) a.value 1 0) slot
 
 -- ---- its frame
@@ -85,7 +86,7 @@ body_pads (t ∷ lines) a r d = body_pads lines a r d
 -- the body of main with the variables V
 abbrev body_with : Checked → Layout → List LineTree → AnswerTree → List Ty → Region
 body_with p layout lines a variables =
-    let l = lowering p layout false variables in in_order (op (store (slot_place (result_slot l)) (number (pos 0))) ∷ in_order (statements l (main_statements lines a) 0 0 2) ∷ [])
+    let l = lowering p layout false variables in in_order (in_order (statements l (main_statements lines a) 0 0 2) ∷ op (store (slot_place (result_slot l)) (number (pos 0))) ∷ [])
 
 abbrev slots_with : Checked → Layout → List LineTree → AnswerTree → List Ty → List Slot
 slots_with p layout lines a variables = slots_for layout false variables (body_with p layout lines a variables)

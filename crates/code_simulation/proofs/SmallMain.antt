@@ -1,5 +1,5 @@
 -- The run of a main that writes ints and returns one, operation by operation.
-use Rattle.std.proofs.Common.{◌≡◌, ◌∙◌, refl, sym, ap, subst, arith, ℕ, ◌+◌, ◌*◌, ◌%◌, ◌^◌, ◌<◌, ◌≤◌, ℤ, pos, List, [], ◌∷◌, ◌++◌, map, length, length-append, append-nil, flat_map, Some}
+use Rattle.std.proofs.Common.{◌≡◌, ◌∙◌, refl, sym, ap, subst, arith, ℕ, ◌+◌, ◌*◌, ◌%◌, ◌^◌, ◌<◌, ◌≤◌, ℤ, pos, List, [], ◌∷◌, ◌++◌, map, length, length-append, append-nil, flat_map}
 use Rattle.std.specs.List.{AllByRecursion}
 use Rattle.std.proofs.lemmas.Bool.{eq-eqb, cond_both}
 use Rattle.std.proofs.lemmas.Bool.Decides.{nat_tests}
@@ -12,7 +12,7 @@ use Rattle.rv64_isa.specs.State.{State, Part, state, with_value}
 use Rattle.rv64_isa.specs.Step.{step_of, next, calls, sets, stores, x, imm12, done}
 use Rattle.cxa_runtime.specs.World.{World}
 use Rattle.cxa_runtime.specs.Raising.{Image}
-use Rattle.linear_forms.specs.Linear.{LinearOp, label, jump, return}
+use Rattle.linear_forms.specs.Linear.{LinearOp}
 use Rattle.emission_forms.specs.Immediate.{immediate, is_small, upper, lower}
 use Rattle.emission_forms.specs.Registers.{zero_register, sp, a0, a7}
 use Rattle.emission_forms.specs.Piece.{Piece, instruction, jump_to}
@@ -27,7 +27,7 @@ use Rattle.code_simulation.specs.Frames.{IntAt, AddressAt}
 use Rattle.code_simulation.specs.Transfers.{HasFrame}
 use Rattle.code_simulation.specs.RuntimeCalls.{AtCall}
 use Rattle.code_simulation.specs.Turning.{Turns, Reaches, after_line}
-use Rattle.code_simulation.specs.SmallMain.{write_op, set_op, main_ops, pieces_of}
+use Rattle.code_simulation.specs.SmallMain.{write_op, set_op, end_ops, main_ops, pieces_of}
 use Rattle.code_simulation.proofs.Numbers.{int_stored}
 use Rattle.code_simulation.proofs.Storing.{stores_done, four_stored, holds_apart, value_written, may_still}
 use Rattle.code_simulation.proofs.Fetching.{piece_done, pieces_split, pieces_still}
@@ -272,14 +272,15 @@ returns_result image g m here z w fits h =
     } in
     record { turns = 4; few = omega arith; after = ran.after; runs = ran.turns; holds = subst (Returned m z) (sym ran.hart) there }
 
--- a jump to the word behind it
-jumps_on : (image : Image) (g : Ground) (m : MainFrame) (here l : ℕ) (rest : List Piece) (z : ℤ) (w : World) → g.places.label l ≡ here + 1 → Holding g m here (jump_to l ∷ rest) z w.hart →
-    Reaches image 1 w [] (λ v. Holding g m (here + 1) rest z v.hart)
-jumps_on image g m here l rest z w is h =
+-- a jump over some words
+jumps_on : (image : Image) (g : Ground) (m : MainFrame) (here l : ℕ) (over : List Piece) (next : Piece) (rest : List Piece) (z : ℤ) (w : World) → g.places.label l ≡ here + 1 + length over →
+    length over ≤ 3 → Holding g m here (jump_to l ∷ (over ++ next ∷ rest)) z w.hart → Reaches image 1 w [] (λ v. Holding g m (here + 1 + length over) (next ∷ rest) z v.hart)
+jumps_on image g m here l over next rest z w is few h =
     let s : State = w.hart in
     let st = h.stage in
     let there : ℕ = g.places.label l in
-    let jumped = label_jumps g here l s st.code.0 st.pc (omega (arith, is)) (omega (arith, is)) (omega (arith, is, st.code.0.word.below)) in
+    let parts = pieces_split s.memory g (here + 1) over (next ∷ rest) st.code.1 in
+    let jumped = label_jumps g here l s st.code.0 st.pc (omega (arith, is, few)) (omega (arith, is)) (omega (arith, is, parts.1.0.word.below)) in
     let u : State = state (address g there) s.regs s.memory in
     let ran = executes_turns image 1 w s u refl jumped.runs in
     record {
@@ -287,8 +288,8 @@ jumps_on image g m here l rest z w is h =
       few = omega arith;
       after = ran.after;
       runs = ran.turns;
-      holds = subst (Holding g m (here + 1) rest z) (sym ran.hart) (record {
-        stage = record { pc = ap (address g) is; registers = st.registers; stack = st.stack; saved = st.saved; may = st.may; code = st.code.1; outer = st.outer };
+      holds = subst (Holding g m (here + 1 + length over) (next ∷ rest) z) (sym ran.hart) (record {
+        stage = record { pc = ap (address g) is; registers = st.registers; stack = st.stack; saved = st.saved; may = st.may; code = parts.1; outer = st.outer };
         result = h.result;
       });
     }
@@ -303,41 +304,35 @@ reaches_then image a b w first second P Q one two = record {
 }
 
 -- the result is set, and the body is left
-answers : (image : Image) (g : Ground) (m : MainFrame) (here i l : ℕ) (z : ℤ) (w : World) → IsInt z → FrameFits m → g.places.label l ≡ here + length (linear_code m.shape (set_op m.result z)) + 1 →
-    Stage g m here (pieces_of m.shape (set_op m.result z ∷ jump l ∷ label i ∷ label l ∷ return (Some m.result) ∷ [])) w.hart → Reaches image 8 w [] (λ v. Returned m z v.hart)
+answers : (image : Image) (g : Ground) (m : MainFrame) (here i l : ℕ) (z : ℤ) (w : World) → IsInt z → FrameFits m →
+    g.places.label l ≡ here + length (linear_code m.shape (set_op m.result z)) + 1 + length (linear_code m.shape (set_op m.result (pos 0))) →
+    Stage g m here (pieces_of m.shape (end_ops m.result z i l)) w.hart → Reaches image 8 w [] (λ v. Returned m z v.hart)
 answers image g m here i l z w int fits is st =
     let set : List Piece = linear_code m.shape (set_op m.result z) in
+    let over : List Piece = linear_code m.shape (set_op m.result (pos 0)) in
     let load : Piece = int_loaded m.shape a0 m.result in
-    let tail : List Piece = (load ∷ []) ++ epilogue m.shape ++ [] in
-    let one = sets_result image g m here (jump_to l ∷ tail) z w int fits st in
-    let two = jumps_on image g m (here + length set) l tail z one.after is one.holds in
-    let three = returns_result image g m (here + length set + 1) z two.after fits two.holds in
-    let front = reaches_then image (length set) 1 w [] [] (λ v. Holding g m (here + length set) (jump_to l ∷ tail) z v.hart) (λ v. Holding g m (here + length set + 1) tail z v.hart) one two in
-    let all = reaches_then image (length set + 1) 4 w [] [] (λ v. Holding g m (here + length set + 1) tail z v.hart) (λ v. Returned m z v.hart) front three in
+    let left : List Piece = epilogue m.shape ++ [] in
+    let there : ℕ = here + length set + 1 + length over in
+    let one = sets_result image g m here (jump_to l ∷ (over ++ load ∷ left)) z w int fits st in
+    let two = jumps_on image g m (here + length set) l over load left z one.after is (set_words m.shape m.result (pos 0)) one.holds in
+    let three = returns_result image g m there z two.after fits two.holds in
+    let front = reaches_then image (length set) 1 w [] [] (λ v. Holding g m (here + length set) (jump_to l ∷ (over ++ load ∷ left)) z v.hart) (λ v. Holding g m there (load ∷ left) z v.hart) one two in
+    let all = reaches_then image (length set + 1) 4 w [] [] (λ v. Holding g m there (load ∷ left) z v.hart) (λ v. Returned m z v.hart) front three in
     record { turns = all.turns; few = omega (arith, all.few, set_words m.shape m.result z); after = all.after; runs = all.runs; holds = all.holds }
 
-starts : (m : MainFrame) (lines : List ℤ) (ops : List LinearOp) (g : Ground) (here : ℕ) (s : State) → Stage g m here (pieces_of m.shape (set_op m.result (pos 0) ∷ (map write_op lines ++ ops))) s →
-    Stage g m here (linear_code m.shape (set_op m.result (pos 0)) ++ pieces_of m.shape (map write_op lines ++ ops)) s
-starts m lines ops g here s st = st
-
--- a main's body: its result is 0 at first, its lines are written, and it returns
+-- a main's body: its lines are written, and it returns
 pub body_runs : (image : Image) (g : Ground) (m : MainFrame) (here i l : ℕ) (lines : List ℤ) (z : ℤ) (w : World) → AllByRecursion IsInt lines → IsInt z → FrameFits m →
-    g.places.label l ≡ here + length (linear_code m.shape (set_op m.result (pos 0))) + length (pieces_of m.shape (map write_op lines)) + length (linear_code m.shape (set_op m.result z)) + 1 →
-    Stage g m here (pieces_of m.shape (main_ops m.result lines z i l)) w.hart → Reaches image (11 + 4 * length lines) w (map Line lines) (λ v. Returned m z v.hart)
+    g.places.label l ≡ here + length (pieces_of m.shape (map write_op lines)) + length (linear_code m.shape (set_op m.result z)) + 1 + length (linear_code m.shape (set_op m.result (pos 0))) →
+    Stage g m here (pieces_of m.shape (main_ops m.result lines z i l)) w.hart → Reaches image (8 + 4 * length lines) w (map Line lines) (λ v. Returned m z v.hart)
 body_runs image g m here i l lines z w ints int fits is st =
-    let set : List Piece = linear_code m.shape (set_op m.result (pos 0)) in
-    let ops : List LinearOp = set_op m.result z ∷ jump l ∷ label i ∷ label l ∷ return (Some m.result) ∷ [] in
-    let rest : List Piece = pieces_of m.shape (map write_op lines ++ ops) in
-    let there : ℕ = here + length set in
-    let behind : ℕ = there + length (pieces_of m.shape (map write_op lines)) in
-    let zero_first = sets_result image g m here rest (pos 0) w refl fits (starts m lines ops g here w.hart st) in
-    let written = lines_written image g m there ops lines zero_first.after ints zero_first.holds.stage in
+    let ops : List LinearOp = end_ops m.result z i l in
+    let behind : ℕ = here + length (pieces_of m.shape (map write_op lines)) in
+    let written = lines_written image g m here ops lines w ints st in
     let last = answers image g m behind i l z written.after int fits is written.holds in
-    let front = reaches_then image (length set) (4 * length lines) w [] (map Line lines) (λ v. Holding g m there rest (pos 0) v.hart) (λ v. Stage g m behind (pieces_of m.shape ops) v.hart) zero_first written in
-    let all = reaches_then image (length set + 4 * length lines) 8 w (map Line lines) [] (λ v. Stage g m behind (pieces_of m.shape ops) v.hart) (λ v. Returned m z v.hart) front last in
+    let all = reaches_then image (4 * length lines) 8 w (map Line lines) [] (λ v. Stage g m behind (pieces_of m.shape ops) v.hart) (λ v. Returned m z v.hart) written last in
     record {
       turns = all.turns;
-      few = omega (arith, all.few, set_words m.shape m.result (pos 0));
+      few = omega (arith, all.few);
       after = all.after;
       runs = subst (Turns image all.turns w all.after) (append-nil (map Line lines)) all.runs;
       holds = all.holds;

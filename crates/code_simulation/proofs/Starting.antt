@@ -1,6 +1,6 @@
 -- A run from its first word on: the runtime's first function calls the unit, which jumps to main, and exits with what main gives.
-use Rattle.std.proofs.Common.{lit<, ◌≡◌, ◌≢◌, ◌∙◌, refl, sym, ap, subst, arith, ℕ, zero, suc, ◌+◌, ◌-◌, ◌*◌, ◌/◌, ◌%◌, ◌^◌, ◌<◌, ◌≤◌, ◌==◌, ℤ, pos, Bool, true, false, cond, inl, inr, List, [], ◌∷◌, ◌++◌, map, take, length, length-append, append-nil, flat_map, Some}
-use Rattle.std.specs.Prelude.{◌+ℤ◌, ◌⊎◌, slice_get}
+use Rattle.std.proofs.Common.{lit<, ◌≡◌, ◌≢◌, ◌∙◌, refl, sym, ap, subst, arith, ℕ, zero, suc, ◌+◌, ◌-◌, ◌*◌, ◌/◌, ◌%◌, ◌^◌, ◌<◌, ◌≤◌, ◌==◌, ℤ, pos, true, false, cond, List, [], ◌∷◌, ◌++◌, map, take, length, length-append, append-nil, flat_map, Some}
+use Rattle.std.specs.Prelude.{◌+ℤ◌, slice_get}
 use Rattle.std.specs.List.{AllByRecursion}
 use Rattle.std.proofs.lemmas.Bool.{eq-eqb}
 use Rattle.run_items.specs.declared.item.Item.TheVariants.{Line}
@@ -24,7 +24,7 @@ use Rattle.code_simulation.proofs.Initial.{stack_may}
 use Rattle.std.proofs.lemmas.List.{length-map}
 use Rattle.cxa_runtime.specs.Raising.{Image}
 use Rattle.cxa_runtime.specs.Run.{Ran, run}
-use Rattle.linear_forms.specs.Linear.{LinearOp, jump, label, return, FunctionCode, UnitCode}
+use Rattle.linear_forms.specs.Linear.{LinearOp, FunctionCode, UnitCode}
 use Rattle.linear_forms.specs.Tables.{label_place}
 use Rattle.linear_forms.specs.Stub.{compiled}
 use Rattle.emission_forms.specs.Immediate.{upper, lower}
@@ -42,7 +42,7 @@ use Rattle.code_simulation.specs.Standing.{Ground, address, PiecesAt, PieceFits,
 use Rattle.code_simulation.specs.Executes.{Executes}
 use Rattle.code_simulation.specs.Frames.{AddressAt, Reached}
 use Rattle.code_simulation.specs.Transfers.{HasRoom}
-use Rattle.code_simulation.specs.SmallMain.{write_op, set_op, main_ops, pieces_of}
+use Rattle.code_simulation.specs.SmallMain.{write_op, set_op, end_ops, main_ops, pieces_of}
 use Rattle.code_simulation.specs.UnitAt.{whole_words, ground_at, routine_ground, routine_pieces, UnitAt}
 use Rattle.code_simulation.proofs.Placing.{unit_stands, all_length}
 use Rattle.code_simulation.proofs.Fitting.{main_fits}
@@ -218,10 +218,10 @@ begun u base fc r s h =
 
 -- ---- the label of a main's end
 
--- the word behind the jump
+-- the word behind what the jump passes over
 abbrev label_word : ℕ → Shape → ℕ → List ℤ → ℤ → ℕ
 label_word first f r lines z =
-    first + 6 + length (linear_code f (set_op r (pos 0))) + length (pieces_of f (map write_op lines)) + length (linear_code f (set_op r z)) + 1
+    first + 6 + length (pieces_of f (map write_op lines)) + length (linear_code f (set_op r z)) + 1 + length (linear_code f (set_op r (pos 0)))
 
 label_behind : (lines : List ℤ) (ops : List LinearOp) (l p : ℕ) → label_place (map write_op lines ++ ops) l p ≡ label_place ops l (p + length lines)
 label_behind [] ops l p = ap (label_place ops l) (omega arith)
@@ -239,42 +239,24 @@ words_behind f (n ∷ lines) ops (suc k) j e =
     let more : List Piece = pieces_of f (map write_op lines) in
     omega (arith, words_behind f lines ops k j (omega (arith, e)), length-append (linear_code f (write_op n)) more)
 
--- the labels of the end, which have no words
-end_place : (r : ℕ) (z : ℤ) (i l q : ℕ) → let p = label_place (set_op r z ∷ jump l ∷ label i ∷ label l ∷ return (Some r) ∷ []) l q in (p ≡ q + 2) ⊎ (p ≡ q + 3)
-end_place r z i l q = by (i == l)
-  where
-    itself : (l == l) ≡ true
-    itself = eq-eqb l l refl
+-- the outer label of the end
+end_place : (r : ℕ) (z : ℤ) (i l q : ℕ) → (i == l) ≡ false → label_place (end_ops r z i l) l q ≡ q + 4
+end_place r z i l q other =
+    let itself : (l == l) ≡ true = eq-eqb l l refl in
+    ap (λ b. cond b (q + 1 + 1) (cond (l == l) (q + 1 + 1 + 1 + 1) (q + 1 + 1 + 1 + 1 + 1 + 1))) other
+    ∙ (ap (λ b. cond b (q + 1 + 1 + 1 + 1) (q + 1 + 1 + 1 + 1 + 1 + 1)) itself ∙ omega arith)
 
-    by : (b : Bool) → (cond b (q + 1 + 1) (cond (l == l) (q + 1 + 1 + 1) (q + 1 + 1 + 1 + 1 + 1)) ≡ q + 2) ⊎ (cond b (q + 1 + 1) (cond (l == l) (q + 1 + 1 + 1) (q + 1 + 1 + 1 + 1 + 1)) ≡ q + 3)
-    by true = inl (omega arith)
-    by false = inr (ap (λ b. cond b (q + 1 + 1 + 1) (q + 1 + 1 + 1 + 1 + 1)) itself ∙ omega arith)
-
-end_words : (f : Shape) (r : ℕ) (lines : List ℤ) (z : ℤ) (i l p : ℕ) → (p ≡ length lines + 3) ⊎ (p ≡ length lines + 4) →
-    block_words (take p (map (linear_code f) (main_ops r lines z i l))) ≡ length (linear_code f (set_op r (pos 0))) + (length (pieces_of f (map write_op lines)) + (length (linear_code f (set_op r z)) + 1))
-end_words f r lines z i l zero (inl e) = absurd (omega (arith, e))
-end_words f r lines z i l zero (inr e) = absurd (omega (arith, e))
-end_words f r lines z i l (suc p) (inl e) =
-    let ops : List LinearOp = set_op r z ∷ jump l ∷ label i ∷ label l ∷ return (Some r) ∷ [] in
-    ap (λ n. length (linear_code f (set_op r (pos 0))) + n) (words_behind f lines ops p 2 (omega (arith, e)) ∙ omega arith)
-end_words f r lines z i l (suc p) (inr e) =
-    let ops : List LinearOp = set_op r z ∷ jump l ∷ label i ∷ label l ∷ return (Some r) ∷ [] in
-    ap (λ n. length (linear_code f (set_op r (pos 0))) + n) (words_behind f lines ops p 3 (omega (arith, e)) ∙ omega arith)
-
-either_place : (p q k : ℕ) → q ≡ 0 + 1 + k → (p ≡ q + 2) ⊎ (p ≡ q + 3) → (p ≡ k + 3) ⊎ (p ≡ k + 4)
-either_place p q k e (inl h) = inl (omega (arith, e, h))
-either_place p q k e (inr h) = inr (omega (arith, e, h))
-
-main_label : (u : UnitCode) (base : ℕ) (fc : FunctionCode) (r i l : ℕ) (lines : List ℤ) (z : ℤ) → fc.ops ≡ main_ops r lines z i l → (main_ground u base fc).places.label l ≡ label_word (main_word u) (shape_of fc) r lines z
-main_label u base fc r i l lines z is =
+main_label : (u : UnitCode) (base : ℕ) (fc : FunctionCode) (r i l : ℕ) (lines : List ℤ) (z : ℤ) → (i == l) ≡ false → fc.ops ≡ main_ops r lines z i l →
+    (main_ground u base fc).places.label l ≡ label_word (main_word u) (shape_of fc) r lines z
+main_label u base fc r i l lines z other is =
     let f : Shape = shape_of fc in
-    let tail : List LinearOp = set_op r z ∷ jump l ∷ label i ∷ label l ∷ return (Some r) ∷ [] in
+    let tail : List LinearOp = end_ops r z i l in
     let p : ℕ = label_place fc.ops l 0 in
-    let place : p ≡ label_place tail l (0 + 1 + length lines) = ap (λ ops. label_place ops l 0) is ∙ label_behind lines tail l (0 + 1) in
-    let two_ways = either_place (label_place tail l (0 + 1 + length lines)) (0 + 1 + length lines) (length lines) refl (end_place r z i l (0 + 1 + length lines)) in
-    let words : block_words (take p (map (linear_code f) fc.ops)) ≡ length (linear_code f (set_op r (pos 0))) + (length (pieces_of f (map write_op lines)) + (length (linear_code f (set_op r z)) + 1))
-    = ap (λ n. block_words (take n (map (linear_code f) fc.ops))) place ∙ ap (λ ops. block_words (take (label_place tail l (0 + 1 + length lines)) (map (linear_code f) ops))) is
-    ∙ end_words f r lines z i l (label_place tail l (0 + 1 + length lines)) two_ways in
+    let place : p ≡ length lines + 4 = ap (λ ops. label_place ops l 0) is ∙ (label_behind lines tail l 0 ∙ (end_place r z i l (0 + length lines) other ∙ omega arith)) in
+    let words : block_words (take p (map (linear_code f) fc.ops)) ≡
+    length (pieces_of f (map write_op lines)) + (length (linear_code f (set_op r z)) + (1 + length (linear_code f (set_op r (pos 0)))))
+    = ap (λ n. block_words (take n (map (linear_code f) fc.ops))) place ∙ (ap (λ ops. block_words (take (length lines + 4) (map (linear_code f) ops))) is
+    ∙ (words_behind f lines tail (length lines + 4) 4 refl ∙ omega arith)) in
     omega (arith, words)
 
 -- ---- the whole run
@@ -344,7 +326,7 @@ program_runs image pick n p layout name tokens lines a base parts input replies 
       above = omega (arith, slot);
     } in
     ran_all image pick n u base fc 0 1 0 values a.value w begins_there (lowered_ops p layout name tokens lines a) all_ints int
-    (main_label u base fc 0 1 0 values a.value (lowered_ops p layout name tokens lines a)) (omega (arith, enough, many))
+    (main_label u base fc 0 1 0 values a.value refl (lowered_ops p layout name tokens lines a)) (omega (arith, enough, many))
 
 main_fields : (p : Checked) (layout : Layout) (name : Name) (tokens : ℕ) (lines : List LineTree) (a : AnswerTree) → p.functions ≡ main_function name tokens lines a ∷ [] → p.main ≡ 0 →
     (r : Routine) → slice_get (unit_routines (unit_of (regions_of p layout))) p.main ≡ Some r → AllByRecursion PieceFits (routine_pieces r)
@@ -359,7 +341,7 @@ main_fields p layout name tokens lines a functions first r there =
 
 pub small_mains_run : SmallMainsRun
 small_mains_run = record {
-  unit = λ image pick n u base fc r i l lines z w h is all_ints int enough. ran_all image pick n u base fc r i l lines z w h is all_ints int (main_label u base fc r i l lines z is) enough;
+  unit = λ image pick n u base fc r i l lines z w other h is all_ints int enough. ran_all image pick n u base fc r i l lines z w h is all_ints int (main_label u base fc r i l lines z other is) enough;
   program = λ image pick n p layout name tokens lines a base parts input replies functions first all_ints int few words enough.
       program_runs image pick n p layout name tokens lines a base parts input replies functions first all_ints int
       (unit_stands (unit_of (regions_of p layout)) base (initial parts).memory few words (main_fields p layout name tokens lines a functions first)) enough;

@@ -1,5 +1,5 @@
 -- What the calls of laws state.
-use Rattle.std.specs.Prelude.{◌≡◌, ℕ, ◌+◌, ◌*◌, ◌%◌, ◌^◌, ◌<◌, ◌≤◌, ℤ, List, [], ◌∷◌, ◌++◌, map, length, slice_get, Some, suc, negsuc}
+use Rattle.std.specs.Prelude.{◌≡◌, ℕ, ◌+◌, ◌*◌, ◌%◌, ◌^◌, ◌<◌, ◌≤◌, ◌==◌, false, ℤ, List, [], ◌∷◌, ◌++◌, map, length, slice_get, Some, suc, negsuc}
 use Rattle.std.specs.List.{flat_map, AllByRecursion}
 use Rattle.run_items.specs.declared.item.Item.TheVariants.{Line}
 use Rattle.cxa_runtime.specs.declared.effect.End.TheVariants.{Exit}
@@ -124,7 +124,7 @@ pub record CallsAreTurns : Type 0 where
 -- write_int on literals and a return of a literal, on a new machine that stands at the first of its words: those of the runtime's own
 -- functions and of what is emitted for the program.
 pub record SmallMainsRun : Type 0 where
-  pub unit : (image : Image) (pick : ℕ → ℕ) (n : ℕ) (u : UnitCode) (base : ℕ) (fc : FunctionCode) (r i l : ℕ) (lines : List ℤ) (z : ℤ) (w : machine.World) → Begins u base fc r w.hart →
+  pub unit : (image : Image) (pick : ℕ → ℕ) (n : ℕ) (u : UnitCode) (base : ℕ) (fc : FunctionCode) (r i l : ℕ) (lines : List ℤ) (z : ℤ) (w : machine.World) → (i == l) ≡ false → Begins u base fc r w.hart →
       fc.ops ≡ main_ops r lines z i l → AllByRecursion IsInt lines → IsInt z → 21 + 4 * length lines ≤ n →
       ((run image pick n w).items ≡ map Line lines) × ((run image pick n w).end ≡ Exit z)
   pub program : (image : Image) (pick : ℕ → ℕ) (n : ℕ) (p : Checked) (layout : Layout) (name : Name) (tokens : ℕ) (lines : List LineTree) (a : AnswerTree) (base : ℕ) (parts : List Part) (input : List ℕ)

@@ -16,9 +16,13 @@ write_op n = plain (call (builtin WriteInt) (argument_then (int_argument (number
 abbrev pub set_op : ℕ → ℤ → LinearOp
 set_op r v = plain (store (record { root = in_slot r; offset = 0 }) (number v))
 
--- the result is 0 at first; lines are written; the result is set, and the body is left
+-- the result is set, and the body is left; where control flows off its end, the result is 0
+abbrev pub end_ops : (result : ℕ) → ℤ → (inner outer : ℕ) → List LinearOp
+end_ops r answer i l = set_op r answer ∷ jump l ∷ label i ∷ set_op r (pos 0) ∷ label l ∷ return (Some r) ∷ []
+
+-- lines are written, and the end follows
 abbrev pub main_ops : (result : ℕ) → List ℤ → ℤ → (inner outer : ℕ) → List LinearOp
-main_ops r lines answer i l = set_op r (pos 0) ∷ (map write_op lines ++ set_op r answer ∷ jump l ∷ label i ∷ label l ∷ return (Some r) ∷ [])
+main_ops r lines answer i l = map write_op lines ++ end_ops r answer i l
 
 -- the pieces of operations one behind the other
 abbrev pub pieces_of : Shape → List LinearOp → List Piece

@@ -157,6 +157,14 @@ static OBJECTS: &[Row] = &[
 ];
 
 static THROWS: &[Row] = &[
+    // Control flows off the end of main where an exception came in the way of its return.
+    Row {
+        options: &[],
+        input: b"",
+        source: "struct T { int n; T() { n = 0; } ~T() { throw 1; } }; int main() { try { T t; return 5; } catch (int e) { write_int(e); } }",
+        lines: "1\n= exit 0\n",
+        status: Status::Done,
+    },
     Row {
         options: &["--trace"],
         input: b"",

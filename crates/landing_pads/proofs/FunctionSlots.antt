@@ -15,7 +15,7 @@ use Rattle.region_forms.specs.Mentioned.{slots_of_root, slots_of}
 use Rattle.region_forms.specs.Numbering.{variables_of, declared_in_body}
 use Rattle.region_forms.specs.LowerExpression.{Lowering, first_temporary, lower}
 use Rattle.region_forms.specs.LowerStatement.{statements, nothing_more}
-use Rattle.region_forms.specs.LowerProgram.{part_place, limited, build_parts, destroy_parts, default_part, copy_part, initial_value, initial_part, lowering, first_result, body_of, declared_function, copied_type, some_constructor, implicit_default_function, implicit_copy_function, implicit_destructor_function}
+use Rattle.region_forms.specs.LowerProgram.{part_place, limited, build_parts, destroy_parts, default_part, copy_part, initial_value, initial_part, lowering, last_result, body_of, declared_function, copied_type, some_constructor, implicit_default_function, implicit_copy_function, implicit_destructor_function}
 use Rattle.landing_pads.specs.Numbered.{ExpressionsFit, BodyFits, InitialisersFit, VariablesAreNumbered}
 use Rattle.landing_pads.specs.Frames.{between_calls, most_of}
 use Rattle.landing_pads.proofs.Mentions.{Below, behind, with_last, count, lowered, constructed_below}
@@ -97,14 +97,14 @@ module _ (l : Lowering) (m : ℕ) (room : first_temporary l ≤ m) where
     limited_below None act d h = h (d + 1)
     limited_below (Some types) act d h = h (d + 2)
 
-    first_below : (is_main : Bool) → Below m (first_result l is_main)
-    first_below false = omega arith
-    first_below true = omega (arith, room)
+    last_below : (is_main : Bool) → Below m (last_result l is_main)
+    last_below false = omega arith
+    last_below true = omega (arith, room)
 
-    pub whole_below : (is_main : Bool) (k : ℕ) → Below m (first_result l is_main ++ limited f.specification (body_of l f.kind k f) 1 ∷ [])
+    pub whole_below : (is_main : Bool) (k : ℕ) → Below m (limited f.specification (body_of l f.kind k f) 1 ∷ last_result l is_main)
     whole_below is_main k =
-        with_last m (first_result l is_main) (limited f.specification (body_of l f.kind k f) 1) (first_below is_main)
-        (limited_below f.specification (body_of l f.kind k f) 1 (body_below f.kind k))
+        let whole = limited_below f.specification (body_of l f.kind k f) 1 (body_below f.kind k) in
+        behind m (limited f.specification (body_of l f.kind k f) 1 ∷ []) (last_result l is_main) (omega (arith, whole)) (last_below is_main)
 
 variables_counted : (f : Function) → length (variables_of f) ≡ length f.parameters + length (declared_in_body f.body)
 variables_counted f =

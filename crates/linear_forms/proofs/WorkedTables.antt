@@ -58,15 +58,14 @@ catcher : code_at unit 1 ≡ record {
   parameters = 0;
   slots = (code_at unit 1).slots;
   ops =
-      plain (store (at 1) (number (pos 0))) ∷
       jump 3 ∷ pad 3 4 ∷ jump_filter 4 (pos 1) 4 ∷ resume 3 ∷
       label 4 ∷ plain (bind 2 (named 3)) ∷ plain (store (at 0) (load (named 2))) ∷ plain (enter 2) ∷
       jump 7 ∷ pad 3 4 ∷ plain leave ∷ resume 3 ∷ label 7 ∷
       plain (call (builtin WriteInt) (argument_then (int_argument (load (at 0))) no_arguments)) ∷ label 9 ∷
       label 8 ∷ plain leave ∷ label 6 ∷ label 5 ∷ jump 2 ∷
       label 3 ∷ plain (call (defined 0) no_arguments) ∷ label 10 ∷ label 2 ∷
-      plain (store (at 1) (number (pos 0))) ∷ jump 0 ∷ label 1 ∷ label 0 ∷ return (Some 1) ∷ [];
-  sites = open_site 4 5 ∷ open_site 12 13 ∷ open_site 17 18 ∷ site 22 23 2 (pos 1 ∷ []) ∷ [];
+      plain (store (at 1) (number (pos 0))) ∷ jump 0 ∷ label 1 ∷ plain (store (at 1) (number (pos 0))) ∷ label 0 ∷ return (Some 1) ∷ [];
+  sites = open_site 3 4 ∷ open_site 11 12 ∷ open_site 16 17 ∷ site 21 22 1 (pos 1 ∷ []) ∷ [];
   types = 1 ∷ [];
   lists = [];
   frame = 64;

@@ -1,6 +1,6 @@
 // Small functions and their tables, worked out by hand.
 //
-// A function's body begins with its statements; `main` stores 0 in its result first. An object's scope has five operations before what it
+// A function's body begins with its statements; `main` stores 0 in its result behind them. An object's scope has five operations before what it
 // guards: jump, pad, destructor, resume, label. A try block has a jump, its pad, a test for each handler and a resume, then the handlers,
 // each behind its label and the binding of the object, then a label. A specification has seven operations: jump, pad, test, resume, label,
 // the call for what it does not list, label. A block, a scope, a loop and a function's body end with a label.
@@ -257,18 +257,18 @@ pub static ROWS: &[Row] = &[
         lists: &[&[1]],
         frame: 64,
     },
-    // What calls it: the pad at 2, handlers from 6 and 26 with their scopes from 10 and 30, the call at 47.
+    // What calls it: the pad at 1, handlers from 5 and 25 with their scopes from 9 and 29, the call at 46.
     Row {
         source: "struct A { int n; A(int k) { n = k; } ~A() { } }; void f() throw(int) { A a(1); throw 7; } int main() { try { f(); } catch (A& a) { return 1; } catch (int e) { return 2; } return 0; }",
         function: 1,
         ops: 55,
         sites: &[
-            (5, 6, None, &[]),
-            (13, 14, None, &[]),
-            (21, 22, None, &[]),
-            (33, 34, None, &[]),
-            (41, 42, None, &[]),
-            (47, 48, Some(2), &[1, 2]),
+            (4, 5, None, &[]),
+            (12, 13, None, &[]),
+            (20, 21, None, &[]),
+            (32, 33, None, &[]),
+            (40, 41, None, &[]),
+            (46, 47, Some(1), &[1, 2]),
         ],
         types: &[3, 1],
         lists: &[],

@@ -108,10 +108,10 @@ abbrev pub result_for : Lowering → Ty → Option ℕ
 result_for l Int = Some (result_slot l)
 result_for l _ = None
 
--- the result of main is 0 at first
-abbrev pub first_result : Lowering → Bool → List Region
-first_result l false = []
-first_result l true = op (store (slot_place (result_slot l)) (number (pos 0))) ∷ []
+-- the result of main is 0 where control flows off its end (3.6.1/5), also where an exception came in the way of a `return`
+abbrev pub last_result : Lowering → Bool → List Region
+last_result l false = []
+last_result l true = op (store (slot_place (result_slot l)) (number (pos 0))) ∷ []
 
 -- a function with its body's region
 abbrev pub with_body : Layout → Bool → List Ty → ℕ → List ℕ → Option ℕ → Region → RegionFunction
@@ -137,7 +137,7 @@ abbrev pub declared_function : Checked → Layout → Bool → Bool → ℕ → 
 declared_function p layout is_member is_main k f =
     let l = lowering p layout is_member (variables_of f) in
     with_body layout is_member (variables_of f) (l.first_variable + length f.parameters) f.name.text (result_for l f.result)
-    (in_order (first_result l is_main ++ limited f.specification (body_of l f.kind k f) 1 ∷ []))
+    (in_order (limited f.specification (body_of l f.kind k f) 1 ∷ last_result l is_main))
 
 -- the address of what an implicit copy constructor copies is its one parameter
 abbrev pub copied_type : ClassTree → List Ty

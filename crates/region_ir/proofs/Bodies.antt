@@ -1,15 +1,15 @@
 -- What stands around the body of a declared function.
-use Rattle.std.proofs.Common.{◌≡◌, ◌∙◌, ◌+◌, ℕ, Bool, [], ◌∷◌, ◌++◌, length, Option, ap}
+use Rattle.std.proofs.Common.{◌≡◌, ◌∙◌, ◌+◌, ℕ, Bool, ◌∷◌, length, Option, ap}
 use Rattle.cxx_ast.specs.Plain.{Checked, Function}
 use Rattle.region_forms.specs.Form.{Region, RegionFunction, in_order}
 use Rattle.region_forms.specs.Layout.{Layout}
 use Rattle.region_forms.specs.LowerExpression.{Lowering}
-use Rattle.region_forms.specs.LowerProgram.{body_of, declared_function, first_result, limited, lowering, result_for, with_body}
+use Rattle.region_forms.specs.LowerProgram.{body_of, declared_function, last_result, limited, lowering, result_for, with_body}
 use Rattle.region_forms.specs.Numbering.{variables_of}
 
--- the result at first, and the body under its specification
+-- the body under its specification, and the result at its end
 abbrev pub guarded : Bool → ℕ → Function → Lowering → Region
-guarded is_main k f l = in_order (first_result l is_main ++ limited f.specification (body_of l f.kind k f) 1 ∷ [])
+guarded is_main k f l = in_order (limited f.specification (body_of l f.kind k f) 1 ∷ last_result l is_main)
 
 -- a declared function, by what its lowering is given
 abbrev declared_by : Bool → Bool → ℕ → Function → Lowering → RegionFunction

@@ -14,7 +14,7 @@ use Rattle.region_forms.specs.Layout.{Layout}
 use Rattle.region_forms.specs.Numbering.{variables_of}
 use Rattle.region_forms.specs.LowerExpression.{Lowering, first_temporary, lower}
 use Rattle.region_forms.specs.LowerStatement.{statements, nothing_more}
-use Rattle.region_forms.specs.LowerProgram.{part_place, limited, build_parts, destroy_parts, default_part, copy_part, initial_value, initial_part, lowering, first_result, body_of, declared_function, copied_type, some_constructor, implicit_default_function, implicit_copy_function, implicit_destructor_function, regions_of}
+use Rattle.region_forms.specs.LowerProgram.{part_place, limited, build_parts, destroy_parts, default_part, copy_part, initial_value, initial_part, lowering, last_result, body_of, declared_function, copied_type, some_constructor, implicit_default_function, implicit_copy_function, implicit_destructor_function, regions_of}
 use Rattle.region_forms.specs.WellFormed.{every}
 use Rattle.region_ir.specs.Exits.{exits_inside, program_exits_inside, function_jumps_stand, class_jumps_stand, program_jumps_stand}
 use Rattle.region_ir.proofs.ExitExpressions.{Inside, behind, with_last, Anywhere, lowered, constructed_anywhere}
@@ -81,9 +81,9 @@ limited_inside : (types : Option (List Ty)) (act : ℕ → List Region) → Rest
 limited_inside None act h = both_true (h 2 (omega arith)) refl
 limited_inside (Some types) act h = both_true (h 3 (omega arith)) refl
 
-first_inside : (l : Lowering) (is_main : Bool) → Inside 1 (first_result l is_main)
-first_inside l false = refl
-first_inside l true = refl
+last_inside : (l : Lowering) (is_main : Bool) → Inside 1 (last_result l is_main)
+last_inside l false = refl
+last_inside l true = refl
 
 -- the exits of a function
 abbrev test : RegionFunction → Bool
@@ -93,7 +93,8 @@ declared_inside : (p : Checked) (layout : Layout) (is_member is_main : Bool) (k 
     test (declared_function p layout is_member is_main k f) ≡ true
 declared_inside p layout is_member is_main k f j =
     let l = lowering p layout is_member (variables_of f) in
-    behind 1 (first_result l is_main) _ (first_inside l is_main) (limited_inside f.specification (body_of l f.kind k f) (body_inside l f.kind k f j))
+    behind 1 (limited f.specification (body_of l f.kind k f) 1 ∷ []) (last_result l is_main)
+    (limited_inside f.specification (body_of l f.kind k f) (body_inside l f.kind k f j)) (last_inside l is_main)
 
 -- the implicit functions of a class
 unless_declared : (is_declared : Bool) (rs : List Region) → Inside 1 rs → Inside 1 (if is_declared then [] else rs)

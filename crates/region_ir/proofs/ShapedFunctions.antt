@@ -13,7 +13,7 @@ use Rattle.region_forms.specs.Layout.{Layout}
 use Rattle.region_forms.specs.Numbering.{variables_of}
 use Rattle.region_forms.specs.LowerExpression.{Lowering, first_temporary, lower}
 use Rattle.region_forms.specs.LowerStatement.{statements, nothing_more}
-use Rattle.region_forms.specs.LowerProgram.{part_place, limited, build_parts, destroy_parts, default_part, copy_part, initial_value, initial_part, lowering, first_result, body_of, declared_function, copied_type, some_constructor, implicit_default_function, implicit_copy_function, implicit_destructor_function, own_functions, functions_of_class, functions_of_classes, regions_of}
+use Rattle.region_forms.specs.LowerProgram.{part_place, limited, build_parts, destroy_parts, default_part, copy_part, initial_value, initial_part, lowering, last_result, body_of, declared_function, copied_type, some_constructor, implicit_default_function, implicit_copy_function, implicit_destructor_function, own_functions, functions_of_class, functions_of_classes, regions_of}
 use Rattle.region_ir.specs.Shape.{is_row, functions_have_shape, all_shaped}
 use Rattle.region_ir.proofs.ShapedRows.{Row, behind, with_last}
 use Rattle.region_ir.proofs.ShapedExpressions.{whole, lowered, constructed_shaped}
@@ -76,9 +76,9 @@ limited_shaped : (types : Option (List Ty)) (act : ℕ → List Region) (d : ℕ
 limited_shaped None act d h = both_true (h (d + 1) (omega arith)) refl
 limited_shaped (Some types) act d h = both_true (h (d + 2) (omega arith)) refl
 
-first_shaped : (l : Lowering) (is_main : Bool) → Row (first_result l is_main)
-first_shaped l false = refl
-first_shaped l true = refl
+last_shaped : (l : Lowering) (is_main : Bool) → Row (last_result l is_main)
+last_shaped l false = refl
+last_shaped l true = refl
 
 -- a function's body is a row
 abbrev HasShape : RegionFunction → Type 0
@@ -88,7 +88,8 @@ declared_shaped : (p : Checked) (layout : Layout) (is_member is_main : Bool) (k 
     HasShape (declared_function p layout is_member is_main k f)
 declared_shaped p layout is_member is_main k f =
     let l = lowering p layout is_member (variables_of f) in
-    behind (first_result l is_main) _ (first_shaped l is_main) (limited_shaped f.specification (body_of l f.kind k f) 1 (body_shaped l f.kind k f))
+    behind (limited f.specification (body_of l f.kind k f) 1 ∷ []) (last_result l is_main)
+    (limited_shaped f.specification (body_of l f.kind k f) 1 (body_shaped l f.kind k f)) (last_shaped l is_main)
 
 -- the implicit functions of a class
 unless_declared : (is_declared : Bool) (rs : List Region) → Row rs → Row (if is_declared then [] else rs)

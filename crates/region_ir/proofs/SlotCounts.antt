@@ -12,7 +12,7 @@ use Rattle.region_forms.specs.Layout.{Layout}
 use Rattle.region_forms.specs.Mentioned.{slots_of}
 use Rattle.region_forms.specs.Numbering.{variables_of, declared_in_body}
 use Rattle.region_forms.specs.LowerExpression.{Lowering, result_slot, exception_slot}
-use Rattle.region_forms.specs.LowerProgram.{slot_for, help, own_slots, slots_for, lowering, result_for, with_body, copied_type, limited, first_result, body_of, some_constructor, build_parts, destroy_parts, default_part, copy_part, declared_function, implicit_default_function, implicit_copy_function, implicit_destructor_function, regions_of}
+use Rattle.region_forms.specs.LowerProgram.{slot_for, help, own_slots, slots_for, lowering, result_for, with_body, copied_type, limited, last_result, body_of, some_constructor, build_parts, destroy_parts, default_part, copy_part, declared_function, implicit_default_function, implicit_copy_function, implicit_destructor_function, regions_of}
 use Rattle.region_forms.specs.LowerStatement.{nothing_more}
 use Rattle.region_forms.specs.WellFormed.{every, slot_test, is_help}
 use Rattle.region_ir.specs.SlotsSuffice.{slots_suffice, HelpsBehind}
@@ -108,7 +108,7 @@ declared_suffices : (p : Checked) (layout : Layout) (m is_main : Bool) (k : ℕ)
 declared_suffices p layout m is_main k f =
     let l = lowering p layout m (variables_of f) in
     suffices layout m (variables_of f) (l.first_variable + length f.parameters) f.name.text (result_for l f.result)
-    (in_order (first_result l is_main ++ limited f.specification (body_of l f.kind k f) 1 ∷ [])) (parameters_named m f) (result_is l f.result)
+    (in_order (limited f.specification (body_of l f.kind k f) 1 ∷ last_result l is_main)) (parameters_named m f) (result_is l f.result)
 
 default_suffices : (p : Checked) (layout : Layout) (k : ℕ) → slots_suffice (implicit_default_function p layout k) ≡ true
 default_suffices p layout k =

@@ -1,5 +1,5 @@
 // Functions that a program declares.
-ghost use Rattle.std.specs.Prelude.{◌≡◌, ◌++◌, map, IfOk};
+ghost use Rattle.std.specs.Prelude.{◌≡◌, ◌++◌, map, IfOk, OnOk};
 ghost use Rattle.cxx_ast.specs.View.{checked_of, function_of as function_meant};
 ghost use Rattle.class_layout.specs.View.{laid_out};
 ghost use Rattle.region_forms.specs.LowerProgram as rules;
@@ -24,16 +24,15 @@ use crate::variable::variables_of;
 use cxx_ast::declaration::{Func, FuncKind};
 use scope_world::{body_of as statements_in, parts_of};
 
-// The result of main is 0 at first.
-fn first_result(l: &Lowering<'_>, is_main: bool) -> Result<Vec<Region>, NoMemory>
-    ensures { IfOk result (λ rs. map region_of rs.items ≡ rules.first_result (lowering_of l.now) is_main) }
+// The result of main is 0 where control flows off its end.
+fn last_result(l: &Lowering<'_>, is_main: bool, regions: &mut Vec<Region>) -> Result<(), NoMemory>
+    ensures { OnOk result (map region_of regions.new.items ≡ map region_of regions.old.items ++ rules.last_result (lowering_of l.now) is_main) }
 {
-    let mut regions = Vec::new(l.alloc);
     if is_main {
         let zero = RegionOp::Store(slot_place(l.result_slot()?), Value::Number(0));
         regions.push(Region::Op(zero))?;
     }
-    Ok(regions)
+    Ok(())
 }
 
 // The body of a function, of a constructor or of a destructor.
@@ -98,8 +97,9 @@ pub fn declared_function(
 {
     let variables = variables_of(source.alloc, function)?;
     let l = lowering(source, is_member, variables.as_slice());
-    let mut regions = first_result(&l, is_main)?;
+    let mut regions = Vec::new(source.alloc);
     regions.push(limited(&l, class, function, 1)?)?;
+    last_result(&l, is_main, &mut regions)?;
     let params = behind(l.first_variable, function.params.len())?;
     let result_slot = result_for(&l, &function.result)?;
     let body = in_order(regions);

@@ -13,10 +13,10 @@ use Rattle.region_forms.specs.Form.{Region, in_order, destroy_part, destroy_scop
 use Rattle.region_forms.specs.Numbering.{number_of, type_number}
 use Rattle.region_forms.specs.LowerExpression.{Lowering, first_temporary}
 use Rattle.region_forms.specs.LowerStatement.{statements, nothing_more}
-use Rattle.region_forms.specs.LowerProgram.{part_place, limited, build_parts, destroy_parts, default_part, copy_part, initial_value, initial_part, first_result, body_of}
+use Rattle.region_forms.specs.LowerProgram.{part_place, limited, build_parts, destroy_parts, default_part, copy_part, initial_value, initial_part, last_result, body_of}
 use Rattle.source_bounds.specs.LeastTokens.{tokens_in_all, tokens_given, initialisers_tokens, statements_tokens}
 use Rattle.source_bounds.specs.NamedTypes.{HaveRows, SpecificationNamesRows, BodyNamesRows, AllNameRows, FunctionNamesRows}
-use Rattle.source_bounds.proofs.Budget.{Fine, Whole, AreNamed, no_more, within, whole_within, behind, with_last, alone, one_op, ordered, protected, limited_to}
+use Rattle.source_bounds.proofs.Budget.{Fine, Whole, AreNamed, no_more, within, whole_within, in_front, behind, alone, one_op, ordered, protected, limited_to}
 use Rattle.source_bounds.proofs.Expressions.{built_fine}
 use Rattle.source_bounds.proofs.Statements.{Rest, valued, nothing_fine, statements_fine}
 use Rattle.source_bounds.proofs.Sums.{sum_from, one_changed}
@@ -144,16 +144,17 @@ module _ (rows : ℕ) (l : Lowering) where
       limited_to d (d + 1) (in_order (act (d + 2))) (map (λ t. type_number (object_type t)) types) (omega arith) (listed types h)
       (ordered (d + 1) (d + 2) (act (d + 2)) (omega arith) (r (d + 2)))
 
-  first_cost : (is_main : Bool) (d : ℕ) → Fine rows 0 d 4 (first_result l is_main)
-  first_cost false d = no_more rows 0 d 4
-  first_cost true d = alone (one_op rows 0 d _)
+  last_cost : (is_main : Bool) (d : ℕ) → Fine rows 0 d 4 (last_result l is_main)
+  last_cost false d = no_more rows 0 d 4
+  last_cost true d = alone (one_op rows 0 d _)
 
   pub whole_body : (is_main : Bool) (k : ℕ) (f : Function) → FunctionNamesRows rows f →
       Whole rows 0 0 (4 + (kind_words f.kind (length (parts_of l.program k)) f + 128 * written_tokens f + specification_words f.specification))
-      (in_order (first_result l is_main ++ limited f.specification (body_of l f.kind k f) 1 ∷ []))
+      (in_order (limited f.specification (body_of l f.kind k f) 1 ∷ last_result l is_main))
   whole_body is_main k f h =
-      ordered 0 1 _ refl (with_last (first_result l is_main) (limited f.specification (body_of l f.kind k f) 1) (first_cost is_main 1)
-      (limited_cost f.specification (body_of l f.kind k f) (kind_words f.kind (length (parts_of l.program k)) f + 128 * written_tokens f) 1 h.specification (λ d. bodied f.kind k f d h)))
+      ordered 0 1 _ refl (within (4 + (kind_words f.kind (length (parts_of l.program k)) f + 128 * written_tokens f + specification_words f.specification)) (in_front
+      (limited_cost f.specification (body_of l f.kind k f) (kind_words f.kind (length (parts_of l.program k)) f + 128 * written_tokens f) 1 h.specification (λ d. bodied f.kind k f d h))
+      (last_cost is_main 1)) (omega arith))
 
   pub default_whole : (is_declared : Bool) (k : ℕ) → Whole rows 0 0 (if is_declared then 0 else 16 * length (parts_of l.program k))
       (in_order (if is_declared then [] else build_parts l k (default_part l k) 0 (parts_of l.program k) nothing_more 1))

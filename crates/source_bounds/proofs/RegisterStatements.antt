@@ -17,7 +17,7 @@ use Rattle.region_forms.specs.Form.{Place, store, Region, op, branch, leave_regi
 use Rattle.region_forms.specs.Numbering.{declared_in, all_declared_in}
 use Rattle.region_forms.specs.LowerExpression.{Lowering, result_slot, first_temporary, slot_place, place_of, lvalue_type, has_call, Lowered, lower, dropped, lower_construct}
 use Rattle.region_forms.specs.LowerStatement.{variable_slot, copied, thrown_place, thrown_as, int_thrown, object_thrown, call_thrown, part_thrown, lvalue_thrown, operand_thrown, throwing, with_value, returning, initialised, bound_to, looping, scoped, caught_parameter, with_caught, handler, nothing_more, statement, otherwise, statements, clauses}
-use Rattle.region_forms.specs.LowerProgram.{part_place, limited, build_parts, destroy_parts, default_part, copy_part, initial_part, first_result, body_of}
+use Rattle.region_forms.specs.LowerProgram.{part_place, limited, build_parts, destroy_parts, default_part, copy_part, initial_part, last_result, body_of}
 use Rattle.source_bounds.specs.BuiltinCalls.{CallsFit, AllCallsFit, ValueCallsFit, StatementCallsFit, ElseCallsFit, StatementsCallsFit, HandlersCallsFit, BodyCallsFit, InitialisersCallsFit, FunctionCallsFit}
 use Rattle.source_bounds.specs.LeastTokens.{tokens_in, tokens_in_all, tokens_in_value, statement_tokens, else_tokens, statements_tokens, handlers_tokens, initialisers_tokens, body_tokens, function_tokens}
 use Rattle.source_bounds.specs.RegisterWeights.{RegionFits, ClausesFit}
@@ -218,14 +218,14 @@ module _ (l : Lowering) where
   limited_fits None act d r = r (d + 1)
   limited_fits (Some types) act d r = r (d + 2)
 
-  first_fits : (is_main : Bool) → AllFit (first_result l is_main)
-  first_fits false = tt
-  first_fits true = (omega arith, tt)
+  last_fits : (is_main : Bool) → AllFit (last_result l is_main)
+  last_fits false = tt
+  last_fits true = (omega arith, tt)
 
   pub body_fits : (is_main : Bool) (k : ℕ) (f : Function) → function_tokens f ≤ 2000 → FunctionCallsFit f →
-      RegionFits (in_order (first_result l is_main ++ limited f.specification (body_of l f.kind k f) 1 ∷ []))
+      RegionFits (in_order (limited f.specification (body_of l f.kind k f) 1 ∷ last_result l is_main))
   body_fits is_main k f h c =
-      then_fit (first_result l is_main) _ (first_fits is_main) (limited_fits f.specification (body_of l f.kind k f) 1 (λ d. bodied f.kind k f d h c), tt)
+      (limited_fits f.specification (body_of l f.kind k f) 1 (λ d. bodied f.kind k f d h c), last_fits is_main)
 
   pub default_whole_fits : (is_declared : Bool) (k : ℕ) → RegionFits (in_order (if is_declared then [] else build_parts l k (default_part l k) 0 (parts_of l.program k) nothing_more 1))
   default_whole_fits true k = tt

@@ -12,11 +12,11 @@ use Rattle.region_forms.specs.Form.{Region, in_order, destroy_part, destroy_scop
 use Rattle.region_forms.specs.Numbering.{number_of, type_number}
 use Rattle.region_forms.specs.LowerExpression.{Lowering, first_temporary}
 use Rattle.region_forms.specs.LowerStatement.{statements, nothing_more}
-use Rattle.region_forms.specs.LowerProgram.{part_place, limited, build_parts, destroy_parts, default_part, copy_part, initial_value, initial_part, first_result, body_of}
+use Rattle.region_forms.specs.LowerProgram.{part_place, limited, build_parts, destroy_parts, default_part, copy_part, initial_value, initial_part, last_result, body_of}
 use Rattle.source_bounds.specs.LeastTokens.{tokens_in_all, tokens_given, initialisers_tokens, statements_tokens}
 use Rattle.source_bounds.proofs.Functions.{given_tokens}
 use Rattle.source_bounds.proofs.Sums.{sum_from}
-use Rattle.source_bounds.proofs.Tabled.{Tabled, TabledRegion, no_table, upto, single, then_others, then_one, an_op, in_a_row, a_scope}
+use Rattle.source_bounds.proofs.Tabled.{Tabled, TabledRegion, no_table, upto, first_of, single, then_others, an_op, in_a_row, a_scope}
 use Rattle.source_bounds.proofs.TabledExpressions.{built_sited}
 use Rattle.source_bounds.proofs.TabledStatements.{Others, valued_table, nothing_table, statements_table}
 
@@ -116,16 +116,17 @@ module _ (l : Lowering) where
       let k = r (d + 2) in
       record { sites = omega (arith, k.sites); guards = omega (arith, k.guards, length-map types (λ t. type_number (object_type t))) }
 
-  first_table : (is_main : Bool) → Tabled 0 0 (first_result l is_main)
-  first_table false = no_table 0 0
-  first_table true = record { sites = omega arith; guards = omega arith }
+  last_table : (is_main : Bool) → Tabled 0 0 (last_result l is_main)
+  last_table false = no_table 0 0
+  last_table true = record { sites = omega arith; guards = omega arith }
 
   pub body_table : (is_main : Bool) (k : ℕ) (f : Function) →
       TabledRegion (kind_sites f.kind (length (parts_of l.program k)) f + written f + specification_sites f.specification) (written f + specification_guards f.specification)
-      (in_order (first_result l is_main ++ limited f.specification (body_of l f.kind k f) 1 ∷ []))
+      (in_order (limited f.specification (body_of l f.kind k f) 1 ∷ last_result l is_main))
   body_table is_main k f =
-      in_a_row _ (upto _ _ (then_one (first_result l is_main) (limited f.specification (body_of l f.kind k f) 1) (first_table is_main)
-      (limited_table f.specification (body_of l f.kind k f) (kind_sites f.kind (length (parts_of l.program k)) f + written f) (written f) 1 (λ d. bodied f.kind k f d))) (omega arith) (omega arith))
+      in_a_row _ (upto _ _ (first_of
+      (limited_table f.specification (body_of l f.kind k f) (kind_sites f.kind (length (parts_of l.program k)) f + written f) (written f) 1 (λ d. bodied f.kind k f d))
+      (last_table is_main)) (omega arith) (omega arith))
 
   pub default_table : (is_declared : Bool) (k : ℕ) → TabledRegion (if is_declared then 0 else 2 * length (parts_of l.program k)) 0
       (in_order (if is_declared then [] else build_parts l k (default_part l k) 0 (parts_of l.program k) nothing_more 1))

@@ -14,7 +14,7 @@ use Rattle.region_forms.specs.Layout.{Layout}
 use Rattle.region_forms.specs.Numbering.{variables_of}
 use Rattle.region_forms.specs.LowerExpression.{Lowering, first_temporary}
 use Rattle.region_forms.specs.LowerStatement.{statements, nothing_more}
-use Rattle.region_forms.specs.LowerProgram.{part_place, limited, build_parts, destroy_parts, default_part, copy_part, initial_value, initial_part, lowering, first_result, body_of, declared_function, copied_type, some_constructor, implicit_default_function, implicit_copy_function, implicit_destructor_function, regions_of}
+use Rattle.region_forms.specs.LowerProgram.{part_place, limited, build_parts, destroy_parts, default_part, copy_part, initial_value, initial_part, lowering, last_result, body_of, declared_function, copied_type, some_constructor, implicit_default_function, implicit_copy_function, implicit_destructor_function, regions_of}
 use Rattle.region_forms.specs.WellFormed.{every}
 use Rattle.linear_simulation.specs.Simulates.{has_clauses}
 use Rattle.linear_simulation.specs.FunctionsRun.{catches_have_clauses}
@@ -84,9 +84,9 @@ limited_row : (types : Option (List Ty)) (act : ℕ → List Region) (d : ℕ) �
 limited_row None act d h = both_true (h (d + 1)) refl
 limited_row (Some types) act d h = both_true (h (d + 2)) refl
 
-first_row : (l : Lowering) (is_main : Bool) → Row (first_result l is_main)
-first_row l false = refl
-first_row l true = refl
+last_row : (l : Lowering) (is_main : Bool) → Row (last_result l is_main)
+last_row l false = refl
+last_row l true = refl
 
 -- a function
 abbrev test : RegionFunction → Bool
@@ -96,7 +96,8 @@ declared_row : (p : Checked) (layout : Layout) (is_member is_main : Bool) (k : �
     test (declared_function p layout is_member is_main k f) ≡ true
 declared_row p layout is_member is_main k f h =
     let l = lowering p layout is_member (variables_of f) in
-    behind (first_result l is_main) _ (first_row l is_main) (limited_row f.specification (body_of l f.kind k f) 1 (body_row l f.kind k f h))
+    behind (limited f.specification (body_of l f.kind k f) 1 ∷ []) (last_result l is_main)
+    (limited_row f.specification (body_of l f.kind k f) 1 (body_row l f.kind k f h)) (last_row l is_main)
 
 -- the implicit functions of a class
 unless_declared : (is_declared : Bool) (rs : List Region) → Row rs → Row (if is_declared then [] else rs)

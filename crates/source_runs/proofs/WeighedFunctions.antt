@@ -12,12 +12,12 @@ use Rattle.region_forms.specs.Layout.{Layout}
 use Rattle.region_forms.specs.Numbering.{number_of, variables_of}
 use Rattle.region_forms.specs.LowerExpression.{Lowering, first_temporary}
 use Rattle.region_forms.specs.LowerStatement.{statements, nothing_more}
-use Rattle.region_forms.specs.LowerProgram.{part_place, limited, build_parts, destroy_parts, default_part, copy_part, initial_value, initial_part, lowering, first_result, body_of, copied_type, some_constructor, declared_function, implicit_default_function, implicit_copy_function, implicit_destructor_function}
+use Rattle.region_forms.specs.LowerProgram.{part_place, limited, build_parts, destroy_parts, default_part, copy_part, initial_value, initial_part, lowering, last_result, body_of, copied_type, some_constructor, declared_function, implicit_default_function, implicit_copy_function, implicit_destructor_function}
 use Rattle.source_bounds.specs.LeastTokens.{tokens_in_all, tokens_given, initialisers_tokens, specification_tokens, statements_tokens, function_tokens}
 use Rattle.source_bounds.proofs.Functions.{given_tokens}
 use Rattle.source_bounds.proofs.Units.{body_counted}
 use Rattle.source_bounds.proofs.Sums.{sum_from}
-use Rattle.source_runs.proofs.Weights.{weight, Weigh, Weighs, no_weight, upto, single, then_others, then_one, an_op, in_a_row, a_scope}
+use Rattle.source_runs.proofs.Weights.{weight, Weigh, Weighs, no_weight, upto, first_of, single, then_others, an_op, in_a_row, a_scope}
 use Rattle.source_runs.proofs.WeighedExpressions.{built_weighs}
 use Rattle.source_runs.proofs.WeighedStatements.{Others, valued, nothing_weighs, statements_weigh}
 
@@ -120,15 +120,16 @@ module _ (l : Lowering) where
   limited_weighs None act m d r = let k = r (d + 1) in record { few = omega (arith, k.few) }
   limited_weighs (Some types) act m d r = let k = r (d + 2) in record { few = omega (arith, k.few) }
 
-  first_weighs : (is_main : Bool) → Weigh 16 (first_result l is_main)
-  first_weighs false = no_weight 16
-  first_weighs true = single (an_op _)
+  last_weighs : (is_main : Bool) → Weigh 16 (last_result l is_main)
+  last_weighs false = no_weight 16
+  last_weighs true = single (an_op _)
 
   body_weighs : (is_main : Bool) (k : ℕ) (f : Function) →
-      weight (in_order (first_result l is_main ++ limited f.specification (body_of l f.kind k f) 1 ∷ [])) + 2 ≤ 40 * function_tokens f + 49 * length (parts_of l.program k)
+      weight (in_order (limited f.specification (body_of l f.kind k f) 1 ∷ last_result l is_main)) + 2 ≤ 40 * function_tokens f + 49 * length (parts_of l.program k)
   body_weighs is_main k f =
-      let whole = then_one (first_result l is_main) (limited f.specification (body_of l f.kind k f) 1) (first_weighs is_main)
-      (limited_weighs f.specification (body_of l f.kind k f) (kind_weight f.kind (length (parts_of l.program k)) f + written f) 1 (λ d. bodied f.kind k f d)) in
+      let whole = first_of
+      (limited_weighs f.specification (body_of l f.kind k f) (kind_weight f.kind (length (parts_of l.program k)) f + written f) 1 (λ d. bodied f.kind k f d))
+      (last_weighs is_main) in
       omega (arith, whole.few, kind_counted f.kind (length (parts_of l.program k)) f, specification_counted f.specification, body_counted f.body)
 
   default_body : (is_declared : Bool) (k : ℕ) →
