@@ -9,3 +9,5 @@ mod WeighedExpressions
 mod WeighedStatements
 mod WeighedFunctions
 mod Costs
+mod Fields
+mod CheckedFields

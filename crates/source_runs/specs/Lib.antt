@@ -1,3 +1,4 @@
 pub mod Clauses
 pub mod Runs
 pub mod Costs
+pub mod Fields

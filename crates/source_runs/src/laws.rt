@@ -1,6 +1,7 @@
 //! Laws of the linear code of sources.
 ghost use Rattle.source_runs.specs.Clauses.{CheckedCatchesHaveClauses};
 ghost use Rattle.source_runs.specs.Costs.{CheckedCostsFit, ValidSourcesRunInTime};
+ghost use Rattle.source_runs.specs.Fields.{CheckedProgramsHaveFields};
 ghost use Rattle.source_runs.specs.Runs.{CheckedProgramsRun, ValidSourcesRun};
 
 /// In the regions of each checked program each region that catches has a clause, since a try block has a handler.
@@ -29,4 +30,10 @@ pub fn checked_costs_fit()
 /// So many steps, for each turn and one more, are enough for the run of a valid source's linear code to show what its regions mean.
 pub fn valid_sources_run_in_time()
     ensures run { ValidSourcesRunInTime }
+{}
+
+/// Each number of a checked program's regions is below 2^32: those of functions, types, globals and slots, sizes and offsets in bytes, and how many
+/// regions an exit leaves.
+pub fn checked_programs_have_fields()
+    ensures fields { CheckedProgramsHaveFields }
 {}
