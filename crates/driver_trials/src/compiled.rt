@@ -256,12 +256,25 @@ fn sums(alloc: Global) -> Result<String, Fail> {
     Ok(source)
 }
 
+// Functions of which each calls the one with half its number, of 65,531 tokens.
+fn halves(alloc: Global) -> Result<String, Fail> {
+    let mut source = String::from_str(alloc, "int f0(int a) { return a; } ")?;
+    for n in 1..2114u32 {
+        let half = n / 2;
+        let head = format!(in alloc; "int f{n}(int a) {{ int b = a * 2 - a + 0 - 0 + 0; ")?;
+        source.push_str(head.as_str())?;
+        source.push_str(format!(in alloc; "return f{half}(b) + 1; }} ")?.as_str())?;
+    }
+    source.push_str("int main() { write_int(f2113(0)); return 0; }")?;
+    Ok(source)
+}
+
 static ARGUMENTS: &str =
     "int f(int a, int b, int c, int d, int e, int g, int h, int i, int j, int k, int l, int m) \
 { return a + 2 * b + 3 * c + 4 * d + 5 * e + 6 * g + 7 * h + 8 * i + 9 * j + 10 * k + 11 * l + 12 * m; } \
 int main() { write_int(f(1, 2, 3, 4, 5, 6, 7, 8, 9, 10, 11, 12)); return 0; }";
 
-// Many variables, deep sums and many arguments.
+// Many variables, deep sums, many arguments and many functions.
 #[test]
 fn near_the_limits(rt: HostRuntime) -> Result<(), Fail> {
     let alloc = rt.alloc();
@@ -270,6 +283,7 @@ fn near_the_limits(rt: HostRuntime) -> Result<(), Fail> {
         (variables(alloc)?, "16110\n= exit 0\n"),
         (sums(alloc)?, "29\n= exit 0\n"),
         (arguments, "650\n= exit 0\n"),
+        (halves(alloc)?, "12\n= exit 0\n"),
     ];
     for (source, lines) in trials {
         let mut store = holding(alloc, source.as_str(), b"", &[])?;
