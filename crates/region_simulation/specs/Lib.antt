@@ -11,4 +11,5 @@ pub mod Evaluates
 pub mod Passes
 pub mod Expressions
 pub mod Writing
+pub mod Flows
 pub mod First
