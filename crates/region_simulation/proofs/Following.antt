@@ -113,7 +113,7 @@ module _ (l : Layout) (p : Checked) where
     address = x.address;
   }
 
-reached_kept : (t : Ty) (k s : ℕ) (f g : Frame) (a : Address) → s < k → Keeps k f g → IsReachedBy t s f a → IsReachedBy t s g a
+pub reached_kept : (t : Ty) (k s : ℕ) (f g : Frame) (a : Address) → s < k → Keeps k f g → IsReachedBy t s f a → IsReachedBy t s g a
 reached_kept Void k s f g a lt h x = x
 reached_kept (IntRef c) k s f g a lt h x = h.slots s lt ∙ x
 reached_kept (ObjectRef c n) k s f g a lt h x = h.slots s lt ∙ x

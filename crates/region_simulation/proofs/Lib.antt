@@ -19,3 +19,5 @@ pub mod Parts
 pub mod Writing
 pub mod Assigning
 pub mod First
+pub mod Leaving
+pub mod Flowing
