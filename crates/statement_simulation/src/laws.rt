@@ -1,0 +1,54 @@
+// Laws of lowering: calls of no effect, whose contracts state what holds of every program.
+ghost use Rattle.statement_simulation.specs.Sequences.{BlocksAreHeld, BranchesDecide, BreaksLeave, ContinuesLeave, DroppedValuesGoOn, EffectsGoOn, LoopsTurn, ReturnsLeave, SequencesFollow, ValuesReturn};
+
+/// Where regions do what a statement does, and others what the rest of its block does, the one before the others do what the statement and then
+/// the rest does: unless the flow breaks, continues or returns. What was declared in scopes that are left stands nowhere by then, so its slots
+/// may be used again.
+pub fn sequences_follow()
+    ensures { SequencesFollow }
+{}
+
+/// A block is one region that holds those of its statements.
+pub fn blocks_are_held()
+    ensures { BlocksAreHeld }
+{}
+
+/// Regions that do what an action does and go on normally may stand before those of the rest.
+pub fn effects_go_on()
+    ensures { EffectsGoOn }
+{}
+
+/// An expression that is evaluated for its effects alone: regions that drop its value do what those do that store it.
+pub fn dropped_values_go_on()
+    ensures { DroppedValuesGoOn }
+{}
+
+/// `if`: the value of a test decides which of two regions is done.
+pub fn branches_decide()
+    ensures { BranchesDecide }
+{}
+
+/// `while`: each turn of the source is one of the regions and spends one in both, with the test before the body or, where it makes calls, in it.
+pub fn loops_turn()
+    ensures { LoopsTurn }
+{}
+
+/// `break` goes to the end of the loop's region.
+pub fn breaks_leave()
+    ensures { BreaksLeave }
+{}
+
+/// `continue` goes to the end of the region of the loop's body.
+pub fn continues_leave()
+    ensures { ContinuesLeave }
+{}
+
+/// `return;` goes out of every region of the function.
+pub fn returns_leave()
+    ensures { ReturnsLeave }
+{}
+
+/// `return` with a value stores it in the result's slot, and goes out of every region of the function.
+pub fn values_return()
+    ensures { ValuesReturn }
+{}
