@@ -21,3 +21,5 @@ pub mod Assigning
 pub mod First
 pub mod Leaving
 pub mod Flowing
+pub mod Standing
+pub mod Declaring
