@@ -36,18 +36,18 @@ set_other (y ∷ xs) zero (suc j) x ne = refl
 set_other (y ∷ xs) (suc i) zero x ne = refl
 set_other (y ∷ xs) (suc i) (suc j) x ne = set_other xs i j x (λ e. ne (ap suc e))
 
-both_true : (a b : Bool) → (a && b) ≡ true → (a ≡ true) × (b ≡ true)
+pub both_true : (a b : Bool) → (a && b) ≡ true → (a ≡ true) × (b ≡ true)
 both_true true true e = (refl, refl)
 both_true false b e = absurd (cc e)
 both_true true false e = absurd (cc e)
 
-number_is : (m n : ℕ) → (m == n) ≡ true → m ≡ n
+pub number_is : (m n : ℕ) → (m == n) ≡ true → m ≡ n
 number_is m n e = grind (arith, nat_tests, e)
 
-number_itself : (n : ℕ) → (n == n) ≡ true
+pub number_itself : (n : ℕ) → (n == n) ≡ true
 number_itself n = grind (arith, nat_tests)
 
-base_is : (a b : Base) → same_base a b ≡ true → a ≡ b
+pub base_is : (a b : Base) → same_base a b ≡ true → a ≡ b
 base_is (of_global m) (of_global n) e = ap of_global (number_is m n e)
 base_is (of_exception m) (of_exception n) e = ap of_exception (number_is m n e)
 base_is (of_variable m s) (of_variable n t) e =
@@ -64,7 +64,7 @@ base_itself (of_global n) = number_itself n
 base_itself (of_exception n) = number_itself n
 base_itself (of_variable n s) = ap₂ (λ x y. x && y) (number_itself n) (number_itself s)
 
-address_itself : (a : Address) → same_address a a ≡ true
+pub address_itself : (a : Address) → same_address a a ≡ true
 address_itself a = ap₂ (λ x y. x && y) (number_itself a.offset) (base_itself a.base)
 
 true_is_not : (b : Bool) → b ≡ true → b ≡ false → ⊥

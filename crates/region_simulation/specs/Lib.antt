@@ -12,4 +12,5 @@ pub mod Passes
 pub mod Expressions
 pub mod Writing
 pub mod Flows
+pub mod Statements
 pub mod First
