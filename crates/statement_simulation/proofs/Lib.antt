@@ -3,3 +3,6 @@ pub mod Looping
 pub mod Testing
 pub mod Ending
 pub mod Dropping
+pub mod Locals
+pub mod Naming
+pub mod Statements

@@ -1,5 +1,28 @@
 // Laws of lowering: calls of no effect, whose contracts state what holds of every program.
+ghost use Rattle.statement_simulation.specs.Declarations.{IntsStandSet, IntsStandUnset, ReferencesAreBound};
 ghost use Rattle.statement_simulation.specs.Sequences.{BlocksAreHeld, BranchesDecide, BreaksLeave, ContinuesLeave, DroppedValuesGoOn, EffectsGoOn, LoopsTurn, ReturnsLeave, SequencesFollow, ValuesReturn};
+ghost use Rattle.statement_simulation.specs.Statements.{StatementsDoAlike};
+
+/// Every typed statement, wherever it stands, is lowered to regions that do what it does: with calls that do the same, and with throws, try
+/// blocks, local objects and the two built-in functions that may terminate or raise that do.
+pub fn statements_do_alike()
+    ensures { StatementsDoAlike }
+{}
+
+/// A local int without a value stands at its slot, unset: nothing is said of the bytes there.
+pub fn ints_stand_unset()
+    ensures { IntsStandUnset }
+{}
+
+/// A local int with a value stands at its slot, which holds the value, as long as its scope lasts.
+pub fn ints_stand_set()
+    ensures { IntsStandSet }
+{}
+
+/// The slot of a local reference gets the address of what the reference is bound to.
+pub fn references_are_bound()
+    ensures { ReferencesAreBound }
+{}
 
 /// Where regions do what a statement does, and others what the rest of its block does, the one before the others do what the statement and then
 /// the rest does: unless the flow breaks, continues or returns. What was declared in scopes that are left stands nowhere by then, so its slots
