@@ -70,12 +70,12 @@ number_passed l p at [] [] (x ∷ words) i h = absurd h
 number_passed l p at [] (a ∷ given) words i h = absurd h
 number_passed l p at (t ∷ types) [] words i h = absurd h
 number_passed l p at (t ∷ types) (a ∷ given) [] i h = absurd h
-number_passed l p at (t ∷ types) (by_value n ∷ given) (x ∷ words) zero h = ap (λ y. number_at (y ∷ words) 0) h.0
+number_passed l p at (t ∷ types) (by_value n ∷ given) (x ∷ words) zero h = ap (λ y. number_at (y ∷ words) 0) h.0.1
 number_passed l p at (t ∷ types) (by_value n ∷ given) (x ∷ words) (suc i) h =
-    ap (λ y. number_at (y ∷ words) (suc i)) h.0 ∙ number_passed l p at types given words i h.1
-number_passed l p at (t ∷ types) (by_reference r ∷ given) (x ∷ words) zero h = ap (λ y. number_at (y ∷ words) 0) h.0.2
+    ap (λ y. number_at (y ∷ words) (suc i)) h.0.1 ∙ number_passed l p at types given words i h.1
+number_passed l p at (t ∷ types) (by_reference r ∷ given) (x ∷ words) zero h = ap (λ y. number_at (y ∷ words) 0) h.0.3
 number_passed l p at (t ∷ types) (by_reference r ∷ given) (x ∷ words) (suc i) h =
-    ap (λ y. number_at (y ∷ words) (suc i)) h.0.2 ∙ number_passed l p at types given words i h.1
+    ap (λ y. number_at (y ∷ words) (suc i)) h.0.3 ∙ number_passed l p at types given words i h.1
 
 -- what is done with an operation
 abbrev pub ending : Result (Unit {0}) → Result Flow

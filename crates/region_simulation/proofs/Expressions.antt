@@ -160,48 +160,48 @@ module _ (l : Lowering) (own : Option ℕ) (calls : Callee → Reference → Lis
   arguments_meant (expression_then e es) types t u high quiet typed =
       let (first, rest) = neither (has_call e) (some_call es) quiet in go types typed first rest (λ ts n ok. arguments_meant es ts n u high rest ok)
     where
-      value : (ts : List Ty) (x : Ty) → has_call e ≡ false → some_call es ≡ false → IsTyped l own v.variables e
+      value : (ts : List Ty) → has_call e ≡ false → some_call es ≡ false → IsTyped l own v.variables e
           → ((n : ℕ) → GivesMeant l own b v c (types_for ts es) (arguments (source_running l calls) v es ts c) (lower_arguments l es ts n).arguments)
-          → GivesMeant l own b v c (x ∷ types_for ts es) (by_its_value (value_of (source_running l calls) v e c) >>= before_others (arguments (source_running l calls) v es ts c))
+          → GivesMeant l own b v c (Int ∷ types_for ts es) (by_its_value (value_of (source_running l calls) v e c) >>= before_others (arguments (source_running l calls) v es ts c))
           (int_passed (some_call es) t (lower l e t) (λ n. lower_arguments l es ts n)).arguments
-      value ts x first rest typed others =
-          subst (λ d. GivesMeant l own b v c (x ∷ types_for ts es) (by_its_value (value_of (source_running l calls) v e c) >>= before_others (arguments (source_running l calls) v es ts c))
+      value ts first rest typed others =
+          subst (λ d. GivesMeant l own b v c (Int ∷ types_for ts es) (by_its_value (value_of (source_running l calls) v e c) >>= before_others (arguments (source_running l calls) v es ts c))
           (int_passed d t (lower l e t) (λ n. lower_arguments l es ts n)).arguments) (sym rest)
-          (meant_int l own b v c fit (types_for ts es) x (value_of (source_running l calls) v e c) (lower l e t).value (arguments (source_running l calls) v es ts c)
-          (lower_arguments l es ts (lower l e t).next).arguments (value_meant e t first typed) (others (lower l e t).next))
+          (meant_int l own b v c fit (types_for ts es) Int (value_of (source_running l calls) v e c) (lower l e t).value (arguments (source_running l calls) v es ts c)
+          (lower_arguments l es ts (lower l e t).next).arguments refl (value_meant e t first typed) (others (lower l e t).next))
 
       go : (types : List Ty) → AreTyped l own v.variables (expression_then e es) types → has_call e ≡ false → some_call es ≡ false
           → ((ts : List Ty) (n : ℕ) → AreTyped l own v.variables es ts
           → GivesMeant l own b v c (types_for ts es) (arguments (source_running l calls) v es ts c) (lower_arguments l es ts n).arguments)
           → GivesMeant l own b v c (types_for types (expression_then e es)) (arguments (source_running l calls) v (expression_then e es) types c) (lower_arguments l (expression_then e es) types t).arguments
-      go [] typed first rest others = value [] Int first rest typed.0 (λ n. others [] n typed.1)
-      go (Int ∷ ts) typed first rest others = value ts Int first rest typed.0 (λ n. others ts n typed.1)
-      go (Void ∷ ts) typed first rest others = value ts Void first rest typed.0 (λ n. others ts n typed.1)
-      go (Object k ∷ ts) typed first rest others = value ts (Object k) first rest typed.0 (λ n. others ts n typed.1)
+      go [] typed first rest others = value [] first rest typed.0 (λ n. others [] n typed.1)
+      go (Int ∷ ts) typed first rest others = value ts first rest typed.0 (λ n. others ts n typed.1)
+      go (Void ∷ ts) typed first rest others = absurd typed.0
+      go (Object k ∷ ts) typed first rest others = absurd typed.0
       go (IntRef k ∷ ts) typed first rest others =
           meant_address l own b v c fit u (types_for ts es) (IntRef k) (λ w. lvalue l.program w v (names_of (lvalue_of e))) (names_of (lvalue_of e))
-          (arguments (source_running l calls) v es ts c) (lower_arguments l es ts t).arguments (int_names u high k e (typed.0, tt)) (others ts t typed.1)
+          (arguments (source_running l calls) v es ts c) (lower_arguments l es ts t).arguments refl (int_names u high k e (typed.0, tt)) (others ts t typed.1)
       go (ObjectRef k n ∷ ts) typed first rest others =
           meant_address l own b v c fit u (types_for ts es) (ObjectRef k n) (λ w. as_class w (class_named n) (lvalue l.program w v (names_of (lvalue_of e)))) (names_of (lvalue_of e))
-          (arguments (source_running l calls) v es ts c) (lower_arguments l es ts t).arguments (object_names u high k n e (typed.0, tt)) (others ts t typed.1)
+          (arguments (source_running l calls) v es ts c) (lower_arguments l es ts t).arguments refl (object_names u high k n e (typed.0, tt)) (others ts t typed.1)
 
   -- an int before others
-  int_passes : (e : Expression) (es : Expressions) (ts : List Ty) (x : Ty) (t : ℕ) → first_temporary l ≤ t → AreTyped l own v.variables es ts
+  int_passes : (e : Expression) (es : Expressions) (ts : List Ty) (t : ℕ) → first_temporary l ≤ t → AreTyped l own v.variables es ts
       → Evaluates l own b v c t (value_of (source_running l calls) v e c) (lower l e t)
       → ((u : ℕ) → first_temporary l ≤ u → Passes l own b v c u (types_for ts es) (arguments (source_running l calls) v es ts c) (lower_arguments l es ts u))
-      → Passes l own b v c t (x ∷ types_for ts es) (by_its_value (value_of (source_running l calls) v e c) >>= before_others (arguments (source_running l calls) v es ts c))
+      → Passes l own b v c t (Int ∷ types_for ts es) (by_its_value (value_of (source_running l calls) v e c) >>= before_others (arguments (source_running l calls) v es ts c))
       (int_passed (some_call es) t (lower l e t) (λ u. lower_arguments l es ts u))
-  int_passes e es ts x t high typed first rest = go (some_call es) refl
+  int_passes e es ts t high typed first rest = go (some_call es) refl
     where
       go : (d : Bool) → some_call es ≡ d
-          → Passes l own b v c t (x ∷ types_for ts es) (by_its_value (value_of (source_running l calls) v e c) >>= before_others (arguments (source_running l calls) v es ts c))
+          → Passes l own b v c t (Int ∷ types_for ts es) (by_its_value (value_of (source_running l calls) v e c) >>= before_others (arguments (source_running l calls) v es ts c))
           (int_passed d t (lower l e t) (λ u. lower_arguments l es ts u))
       go false quiet =
-          pass_quiet l own b v c fit t (lower_arguments l es ts (lower l e t).next).next (types_for ts es) x (value_of (source_running l calls) v e c) (lower l e t)
-          (arguments (source_running l calls) v es ts c) (lower_arguments l es ts (lower l e t).next).arguments (omega (arith, high)) first
+          pass_quiet l own b v c fit t (lower_arguments l es ts (lower l e t).next).next (types_for ts es) Int (value_of (source_running l calls) v e c) (lower l e t)
+          (arguments (source_running l calls) v es ts c) (lower_arguments l es ts (lower l e t).next).arguments refl (omega (arith, high)) first
           (arguments_meant es ts (lower l e t).next t high quiet typed)
       go true loud =
-          pass_stored l own b v c fit t high (types_for ts es) x (value_of (source_running l calls) v e c) (lower l e t) (arguments (source_running l calls) v es ts c)
+          pass_stored l own b v c fit t high (types_for ts es) Int refl (value_of (source_running l calls) v e c) (lower l e t) (arguments (source_running l calls) v es ts c)
           (lower_arguments l es ts (t + 1)) first (rest (t + 1) (omega (arith, high)))
 
   -- one argument before others
@@ -210,16 +210,16 @@ module _ (l : Lowering) (own : Option ℕ) (calls : Callee → Reference → Lis
       → ((ts : List Ty) (u : ℕ) → first_temporary l ≤ u → AreTyped l own v.variables es ts
       → Passes l own b v c u (types_for ts es) (arguments (source_running l calls) v es ts c) (lower_arguments l es ts u))
       → Passes l own b v c t (types_for types (expression_then e es)) (arguments (source_running l calls) v (expression_then e es) types c) (lower_arguments l (expression_then e es) types t)
-  argument_passes [] e es t high typed first rest = int_passes e es [] Int t high typed.1 (first typed.0) (λ u h. rest [] u h typed.1)
-  argument_passes (Int ∷ ts) e es t high typed first rest = int_passes e es ts Int t high typed.1 (first typed.0) (λ u h. rest ts u h typed.1)
-  argument_passes (Void ∷ ts) e es t high typed first rest = int_passes e es ts Void t high typed.1 (first typed.0) (λ u h. rest ts u h typed.1)
-  argument_passes (Object k ∷ ts) e es t high typed first rest = int_passes e es ts (Object k) t high typed.1 (first typed.0) (λ u h. rest ts u h typed.1)
+  argument_passes [] e es t high typed first rest = int_passes e es [] t high typed.1 (first typed.0) (λ u h. rest [] u h typed.1)
+  argument_passes (Int ∷ ts) e es t high typed first rest = int_passes e es ts t high typed.1 (first typed.0) (λ u h. rest ts u h typed.1)
+  argument_passes (Void ∷ ts) e es t high typed first rest = absurd typed.0
+  argument_passes (Object k ∷ ts) e es t high typed first rest = absurd typed.0
   argument_passes (IntRef k ∷ ts) e es t high typed first rest =
       pass_address l own b v c fit t (types_for ts es) (IntRef k) (λ w. lvalue l.program w v (names_of (lvalue_of e))) (names_of (lvalue_of e))
-      (arguments (source_running l calls) v es ts c) (lower_arguments l es ts t) (int_names t high k e (typed.0, tt)) (rest ts t high typed.1)
+      (arguments (source_running l calls) v es ts c) (lower_arguments l es ts t) refl (int_names t high k e (typed.0, tt)) (rest ts t high typed.1)
   argument_passes (ObjectRef k n ∷ ts) e es t high typed first rest =
       pass_address l own b v c fit t (types_for ts es) (ObjectRef k n) (λ w. as_class w (class_named n) (lvalue l.program w v (names_of (lvalue_of e)))) (names_of (lvalue_of e))
-      (arguments (source_running l calls) v es ts c) (lower_arguments l es ts t) (object_names t high k n e (typed.0, tt)) (rest ts t high typed.1)
+      (arguments (source_running l calls) v es ts c) (lower_arguments l es ts t) refl (object_names t high k n e (typed.0, tt)) (rest ts t high typed.1)
 
   mutual
     pub expression_evaluates : (e : Expression) (t : ℕ) → first_temporary l ≤ t → IsTyped l own v.variables e

@@ -1,8 +1,10 @@
 -- Arguments before others that make calls, and references.
-use Rattle.std.proofs.Common.{◌≡◌, ℕ, ◌+◌, ◌≤◌, ℤ, List, [], ◌∷◌, ◌++◌, Option, Some, None, refl, sym, ap, ◌∙◌, subst, arith}
+use Rattle.std.proofs.Common.{◌≡◌, ℕ, ◌+◌, ◌≤◌, ℤ, true, List, [], ◌∷◌, ◌++◌, Option, Some, None, refl, sym, ap, ◌∙◌, subst, arith}
 use Rattle.cxx_ast.specs.declared.types.Ty.{Ty}
+use Rattle.cxx_ast.specs.declared.types.Ty.TheVariants.{Int}
 use Rattle.cxx_ast.specs.declared.name.Name.{Name}
 use Rattle.scope_rules.specs.Class.{object_type}
+use Rattle.scope_rules.specs.Expression.{is_reference}
 use Rattle.scope_rules.specs.World.{Reference, World as SourceWorld}
 use Rattle.scope_rules.specs.Context.{Context as SourceContext}
 use Rattle.scope_rules.specs.Frame.{Frame as SourceFrame}
@@ -43,9 +45,9 @@ module _ (l : Lowering) (own : Option ℕ) (b : Running) (v : SourceFrame) (c : 
   NamesAddressed k r t names = Everywhere l own v c (λ at w s. Addressed l b.kinds at k s.frame (r w) (object_type t) names)
 
   pub pass_address : (k : ℕ) (types : List Ty) (t : Ty) (r : SourceWorld → Reference) (names : List Name) (others : SourceAction (List SourceArgument)) (y : LoweredArguments)
-      → NamesAddressed k r t names → Passes l own b v c k types others y
+      → is_reference t ≡ true → NamesAddressed k r t names → Passes l own b v c k types others y
       → Passes l own b v c k (t ∷ types) (λ w. before_others others (by_reference (r w)) w) (address_passed (place_of l names) y)
-  pass_address k types t r names others y addressed rest at w s stands reach =
+  pass_address k types t r names others y reference addressed rest at w s stands reach =
       let x = addressed at w s stands reach in
       let agree = IsGiven l.layout l.program b.kinds (t ∷ types) (address_argument (place_of l names) ∷ y.arguments) in
       alike_map l.layout l.program (IsGiven l.layout l.program b.kinds types y.arguments) agree at k c w s (others w) _ (λ given. source_pure (by_reference (r w) ∷ given))
@@ -56,25 +58,25 @@ module _ (l : Lowering) (own : Option ℕ) (b : Running) (v : SourceFrame) (c : 
         (
           address_word x.address ∷ words,
           words_address b.kinds s2.frame s2.world (place_of l names) y.arguments x.address words (x.stays s2.frame h.keeps) i,
-          ((x.address, refers_kept l.layout l.program at k w s c c w2 s2 stands h (r w) (object_type t) x.address x.refers, refl), same),
+          ((reference, x.address, refers_kept l.layout l.program at k w s c c w2 s2 stands h (r w) (object_type t) x.address x.refers, refl), same),
         ),
       ))
 
   pub meant_address : (k : ℕ) (types : List Ty) (t : Ty) (r : SourceWorld → Reference) (names : List Name) (others : SourceAction (List SourceArgument)) (args : List Argument)
-      → NamesAddressed k r t names → GivesMeant l own b v c types others args
+      → is_reference t ≡ true → NamesAddressed k r t names → GivesMeant l own b v c types others args
       → GivesMeant l own b v c (t ∷ types) (λ w. before_others others (by_reference (r w)) w) (address_argument (place_of l names) ∷ args)
-  meant_address k types t r names others args addressed rest at w s stands reach =
+  meant_address k types t r names others args reference addressed rest at w s stands reach =
       let x = addressed at w s stands reach in
       others_meant l.layout l.program at types t w (by_reference (r w)) (address_word x.address) (others w) (words_in b.kinds s.frame s.world (arguments_from args)) _
-      (rest at w s stands reach) (x.address, x.refers, refl)
+      (rest at w s stands reach) (reference, x.address, x.refers, refl)
       (λ words i. words_address b.kinds s.frame s.world (place_of l names) args x.address words (x.stays s.frame (keeps_all k s.frame)) i)
 
   -- an int is stored before the calls of others
-  pub pass_stored : (t : ℕ) → first_temporary l ≤ t → (types : List Ty) (u : Ty) (act : SourceAction ℤ) (x : Lowered) (others : SourceAction (List SourceArgument)) (y : LoweredArguments)
+  pub pass_stored : (t : ℕ) → first_temporary l ≤ t → (types : List Ty) (u : Ty) → u ≡ Int → (act : SourceAction ℤ) (x : Lowered) (others : SourceAction (List SourceArgument)) (y : LoweredArguments)
       → Evaluates l own b v c t act x → Passes l own b v c (t + 1) types others y
       → Passes l own b v c t (u ∷ types) (by_its_value act >>= before_others others)
       (record { before = x.before ++ stored_in t x.value ∷ y.before; arguments = int_argument (load (slot_place t)) ∷ y.arguments; next = y.next })
-  pass_stored t high types u act x others y first rest at w s stands reach =
+  pass_stored t high types u int act x others y first rest at w s stands reach =
       let ctx = context_of w.open_calls c in
       let agree = IsGiven l.layout l.program b.kinds (u ∷ types) (int_argument (load (slot_place t)) ∷ y.arguments) in
       let after = regions b (regions_from (stored_in t x.value ∷ y.before)) ctx in
@@ -100,4 +102,4 @@ module _ (l : Lowering) (own : Option ℕ) (b : Running) (v : SourceFrame) (c : 
       let slot : s4.frame.slots t ≡ number_word n = h4.keeps.slots t (omega arith) ∙ temporary_is t n s2 in
       let loaded = stored_value b.kinds t s4.frame s4.world n (help_there l own b v c fit t high) slot in
       done_alike l.layout l.program agree h4.places (t + 1) c w4 s4 (by_value n ∷ given) flow4 h4.stands
-      (fl4, (number_word n ∷ words, words_int b.kinds s4.frame s4.world (load (slot_place t)) y.arguments n words loaded i, (refl, same)))))))))))
+      (fl4, (number_word n ∷ words, words_int b.kinds s4.frame s4.world (load (slot_place t)) y.arguments n words loaded i, ((int, refl), same)))))))))))

@@ -1,6 +1,7 @@
 -- Arguments, one before the others.
 use Rattle.std.proofs.Common.{◌≡◌, ℕ, ◌+◌, ◌≤◌, ℤ, List, [], ◌∷◌, ◌++◌, Option, Some, None, refl, sym, ap, ◌∙◌, subst, arith}
 use Rattle.cxx_ast.specs.declared.types.Ty.{Ty}
+use Rattle.cxx_ast.specs.declared.types.Ty.TheVariants.{Int}
 use Rattle.cxx_ast.specs.declared.name.Name.{Name}
 use Rattle.cxx_ast.specs.Plain.{Checked}
 use Rattle.scope_rules.specs.Class.{object_type}
@@ -90,14 +91,14 @@ module _ (l : Layout) (p : Checked) where
   pub same_kept : (at : Places) (k : ℕ) (w : SourceWorld) (s : State) (c d : SourceContext) (w2 : SourceWorld) (s2 : State) → Stands l p at c w s
       → (h : Follows l p at k w s d w2 s2) (t : Ty) (a : SourceArgument) (x : Word) → SameArgument l p at t a x → SameArgument l p h.places t a x
   same_kept at k w s c d w2 s2 stands h t (by_value n) x e = e
-  same_kept at k w s c d w2 s2 stands h t (by_reference r) x (a, refers, e) = (a, refers_kept l p at k w s c d w2 s2 stands h r (object_type t) a refers, e)
+  same_kept at k w s c d w2 s2 stands h t (by_reference r) x (is, a, refers, e) = (is, a, refers_kept l p at k w s c d w2 s2 stands h r (object_type t) a refers, e)
 
 module _ (l : Lowering) (own : Option ℕ) (b : Running) (v : SourceFrame) (c : SourceContext) (fit : KindsFit l b.kinds) where
   -- without calls: an int, then the others
-  pub meant_int : (types : List Ty) (t : Ty) (act : SourceAction ℤ) (y : Value) (others : SourceAction (List SourceArgument)) (args : List Argument)
+  pub meant_int : (types : List Ty) (t : Ty) (act : SourceAction ℤ) (y : Value) (others : SourceAction (List SourceArgument)) (args : List Argument) → t ≡ Int
       → IsMeant l own b v c act y → GivesMeant l own b v c types others args
       → GivesMeant l own b v c (t ∷ types) (by_its_value act >>= before_others others) (int_argument y ∷ args)
-  meant_int types t act y others args first rest at w s stands reach =
+  meant_int types t act y others args int first rest at w s stands reach =
       go (act w) (value_in b.kinds s.frame s.world y) refl (first at w s stands reach)
     where
       go : (r : SourceResult ℤ) (z : Option ℤ) → value_in b.kinds s.frame s.world y ≡ z → IsValue w r z
@@ -105,7 +106,7 @@ module _ (l : Lowering) (own : Option ℕ) (b : Running) (v : SourceFrame) (c : 
           (words_in b.kinds s.frame s.world (arguments_from (int_argument y ∷ args)))
       go (source_done n w2) z is (e, i) =
           subst (λ u. ArePassed l.layout l.program at (t ∷ types) w (before_others others (by_value n) u) (words_in b.kinds s.frame s.world (arguments_from (int_argument y ∷ args)))) (sym e)
-          (others_meant l.layout l.program at types t w (by_value n) (number_word n) (others w) (words_in b.kinds s.frame s.world (arguments_from args)) _ (rest at w s stands reach) refl
+          (others_meant l.layout l.program at types t w (by_value n) (number_word n) (others w) (words_in b.kinds s.frame s.world (arguments_from args)) _ (rest at w s stands reach) (int, refl)
           (λ words j. words_int b.kinds s.frame s.world y args n words (is ∙ i) j))
       go (source_stopped undefined w2) z is h = tt
       go (source_stopped (thrown e) w2) z is h = absurd h
@@ -122,10 +123,10 @@ module _ (l : Lowering) (own : Option ℕ) (b : Running) (v : SourceFrame) (c : 
       (λ n flow w2 s2 g same. done_alike l.layout l.program (IsArgument b.kinds y) g.places k c w2 s2 (by_value n) flow g.stands (n, refl, same))
 
   -- an int, then others that make no call
-  pub pass_quiet : (k next : ℕ) (types : List Ty) (t : Ty) (act : SourceAction ℤ) (x : Lowered) (others : SourceAction (List SourceArgument)) (args : List Argument) → result_slot l ≤ k
+  pub pass_quiet : (k next : ℕ) (types : List Ty) (t : Ty) (act : SourceAction ℤ) (x : Lowered) (others : SourceAction (List SourceArgument)) (args : List Argument) → t ≡ Int → result_slot l ≤ k
       → Evaluates l own b v c k act x → GivesMeant l own b v c types others args
       → Passes l own b v c k (t ∷ types) (by_its_value act >>= before_others others) (record { before = x.before; arguments = int_argument x.value ∷ args; next = next })
-  pass_quiet k next types t act x others args le first rest at w s stands reach =
+  pass_quiet k next types t act x others args int le first rest at w s stands reach =
       let agree = IsGiven l.layout l.program b.kinds (t ∷ types) (int_argument x.value ∷ args) in
       alike_map l.layout l.program (IsArgument b.kinds x.value) agree at k c w s (by_its_value act w) _ (before_others others)
       (value_argument at k w s x.value (act w) _ (first at w s stands reach))
@@ -134,6 +135,6 @@ module _ (l : Lowering) (own : Option ℕ) (b : Running) (v : SourceFrame) (c : 
       (passed_alike l.layout l.program b.kinds agree h.places k c w2 s2 flow (t ∷ types) (before_others others (by_value n) w2)
       (words_in b.kinds s2.frame s2.world (arguments_from (int_argument x.value ∷ args))) h.stands
       (others_meant l.layout l.program h.places types t w2 (by_value n) (number_word n) (others w2) (words_in b.kinds s2.frame s2.world (arguments_from args)) _
-      (rest h.places w2 s2 h.stands (reaches_kept l own v at k w s c c w2 s2 stands h le reach)) refl
+      (rest h.places w2 s2 h.stands (reaches_kept l own v at k w s c c w2 s2 stands h le reach)) (int, refl)
       (λ words j. words_int b.kinds s2.frame s2.world x.value args n words val j))
       (λ given words i same. (fl, (words, i, same)))))

@@ -1,6 +1,7 @@
 -- That calls of a source and calls of regions do the same.
 use Rattle.std.specs.Prelude.{◌≡◌, ℕ, ◌<◌, ℤ, true, false, List, [], ◌∷◌, length}
 use Rattle.cxx_ast.specs.declared.types.Ty.{Ty}
+use Rattle.cxx_ast.specs.declared.types.Ty.TheVariants.{Int}
 use Rattle.cxx_ast.specs.declared.declaration.FuncKind.TheVariants.{Plain}
 use Rattle.cxx_ast.specs.Plain.{Checked}
 use Rattle.scope_rules.specs.Class.{class_type, object_type, class_at, function_at, method_at}
@@ -8,7 +9,7 @@ use Rattle.scope_rules.specs.Construct.{is_constructor}
 use Rattle.scope_rules.specs.World.{World as SourceWorld, Reference}
 use Rattle.scope_rules.specs.Context.{Context as SourceContext}
 use Rattle.scope_rules.specs.Running.{Running as SourceRunning, Argument, by_value, by_reference, Callee, function, method, constructor, destructor, declared, implicit_default, implicit_copy}
-use Rattle.scope_rules.specs.Expression.{types_of, constructor_types}
+use Rattle.scope_rules.specs.Expression.{types_of, constructor_types, is_reference}
 use Rattle.region_forms.specs.Layout.{Layout}
 use Rattle.region_forms.specs.World.{Address, Word, number_word, address_word}
 use Rattle.region_forms.specs.Outcome.{State}
@@ -19,10 +20,10 @@ use Rattle.region_simulation.specs.Places.{Places, Refers}
 use Rattle.region_simulation.specs.Stands.{Stands, context_of}
 use Rattle.region_simulation.specs.Alike.{Alike}
 
--- an argument and the word that is passed for it
+-- an argument and the word that is passed for it: an int for an int, and for a reference what it names
 abbrev pub SameArgument : Layout → Checked → Places → Ty → Argument → Word → Type 0
-SameArgument l p at t (by_value v) x = x ≡ number_word v
-SameArgument l p at t (by_reference r) x = (a : Address) × Refers l p at r (object_type t) a × (x ≡ address_word a)
+SameArgument l p at t (by_value v) x = (t ≡ Int) × (x ≡ number_word v)
+SameArgument l p at t (by_reference r) x = (is_reference t ≡ true) × (a : Address) × Refers l p at r (object_type t) a × (x ≡ address_word a)
 
 -- one for each parameter
 abbrev pub SameArguments : Layout → Checked → Places → List Ty → List Argument → List Word → Type 0

@@ -6,7 +6,7 @@ use Rattle.cxx_ast.specs.declared.name.Builtin.{Builtin}
 use Rattle.cxx_ast.specs.declared.name.Builtin.TheVariants.{WriteInt, ReadByte, Exit, Module, Cancel, Terminate, SetTerminate, SetUnexpected, Uncaught, BadException}
 use Rattle.cxx_ast.specs.declared.name.Name.{Name}
 use Rattle.cxx_ast.specs.declared.types.Ty.{Ty}
-use Rattle.cxx_ast.specs.declared.types.Ty.TheVariants.{Int, IntRef, ObjectRef}
+use Rattle.cxx_ast.specs.declared.types.Ty.TheVariants.{Int, Void, Object, IntRef, ObjectRef}
 use Rattle.cxx_ast.specs.Plain.{Checked, Expression, number, path, paren, unary, binary, call, std_call, Expressions, no_expressions, expression_then}
 use Rattle.scope_rules.specs.Class.{ObjectType, int_type, class_type, class_named, derives}
 use Rattle.scope_rules.specs.Frame.{Variable}
@@ -21,10 +21,12 @@ use Rattle.region_simulation.specs.Stands.{IsHandler}
 abbrev pub AreOfClass : Lowering → (own : Option ℕ) → List Variable → ℕ → List Name → Type 0
 AreOfClass l own xs k names = (s : ObjectType) × AreNamed l own xs names s × (derives l.program s (class_type k) ≡ true)
 
--- an expression can be passed for a parameter: for a reference it names what that can be bound to, and else its value is typed
+-- an expression can be passed for a parameter: for a reference it names what that can be bound to, and for an int its value is typed
 abbrev pub CanPass : Lowering → (own : Option ℕ) → List Variable → List Ty → Expression → Type 0 → Type 0
 CanPass l own xs (IntRef const ∷ types) e typed = AreNamed l own xs (names_of (lvalue_of e)) int_type
 CanPass l own xs (ObjectRef const n ∷ types) e typed = AreOfClass l own xs (class_named n) (names_of (lvalue_of e))
+CanPass l own xs (Void ∷ types) e typed = ⊥
+CanPass l own xs (Object n ∷ types) e typed = ⊥
 CanPass l own xs _ e typed = typed
 
 -- how many arguments a function of the language takes; `std::bad_exception` gives no value
