@@ -3,6 +3,12 @@ pub mod Looping
 pub mod Testing
 pub mod Ending
 pub mod Dropping
+pub mod Variables
 pub mod Locals
 pub mod Naming
+pub mod Parameters
+pub mod Entering
+pub mod Returning
+pub mod SlotKinds
+pub mod Functions
 pub mod Statements

@@ -27,7 +27,8 @@ use Rattle.region_simulation.proofs.Keeping.{Addressed, names_addressed, class_a
 use Rattle.region_simulation.proofs.Assigning.{assignments_store}
 use Rattle.region_simulation.proofs.Flowing.{does_later}
 use Rattle.statement_simulation.proofs.Ending.{does_next}
-use Rattle.statement_simulation.proofs.Locals.{does_same, does_int, does_int_value, IsReference, does_reference}
+use Rattle.statement_simulation.proofs.Locals.{does_same, does_int, does_int_value, does_reference}
+use Rattle.statement_simulation.proofs.Variables.{IsReference}
 
 module _ (l : Lowering) (own : Option ℕ) (gives : Bool) (b : Running) (v : SourceFrame) (c : SourceContext) (fit : KindsFit l b.kinds) (n i d : ℕ) where
   -- nothing is done

@@ -1,3 +1,5 @@
 pub mod Sequences
 pub mod Declarations
 pub mod Statements
+pub mod Functions
+pub mod Calls

@@ -1,4 +1,5 @@
 // Laws of lowering: calls of no effect, whose contracts state what holds of every program.
+ghost use Rattle.statement_simulation.specs.Calls.{FunctionsRunAlike, MethodsRunAlike};
 ghost use Rattle.statement_simulation.specs.Declarations.{IntsStandSet, IntsStandUnset, ReferencesAreBound};
 ghost use Rattle.statement_simulation.specs.Sequences.{BlocksAreHeld, BranchesDecide, BreaksLeave, ContinuesLeave, DroppedValuesGoOn, EffectsGoOn, LoopsTurn, ReturnsLeave, SequencesFollow, ValuesReturn};
 ghost use Rattle.statement_simulation.specs.Statements.{StatementsDoAlike};
@@ -74,4 +75,16 @@ pub fn returns_leave()
 /// `return` with a value stores it in the result's slot, and goes out of every region of the function.
 pub fn values_return()
     ensures { ValuesReturn }
+{}
+
+/// A call of a function of the program that is not main does what the call of its regions does, with one unit of fuel more than the calls in it:
+/// it is too deep for both or spends a turn, its parameters stand at the slots of a new call, its body's flow gives its value, and for the
+/// caller, whose frame runs again, no variable of the call stands any more.
+pub fn functions_run_alike()
+    ensures { FunctionsRunAlike }
+{}
+
+/// So does a call of a function of a class, which is passed the address of its object first.
+pub fn methods_run_alike()
+    ensures { MethodsRunAlike }
 {}
