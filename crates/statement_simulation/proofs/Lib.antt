@@ -11,4 +11,5 @@ pub mod Entering
 pub mod Returning
 pub mod SlotKinds
 pub mod Functions
+pub mod Programs
 pub mod Statements

@@ -3,3 +3,4 @@ pub mod Declarations
 pub mod Statements
 pub mod Functions
 pub mod Calls
+pub mod Programs

@@ -1,6 +1,7 @@
 // Laws of lowering: calls of no effect, whose contracts state what holds of every program.
 ghost use Rattle.statement_simulation.specs.Calls.{FunctionsRunAlike, MethodsRunAlike};
 ghost use Rattle.statement_simulation.specs.Declarations.{IntsStandSet, IntsStandUnset, ReferencesAreBound};
+ghost use Rattle.statement_simulation.specs.Programs.{CallsDoAlike, ProgramsMeanTheSame};
 ghost use Rattle.statement_simulation.specs.Sequences.{BlocksAreHeld, BranchesDecide, BreaksLeave, ContinuesLeave, DroppedValuesGoOn, EffectsGoOn, LoopsTurn, ReturnsLeave, SequencesFollow, ValuesReturn};
 ghost use Rattle.statement_simulation.specs.Statements.{StatementsDoAlike};
 
@@ -87,4 +88,15 @@ pub fn functions_run_alike()
 /// So does a call of a function of a class, which is passed the address of its object first.
 pub fn methods_run_alike()
     ensures { MethodsRunAlike }
+{}
+
+/// Calls do the same with any fuel, where each does with one unit more than those in it.
+pub fn calls_do_alike()
+    ensures { CallsDoAlike }
+{}
+
+/// Where the call of main does the same, the regions of a program mean what the program means: the same items and the same end, the same
+/// greatest number of open calls, and the same replies left. Of a source that comes to what is undefined nothing is said.
+pub fn programs_mean_the_same()
+    ensures { ProgramsMeanTheSame }
 {}

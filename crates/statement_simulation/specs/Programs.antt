@@ -1,0 +1,39 @@
+-- Whole programs: calls by fuel, and what a program means.
+use Rattle.std.specs.Prelude.{◌≡◌, ℕ, suc, List, []}
+use Rattle.cxx_ast.specs.Plain.{Checked}
+use Rattle.eh_outer.specs.declared.module.Reply.{Reply}
+use Rattle.scope_rules.specs.Call.{running}
+use Rattle.scope_rules.specs.Class.{function_at as source_function_at}
+use Rattle.scope_rules.specs.Meaning.{Meaning, MainOutcome, stopped_by, program_meaning}
+use Rattle.scope_rules.specs.Outcome.{undefined}
+use Rattle.scope_rules.specs.Running.{Callee, function}
+use Rattle.region_forms.specs.Form.{Regions, help_slot}
+use Rattle.region_forms.specs.Layout.{Layout}
+use Rattle.region_forms.specs.LowerProgram.{regions_of}
+use Rattle.region_forms.specs.Meaning.{regions_meaning}
+use Rattle.region_simulation.specs.Calls.{IsCallable, SameCalls}
+use Rattle.statement_simulation.specs.Calls.{regions_running, SameCall}
+
+-- where each call does the same with one unit of fuel more than calls with which all do, all do with any fuel
+abbrev pub CallsDoAlike : Type 0
+CallsDoAlike =
+    (p : Checked) (layout : Layout) (q : Regions) (limit : ℕ)
+    → ((fuel : ℕ) → SameCalls layout (running p limit fuel) (regions_running q limit fuel (λ s. help_slot)) → (callee : Callee) → IsCallable p callee
+    → SameCall layout (running p limit (suc fuel)) (regions_running q limit (suc fuel) (λ s. help_slot)) callee)
+    → (fuel : ℕ) → SameCalls layout (running p limit fuel) (regions_running q limit fuel (λ s. help_slot))
+
+-- of a source that comes to what is undefined nothing is said
+abbrev pub MeansTheSameBy : MainOutcome → Meaning → Meaning → Type 0
+MeansTheSameBy (stopped_by undefined) m other = Unit {0}
+MeansTheSameBy _ m other = other ≡ m
+
+-- the same items and end, the same greatest number of open calls, the same outcome of main and the same replies left
+abbrev pub MeansTheSame : Meaning → Meaning → Type 0
+MeansTheSame m other = MeansTheSameBy m.main m other
+
+-- where the call of main does the same, the regions of a program mean what the program means
+abbrev pub ProgramsMeanTheSame : Type 0
+ProgramsMeanTheSame =
+    (p : Checked) (layout : Layout) (input : List ℕ) (replies : List (List Reply)) (turns limit : ℕ) → (source_function_at p p.main).parameters ≡ []
+    → SameCall layout (running p limit (suc turns)) (regions_running (regions_of p layout) limit (suc turns) (λ s. help_slot)) (function p.main)
+    → MeansTheSame (program_meaning p input replies turns limit) (regions_meaning (regions_of p layout) input replies turns limit)
