@@ -56,7 +56,7 @@ pub refers_shaped : {l : Layout} {p : Checked} {at : Places} (w : World) {memory
 refers_shaped {l} {p} {at} w {memory} {r} {t} {a} m h = shaped_along p h.stood.type t (object_at w r.object) r.path (m.shaped r.object h.stood h.stands) h.typed
 
 -- a reference to a part of what a reference names
-refers_on : {l : Layout} {p : Checked} {at : Places} {r : Reference} {t : ObjectType} {a : Address} (u : ObjectType) (more : List ℕ) (n : ℕ)
+pub refers_on : {l : Layout} {p : Checked} {at : Places} {r : Reference} {t : ObjectType} {a : Address} (u : ObjectType) (more : List ℕ) (n : ℕ)
     → Refers l p at r t a → type_along p t more ≡ Some u → offset_along l p t more ≡ n
     → Refers l p at (record { object = r.object; path = r.path ++ more }) u (behind a n)
 refers_on {l} {p} {at} {r} {t} {a} u more n h e o = record {
