@@ -57,7 +57,7 @@ unless_handler (Func n) g h = g h
 unless_handler (Method k n) g h = g h
 
 -- each argument has its parameter
-types_all : (types : List Ty) (es : Expressions) → count_of es ≡ length types → types_for types es ≡ types
+pub types_all : (types : List Ty) (es : Expressions) → count_of es ≡ length types → types_for types es ≡ types
 types_all [] no_expressions e = refl
 types_all [] (expression_then x es) e = absurd (omega (arith, e))
 types_all (t ∷ types) no_expressions e = absurd (omega (arith, e))
