@@ -96,7 +96,7 @@ body_does l own call b fit apart same f exceptions extents v c typed = go f.spec
         (statements_do_alike l own (gives_int f.result) call b fit apart same exceptions (statements_in f.body)) typed
 
 -- what is passed to a function of a class still is
-own_kept : (l : Layout) (p : Checked) (at : Places) (k : ℕ) (w : SourceWorld) (s : State) (c : SourceContext) (w2 : SourceWorld) (s2 : State) → Stands l p at c w s
+pub own_kept : (l : Layout) (p : Checked) (at : Places) (k : ℕ) (w : SourceWorld) (s : State) (c : SourceContext) (w2 : SourceWorld) (s2 : State) → Stands l p at c w s
     → (h : Follows l p at k w s c w2 s2) (j : ℕ) (this : Reference) (types : List Ty) (given : List Argument) (words : List Word) → SameOwn l p at j this types given words
     → SameOwn l p h.places j this types given words
 own_kept l p at k w s c w2 s2 stands h j this types given [] same = absurd same
@@ -110,7 +110,7 @@ own_kept l p at k w s c w2 s2 stands h j this types given (x ∷ words) (a, refe
 module _ (p : Checked) (layout : Layout) (q : Regions) (limit fuel : ℕ) (apart : StandApart layout.classes p.classes)
     (same : SameCalls layout (running p limit fuel) (regions_running q limit fuel (λ s. help_slot))) where
   -- calls are the same whatever the kinds of the slots of the caller
-  same_for : (kinds : Kinds) → SameCalls layout (running p limit fuel) (regions_running q limit fuel kinds)
+  pub same_for : (kinds : Kinds) → SameCalls layout (running p limit fuel) (regions_running q limit fuel kinds)
   same_for kinds at callee this given words k c w s there stands passed = same at callee this given words k c w s there stands passed
 
   -- the regions of a body that is no constructor's nor destructor's
@@ -156,7 +156,7 @@ module _ (p : Checked) (layout : Layout) (q : Regions) (limit fuel : ℕ) (apart
       (λ v references counted variables. runs is_member own j f kind typed alike c v references counted variables) at k w s words (new_frame f this given (opened w)) begun
 
   -- from where it is opened
-  opened_call : (m : ℕ) (g : RegionFunction) → function_at q m ≡ g → (act : SourceAction ℤ) (words : List Word)
+  pub opened_call : (m : ℕ) (g : RegionFunction) → function_at q m ≡ g → (act : SourceAction ℤ) (words : List Word)
       → (at : Places) (k : ℕ) (c : SourceContext) (w : SourceWorld) (s : State) → Stands layout p at c w s
       → ((w2 : SourceWorld) (s2 : State) (h : Follows layout p at k w s c w2 s2)
       → Alike layout p h.places k c w2 s2 SameValue (after_call (act (opened w2))) (run_function (regions_running q limit fuel (kinds_of [])) g words (context_of (w2.open_calls + 1) c) s2))

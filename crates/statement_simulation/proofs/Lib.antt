@@ -12,4 +12,10 @@ pub mod Returning
 pub mod SlotKinds
 pub mod Functions
 pub mod Programs
+pub mod OwnParts
+pub mod Parts
+pub mod Building
+pub mod PartsBuilt
+pub mod Members
+pub mod Copying
 pub mod Statements

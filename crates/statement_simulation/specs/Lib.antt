@@ -4,3 +4,5 @@ pub mod Statements
 pub mod Functions
 pub mod Calls
 pub mod Programs
+pub mod Parts
+pub mod Members

@@ -1,6 +1,8 @@
 // Laws of lowering: calls of no effect, whose contracts state what holds of every program.
 ghost use Rattle.statement_simulation.specs.Calls.{FunctionsRunAlike, MethodsRunAlike};
 ghost use Rattle.statement_simulation.specs.Declarations.{IntsStandSet, IntsStandUnset, ReferencesAreBound};
+ghost use Rattle.statement_simulation.specs.Members.{ConstructorsRunAlike, CopyConstructorsRunAlike, DefaultConstructorsRunAlike, DestructorsRunAlike, ImplicitDestructorsRunAlike};
+ghost use Rattle.statement_simulation.specs.Parts.{PartsBuildAlike, PartsDestroyAlike};
 ghost use Rattle.statement_simulation.specs.Programs.{CallsDoAlike, ProgramsMeanTheSame};
 ghost use Rattle.statement_simulation.specs.Sequences.{BlocksAreHeld, BranchesDecide, BreaksLeave, ContinuesLeave, DroppedValuesGoOn, EffectsGoOn, LoopsTurn, ReturnsLeave, SequencesFollow, ValuesReturn};
 ghost use Rattle.statement_simulation.specs.Statements.{StatementsDoAlike};
@@ -99,4 +101,41 @@ pub fn calls_do_alike()
 /// greatest number of open calls, and the same replies left. Of a source that comes to what is undefined nothing is said.
 pub fn programs_mean_the_same()
     ensures { ProgramsMeanTheSame }
+{}
+
+/// The parts of an object are built in order, each as it does by itself, where what is done between a part's completion and the object's does
+/// the same in a region that the part's destruction protects.
+pub fn parts_build_alike()
+    ensures { PartsBuildAlike }
+{}
+
+/// What is done in the scopes of the parts of an object, which are destroyed in reverse order, does the same where each scope does.
+pub fn parts_destroy_alike()
+    ensures { PartsDestroyAlike }
+{}
+
+/// A call of a declared constructor does what the call of its regions does: each part is built by its initialiser, whatever the order of these,
+/// or by default, and then the body is done.
+pub fn constructors_run_alike()
+    ensures { ConstructorsRunAlike }
+{}
+
+/// So does a call of an implicit default constructor, which sets ints to 0 and builds every other part by default.
+pub fn default_constructors_run_alike()
+    ensures { DefaultConstructorsRunAlike }
+{}
+
+/// So does a call of an implicit copy constructor, which copies each part.
+pub fn copy_constructors_run_alike()
+    ensures { CopyConstructorsRunAlike }
+{}
+
+/// So does a call of a declared destructor, whose body is done in the scope of the parts.
+pub fn destructors_run_alike()
+    ensures { DestructorsRunAlike }
+{}
+
+/// So does a call of an implicit destructor.
+pub fn implicit_destructors_run_alike()
+    ensures { ImplicitDestructorsRunAlike }
 {}
