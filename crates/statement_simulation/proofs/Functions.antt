@@ -47,7 +47,7 @@ use Rattle.statement_simulation.proofs.Entering.{Begun, function_begins, method_
 use Rattle.statement_simulation.proofs.Returning.{SameValue, call_opens, function_runs}
 
 -- the result of a function by its type
-results_agree : (l : Lowering) (kinds : Kinds) → KindsFit l kinds → (t : Ty) (x : SourceFlow) (flow : Flow) (w : SourceWorld) (at : Places) (s : State)
+pub results_agree : (l : Lowering) (kinds : Kinds) → KindsFit l kinds → (t : Ty) (x : SourceFlow) (flow : Flow) (w : SourceWorld) (at : Places) (s : State)
     → FlowAgrees l (gives_int t) 0 1 x flow w at s → IsValue w (value_returned false t x w) (result_in (result_for l t) s.frame s.world kinds)
 results_agree l kinds fit Int normal flow w at s h = tt
 results_agree l kinds fit Int breaks flow w at s h = tt
@@ -76,7 +76,7 @@ results_agree l kinds fit (ObjectRef k n) (returns None) flow w at s h = (refl, 
 results_agree l kinds fit (ObjectRef k n) (returns (Some v)) flow w at s h = absurd (cc h.1)
 
 -- the body of a function, under its specification if it has one
-body_does : (l : Lowering) (own : Option ℕ) (call : SourceCalls) (b : Running) (fit : KindsFit l b.kinds) → StandApart l.layout.classes l.program.classes
+pub body_does : (l : Lowering) (own : Option ℕ) (call : SourceCalls) (b : Running) (fit : KindsFit l b.kinds) → StandApart l.layout.classes l.program.classes
     → SameCalls l.layout (source_running l call) b → (f : Function) → SameExceptions l own (gives_int f.result) call b → SameExtents l own (gives_int f.result) call b
     → (v : SourceFrame) (c : SourceContext) → AreTypedStatements l own (gives_int f.result) (statements_in f.body) v.variables (length f.parameters)
     → DoesAlike l own (gives_int f.result) b v c (length f.parameters) 0 1

@@ -18,4 +18,5 @@ pub mod Building
 pub mod PartsBuilt
 pub mod Members
 pub mod Copying
+pub mod Main
 pub mod Statements

@@ -6,3 +6,4 @@ pub mod Calls
 pub mod Programs
 pub mod Parts
 pub mod Members
+pub mod Main

@@ -1,6 +1,7 @@
 // Laws of lowering: calls of no effect, whose contracts state what holds of every program.
 ghost use Rattle.statement_simulation.specs.Calls.{FunctionsRunAlike, MethodsRunAlike};
 ghost use Rattle.statement_simulation.specs.Declarations.{IntsStandSet, IntsStandUnset, ReferencesAreBound};
+ghost use Rattle.statement_simulation.specs.Main.{MainRunsAlike};
 ghost use Rattle.statement_simulation.specs.Members.{ConstructorsRunAlike, CopyConstructorsRunAlike, DefaultConstructorsRunAlike, DestructorsRunAlike, ImplicitDestructorsRunAlike};
 ghost use Rattle.statement_simulation.specs.Parts.{PartsBuildAlike, PartsDestroyAlike};
 ghost use Rattle.statement_simulation.specs.Programs.{CallsDoAlike, ProgramsMeanTheSame};
@@ -138,4 +139,9 @@ pub fn destructors_run_alike()
 /// So does a call of an implicit destructor.
 pub fn implicit_destructors_run_alike()
     ensures { ImplicitDestructorsRunAlike }
+{}
+
+/// A call of main does the same, where its regions store 0 behind those of its body: flowing off its end is returning 0.
+pub fn main_runs_alike()
+    ensures { MainRunsAlike }
 {}
