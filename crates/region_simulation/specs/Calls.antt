@@ -1,11 +1,11 @@
 -- That calls of a source and calls of regions do the same.
-use Rattle.std.specs.Prelude.{◌≡◌, ℕ, ◌<◌, ℤ, true, false, List, [], ◌∷◌, length}
+use Rattle.std.specs.Prelude.{◌≡◌, ℕ, zero, suc, ◌<◌, ℤ, true, false, List, [], ◌∷◌, length, Some, slice_get}
 use Rattle.cxx_ast.specs.declared.types.Ty.{Ty}
 use Rattle.cxx_ast.specs.declared.types.Ty.TheVariants.{Int}
 use Rattle.cxx_ast.specs.declared.declaration.FuncKind.TheVariants.{Plain}
 use Rattle.cxx_ast.specs.Plain.{Checked}
-use Rattle.scope_rules.specs.Class.{class_type, object_type, class_at, function_at, method_at}
-use Rattle.scope_rules.specs.Construct.{is_constructor}
+use Rattle.scope_rules.specs.Class.{class_type, object_type, class_at, function_at, method_at, parts_of}
+use Rattle.scope_rules.specs.Construct.{is_constructor, constructor_for}
 use Rattle.scope_rules.specs.World.{World as SourceWorld, Reference}
 use Rattle.scope_rules.specs.Context.{Context as SourceContext}
 use Rattle.scope_rules.specs.Running.{Running as SourceRunning, Argument, by_value, by_reference, Callee, function, method, constructor, destructor, declared, implicit_default, implicit_copy}
@@ -37,12 +37,25 @@ SameOwn l p at k this types given [] = ⊥
 SameOwn l p at k this types given (x ∷ words) =
     (a : Address) × Refers l p at this (class_type k) a × (x ≡ address_word a) × SameArguments l p at types given words
 
--- What can be called: a function that is there, by what it is; an implicit default constructor is there where no constructor is declared.
+-- Class k, which declares no constructor, can be built by default, where classes stand at most n deep in one another: each part of a class
+-- has a constructor for no arguments, which is declared, or implicit and can itself be called.
+abbrev pub BuildsByDefault : ℕ → Checked → ℕ → Type 0
+BuildsByDefault zero p k = ⊥
+BuildsByDefault (suc n) p k =
+    (i j : ℕ) → slice_get (parts_of p k) i ≡ Some (class_type j) → (j < length p.classes) × elim (constructor_for p j 0) [
+      | declared m ↦ Unit {0}
+      | implicit_default ↦ (some_constructor (class_at p j).functions ≡ false) × BuildsByDefault n p j
+      | implicit_copy ↦ ⊥
+    ]
+
+-- What can be called: a function that is there, by what it is; an implicit default constructor is there where no constructor is declared and
+-- each part can be built by default.
 abbrev pub IsCallable : Checked → Callee → Type 0
 IsCallable p (function n) = n < length p.functions
 IsCallable p (method k i) = (k < length p.classes) × (i < length (class_at p k).functions) × ((method_at p k i).kind ≡ Plain)
 IsCallable p (constructor k (declared i)) = (k < length p.classes) × (i < length (class_at p k).functions) × (is_constructor (method_at p k i).kind ≡ true)
-IsCallable p (constructor k implicit_default) = (k < length p.classes) × (some_constructor (class_at p k).functions ≡ false)
+IsCallable p (constructor k implicit_default) =
+    (k < length p.classes) × (some_constructor (class_at p k).functions ≡ false) × BuildsByDefault (length p.classes) p k
 IsCallable p (constructor k implicit_copy) = k < length p.classes
 IsCallable p (destructor k) = k < length p.classes
 
