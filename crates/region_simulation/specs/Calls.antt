@@ -2,7 +2,7 @@
 use Rattle.std.specs.Prelude.{◌≡◌, ℕ, zero, suc, ◌<◌, ℤ, true, false, List, [], ◌∷◌, length, Some, slice_get}
 use Rattle.cxx_ast.specs.declared.types.Ty.{Ty}
 use Rattle.cxx_ast.specs.declared.types.Ty.TheVariants.{Int}
-use Rattle.cxx_ast.specs.declared.declaration.FuncKind.TheVariants.{Plain}
+use Rattle.cxx_ast.specs.declared.declaration.FuncKind.TheVariants.{Method}
 use Rattle.cxx_ast.specs.Plain.{Checked}
 use Rattle.scope_rules.specs.Class.{class_type, object_type, class_at, function_at, method_at, parts_of}
 use Rattle.scope_rules.specs.Construct.{is_constructor, constructor_for}
@@ -52,7 +52,7 @@ BuildsByDefault (suc n) p k =
 -- each part can be built by default.
 abbrev pub IsCallable : Checked → Callee → Type 0
 IsCallable p (function n) = n < length p.functions
-IsCallable p (method k i) = (k < length p.classes) × (i < length (class_at p k).functions) × ((method_at p k i).kind ≡ Plain)
+IsCallable p (method k i) = (k < length p.classes) × (i < length (class_at p k).functions) × ((method_at p k i).kind ≡ Method)
 IsCallable p (constructor k (declared i)) = (k < length p.classes) × (i < length (class_at p k).functions) × (is_constructor (method_at p k i).kind ≡ true)
 IsCallable p (constructor k implicit_default) =
     (k < length p.classes) × (some_constructor (class_at p k).functions ≡ false) × BuildsByDefault (length p.classes) p k
