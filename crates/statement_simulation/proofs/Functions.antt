@@ -1,7 +1,7 @@
 -- Calls of functions, whether of the program or of a class.
 use Rattle.std.proofs.Common.{◌≡◌, ℕ, suc, ◌+◌, ℤ, Bool, true, false, List, [], ◌∷◌, Option, Some, None, refl, sym, ap, subst, arith, length}
 use Rattle.class_layout.specs.StandApart.{StandApart}
-use Rattle.cxx_ast.specs.declared.declaration.FuncKind.TheVariants.{Plain}
+use Rattle.cxx_ast.specs.declared.declaration.FuncKind.TheVariants.{Plain, Method}
 use Rattle.cxx_ast.specs.declared.types.Ty.{Ty}
 use Rattle.cxx_ast.specs.declared.types.Ty.TheVariants.{Int, Void, Object, IntRef, ObjectRef}
 use Rattle.cxx_ast.specs.Plain.{Checked, Function}
@@ -114,21 +114,26 @@ module _ (p : Checked) (layout : Layout) (q : Regions) (limit fuel : ℕ) (apart
   same_for kinds at callee this given words k c w s there stands passed = same at callee this given words k c w s there stands passed
 
   -- the regions of a body that is no constructor's nor destructor's
-  plain_body : (is_member : Bool) (k : ℕ) (f : Function) → f.kind ≡ Plain
-      → (declared_function p layout is_member false k f).body
+  abbrev PlainBody : (is_member : Bool) (j : ℕ) → Function → Type 0
+  PlainBody is_member j f =
+      (declared_function p layout is_member false j f).body
       ≡ in_order (limited f.specification (λ d. statements (lowering p layout is_member (variables_of f)) (statements_in f.body) 0 (length f.parameters) d) 1 ∷ [])
-  plain_body is_member k f kind =
-      ap (λ z. in_order (limited f.specification (λ d. lowered_body (lowering p layout is_member (variables_of f)) z k f d) 1 ∷ [])) kind
+
+  plain_body : (is_member : Bool) (j : ℕ) (f : Function) → f.kind ≡ Plain → PlainBody is_member j f
+  plain_body is_member j f kind = ap (λ z. in_order (limited f.specification (λ d. lowered_body (lowering p layout is_member (variables_of f)) z j f d) 1 ∷ [])) kind
+
+  method_body : (is_member : Bool) (j : ℕ) (f : Function) → f.kind ≡ Method → PlainBody is_member j f
+  method_body is_member j f kind = ap (λ z. in_order (limited f.specification (λ d. lowered_body (lowering p layout is_member (variables_of f)) z j f d) 1 ∷ [])) kind
 
   -- what is done in a call
-  runs : (is_member : Bool) (own : Option ℕ) (k : ℕ) (f : Function) → f.kind ≡ Plain → IsTypedBody (lowering p layout is_member (variables_of f)) own f
+  runs : (is_member : Bool) (own : Option ℕ) (k : ℕ) (f : Function) → IsTypedBody (lowering p layout is_member (variables_of f)) own f
       → RunsAlike p layout q limit fuel own is_member f
       → (c : SourceContext) (v : SourceFrame) (references : List Reference) → length references ≡ length f.parameters → v.variables ≡ all_declared_to f.parameters references []
       → DoesAlike (lowering p layout is_member (variables_of f)) own (gives_int f.result)
       (regions_running q limit fuel (kinds_of (declared_function p layout is_member false k f).slots)) v c (length f.parameters) 0 1
       (under_specification (running p limit fuel) f.specification (body_of (running p limit fuel) f v) c)
       (limited f.specification (λ d. statements (lowering p layout is_member (variables_of f)) (statements_in f.body) 0 (length f.parameters) d) 1 ∷ [])
-  runs is_member own k f kind typed alike c v references counted variables =
+  runs is_member own k f typed alike c v references counted variables =
       let l = lowering p layout is_member (variables_of f) in
       let g = declared_function p layout is_member false k f in
       let kinds = kinds_of g.slots in
@@ -138,22 +143,22 @@ module _ (p : Checked) (layout : Layout) (q : Regions) (limit fuel : ℕ) (apart
       (subst (λ xs. AreTypedStatements l own (gives_int f.result) (statements_in f.body) xs (length f.parameters)) (sym variables) (typed.statements references counted))
 
   -- from where it begins
-  function_call : (is_member : Bool) (own : Option ℕ) (j : ℕ) (f : Function) → f.kind ≡ Plain → IsTypedBody (lowering p layout is_member (variables_of f)) own f
+  function_call : (is_member : Bool) (own : Option ℕ) (j : ℕ) (f : Function) → PlainBody is_member j f → IsTypedBody (lowering p layout is_member (variables_of f)) own f
       → RunsAlike p layout q limit fuel own is_member f → (this : Reference) (given : List Argument) (words : List Word)
       → (at : Places) (k : ℕ) (c : SourceContext) (w : SourceWorld) (s : State)
       → Begun (lowering p layout is_member (variables_of f)) own c at w s f.parameters (new_frame f this given (opened w))
       (called_state (kinds_of (declared_function p layout is_member false j f).slots) words (w.open_calls + 1) s)
       → Alike layout p at k c w s SameValue (after_call (source_run_function (running p limit fuel) false f this given c (opened w)))
       (run_function (regions_running q limit fuel (kinds_of [])) (declared_function p layout is_member false j f) words (context_of (w.open_calls + 1) c) s)
-  function_call is_member own j f kind typed alike this given words at k c w s begun =
+  function_call is_member own j f body typed alike this given words at k c w s begun =
       let l = lowering p layout is_member (variables_of f) in
       let g = declared_function p layout is_member false j f in
       let kinds = kinds_of g.slots in
       function_runs l own (gives_int f.result) (regions_running q limit fuel kinds) c f.parameters
-      (limited f.specification (λ d. statements l (statements_in f.body) 0 (length f.parameters) d) 1 ∷ []) g (plain_body is_member j f kind)
+      (limited f.specification (λ d. statements l (statements_in f.body) 0 (length f.parameters) d) 1 ∷ []) g body
       (λ v. under_specification (running p limit fuel) f.specification (body_of (running p limit fuel) f v) c) (value_returned false f.result)
       (results_agree l kinds (slots_fit p layout is_member (variables_of f) g.body) f.result)
-      (λ v references counted variables. runs is_member own j f kind typed alike c v references counted variables) at k w s words (new_frame f this given (opened w)) begun
+      (λ v references counted variables. runs is_member own j f typed alike c v references counted variables) at k w s words (new_frame f this given (opened w)) begun
 
   -- from where it is opened
   pub opened_call : (m : ℕ) (g : RegionFunction) → function_at q m ≡ g → (act : SourceAction ℤ) (words : List Word)
@@ -180,7 +185,7 @@ functions_run_alike p layout q limit fuel n apart same main kind there typed ali
     (call_with q limit (suc fuel) n words (context_of w.open_calls c) s)) (sym main)
     (opened_call p layout q limit fuel apart same n g there (source_run_function (running p limit fuel) false f this given c) words at k c w s stands
     (λ w2 s2 h.
-    function_call p layout q limit fuel apart same false None 0 f kind typed alike this given words h.places k c w2 s2
+    function_call p layout q limit fuel apart same false None 0 f (plain_body p layout q limit fuel apart same false 0 f kind) typed alike this given words h.places k c w2 s2
     (function_begins l (kinds_of g.slots) fit c f.parameters typed.parameters h.places w2 s2 h.stands given this words refl
     (arguments_kept layout p at k w s c c w2 s2 stands h (types_of f.parameters) given words passed))))
 
@@ -192,6 +197,6 @@ methods_run_alike p layout q limit fuel j i apart same kind there typed alike at
     let fit : KindsFit l (kinds_of g.slots) = slots_fit p layout true (variables_of f) g.body in
     opened_call p layout q limit fuel apart same (number_of p (method j i)) g there (source_run_function (running p limit fuel) false f this given c) words at k c w s stands
     (λ w2 s2 h.
-    function_call p layout q limit fuel apart same true (Some j) j f kind typed alike this given words h.places k c w2 s2
+    function_call p layout q limit fuel apart same true (Some j) j f (method_body p layout q limit fuel apart same true j f kind) typed alike this given words h.places k c w2 s2
     (method_begins l (kinds_of g.slots) fit c f.parameters typed.parameters h.places w2 s2 h.stands given j this words refl refl
     (own_kept layout p at k w s c w2 s2 stands h j this (types_of f.parameters) given words passed)))

@@ -19,4 +19,5 @@ pub mod PartsBuilt
 pub mod Members
 pub mod Copying
 pub mod Main
+pub mod Whole
 pub mod Statements

@@ -5,12 +5,12 @@ use Rattle.eh_outer.specs.declared.module.Reply.{Reply}
 use Rattle.run_items.specs.declared.item.Item.{Item}
 use Rattle.scope_rules.specs.Context.{Context as SourceContext, no_context, with_travelling}
 use Rattle.scope_rules.specs.Expression.{types_of}
-use Rattle.scope_rules.specs.Meaning.{Meaning, MainOutcome, returned, stopped_by, end_of, after_main as source_after_main, first_world as source_first_world}
+use Rattle.scope_rules.specs.Meaning.{Meaning, MainOutcome, returned, stopped_by, end_of, after_main as source_after_main, first_world as source_first_world, program_meaning}
 use Rattle.scope_rules.specs.Outcome.{Result as SourceResult, done as source_done, stopped as source_stopped, thrown, cancelled, ended, undefined, out_of_turns, deep}
 use Rattle.scope_rules.specs.World.{World as SourceWorld, nowhere}
 use Rattle.region_forms.specs.Layout.{Layout}
 use Rattle.region_forms.specs.Outcome.{State, Result, done}
-use Rattle.region_forms.specs.Meaning.{after_main, first_world, no_frame}
+use Rattle.region_forms.specs.Meaning.{after_main, call_with, first_world, no_frame}
 use Rattle.region_simulation.specs.Places.{Places}
 use Rattle.region_simulation.specs.Alike.{SameSeen, Alike}
 use Rattle.region_simulation.specs.First.{first_places}
@@ -48,9 +48,13 @@ module _ (l : Layout) (p : Checked) (at : Places) (c : SourceContext) (w : Sourc
   means_same (source_stopped deep w2) y (s2, is, h) = ap after_main is ∙ ends_same (stopped_by deep) w2 s2 h
 
 pub programs_mean_the_same : ProgramsMeanTheSame
-programs_mean_the_same p layout input replies turns limit none same =
+programs_mean_the_same p layout q input replies turns limit globals main none same =
     let w = source_first_world p input replies turns in
     let s : State = record { frame = no_frame; world = first_world p.globals input replies; turns = turns } in
-    means_same layout p (first_places p) no_context w s _ _
+    subst (λ m. MeansTheSame (program_meaning p input replies turns limit) (after_main (call_with q limit (suc turns) m [] (record { guards = []; depth = 0 })
+    (record { frame = no_frame; world = first_world q.globals input replies; turns = turns })))) (sym main)
+    (subst (λ g. MeansTheSame (program_meaning p input replies turns limit) (after_main (call_with q limit (suc turns) p.main [] (record { guards = []; depth = 0 })
+    (record { frame = no_frame; world = first_world g input replies; turns = turns })))) (sym globals)
+    (means_same layout p (first_places p) no_context w s _ _
     (same (first_places p) nowhere [] [] 0 no_context w s (first_stands layout p input replies turns)
-    (subst (λ ps. SameArguments layout p (first_places p) (types_of ps) [] []) (sym none) tt))
+    (subst (λ ps. SameArguments layout p (first_places p) (types_of ps) [] []) (sym none) tt))))

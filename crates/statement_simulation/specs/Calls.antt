@@ -1,7 +1,7 @@
 -- That calls of functions do the same, with fuel: those inside a call have one unit less.
 use Rattle.std.specs.Prelude.{◌≡◌, ℕ, suc, Bool, true, false, ◌==◌, List, [], ◌∷◌, Option, Some, None}
 use Rattle.class_layout.specs.StandApart.{StandApart}
-use Rattle.cxx_ast.specs.declared.declaration.FuncKind.TheVariants.{Plain}
+use Rattle.cxx_ast.specs.declared.declaration.FuncKind.TheVariants.{Plain, Method}
 use Rattle.cxx_ast.specs.declared.types.Ty.{Ty}
 use Rattle.cxx_ast.specs.Plain.{Checked, Function, Statements}
 use Rattle.scope_rules.specs.Call.{call_with as source_call_with, running}
@@ -73,7 +73,7 @@ abbrev pub MethodsRunAlike : Type 0
 MethodsRunAlike =
     (p : Checked) (layout : Layout) (q : Regions) (limit fuel k i : ℕ) → StandApart layout.classes p.classes
     → SameCalls layout (running p limit fuel) (regions_running q limit fuel (λ s. help_slot))
-    → (method_at p k i).kind ≡ Plain → function_at q (number_of p (method k i)) ≡ declared_function p layout true false k (method_at p k i)
+    → (method_at p k i).kind ≡ Method → function_at q (number_of p (method k i)) ≡ declared_function p layout true false k (method_at p k i)
     → IsTypedBody (lowering p layout true (variables_of (method_at p k i))) (Some k) (method_at p k i)
     → RunsAlike p layout q limit fuel (Some k) true (method_at p k i)
     → SameCall layout (running p limit (suc fuel)) (regions_running q limit (suc fuel) (λ s. help_slot)) (method k i)

@@ -7,3 +7,4 @@ pub mod Programs
 pub mod Parts
 pub mod Members
 pub mod Main
+pub mod Whole

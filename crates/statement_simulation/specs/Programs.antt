@@ -9,7 +9,6 @@ use Rattle.scope_rules.specs.Outcome.{undefined}
 use Rattle.scope_rules.specs.Running.{Callee, function}
 use Rattle.region_forms.specs.Form.{Regions, help_slot}
 use Rattle.region_forms.specs.Layout.{Layout}
-use Rattle.region_forms.specs.LowerProgram.{regions_of}
 use Rattle.region_forms.specs.Meaning.{regions_meaning}
 use Rattle.region_simulation.specs.Calls.{IsCallable, SameCalls}
 use Rattle.statement_simulation.specs.Calls.{regions_running, SameCall}
@@ -31,9 +30,9 @@ MeansTheSameBy _ m other = other ≡ m
 abbrev pub MeansTheSame : Meaning → Meaning → Type 0
 MeansTheSame m other = MeansTheSameBy m.main m other
 
--- where the call of main does the same, the regions of a program mean what the program means
+-- where the call of main does the same, regions with the globals of a program mean what the program means
 abbrev pub ProgramsMeanTheSame : Type 0
 ProgramsMeanTheSame =
-    (p : Checked) (layout : Layout) (input : List ℕ) (replies : List (List Reply)) (turns limit : ℕ) → (source_function_at p p.main).parameters ≡ []
-    → SameCall layout (running p limit (suc turns)) (regions_running (regions_of p layout) limit (suc turns) (λ s. help_slot)) (function p.main)
-    → MeansTheSame (program_meaning p input replies turns limit) (regions_meaning (regions_of p layout) input replies turns limit)
+    (p : Checked) (layout : Layout) (q : Regions) (input : List ℕ) (replies : List (List Reply)) (turns limit : ℕ) → q.globals ≡ p.globals → q.main ≡ p.main
+    → (source_function_at p p.main).parameters ≡ [] → SameCall layout (running p limit (suc turns)) (regions_running q limit (suc turns) (λ s. help_slot)) (function p.main)
+    → MeansTheSame (program_meaning p input replies turns limit) (regions_meaning q input replies turns limit)

@@ -7,6 +7,7 @@ ghost use Rattle.statement_simulation.specs.Parts.{PartsBuildAlike, PartsDestroy
 ghost use Rattle.statement_simulation.specs.Programs.{CallsDoAlike, ProgramsMeanTheSame};
 ghost use Rattle.statement_simulation.specs.Sequences.{BlocksAreHeld, BranchesDecide, BreaksLeave, ContinuesLeave, DroppedValuesGoOn, EffectsGoOn, LoopsTurn, ReturnsLeave, SequencesFollow, ValuesReturn};
 ghost use Rattle.statement_simulation.specs.Statements.{StatementsDoAlike};
+ghost use Rattle.statement_simulation.specs.Whole.{AllCallsDoAlike, RegionsMeanTheSame};
 
 /// Every typed statement, wherever it stands, is lowered to regions that do what it does: with calls that do the same, and with throws, try
 /// blocks, local objects and the two built-in functions that may terminate or raise that do.
@@ -144,4 +145,16 @@ pub fn implicit_destructors_run_alike()
 /// A call of main does the same, where its regions store 0 behind those of its body: flowing off its end is returning 0.
 pub fn main_runs_alike()
     ensures { MainRunsAlike }
+{}
+
+/// Every call of a typed program does what the call of its regions does, with any fuel, where the forms that raise exceptions, or clean up behind
+/// them, do the same in each function.
+pub fn all_calls_do_alike()
+    ensures { AllCallsDoAlike }
+{}
+
+/// So the regions of a typed program mean what the program means, for every input, all replies of modules, every number of turns and every limit
+/// of open calls.
+pub fn regions_mean_the_same()
+    ensures { RegionsMeanTheSame }
 {}

@@ -1,0 +1,90 @@
+-- Whole programs: what is asked of a checked program, of its regions, and of the forms that raise exceptions, so that both mean the same.
+use Rattle.std.specs.Prelude.{◌≡◌, ℕ, ◌<◌, Bool, true, false, ◌==◌, List, [], length, Option, Some, None, slice_get, if◌then◌else◌}
+use Rattle.class_layout.specs.StandApart.{StandApart}
+use Rattle.cxx_ast.specs.declared.declaration.FuncKind.TheVariants.{Plain, Constructor as ConstructorKind, Destructor as DestructorKind}
+use Rattle.cxx_ast.specs.declared.types.Ty.{Ty}
+use Rattle.cxx_ast.specs.declared.types.Ty.TheVariants.{Int, Void}
+use Rattle.cxx_ast.specs.Plain.{Checked}
+use Rattle.eh_outer.specs.declared.module.Reply.{Reply}
+use Rattle.scope_rules.specs.Call.{running}
+use Rattle.scope_rules.specs.Class.{ObjectType, class_at, class_named, function_at as source_function_at, method_at, parts_of}
+use Rattle.scope_rules.specs.Construct.{destructor_place}
+use Rattle.scope_rules.specs.Meaning.{program_meaning}
+use Rattle.scope_rules.specs.Running.{Callee, function, method, constructor, destructor, declared, implicit_default, implicit_copy}
+use Rattle.region_forms.specs.Form.{help_slot, RegionFunction, Regions, function_at}
+use Rattle.region_forms.specs.Layout.{Layout}
+use Rattle.region_forms.specs.Meaning.{regions_meaning}
+use Rattle.region_forms.specs.Numbering.{number_of, variables_of}
+use Rattle.region_forms.specs.LowerProgram.{lowering, declared_function, implicit_default_function, implicit_copy_function, implicit_destructor_function}
+use Rattle.region_simulation.specs.Calls.{IsCallable, SameCalls}
+use Rattle.statement_simulation.specs.Functions.{IsTypedBody}
+use Rattle.statement_simulation.specs.Calls.{regions_running, RunsAlike}
+use Rattle.statement_simulation.specs.Main.{main_function, StaysInBody}
+use Rattle.statement_simulation.specs.Members.{CanInitialiseParts, CanDefaultPart, CanCopyPart, MemberRunsAlike}
+use Rattle.statement_simulation.specs.Programs.{MeansTheSame}
+
+-- a function of the program; main stores 0 behind its body
+abbrev pub lowered_function : Checked → Layout → ℕ → RegionFunction
+lowered_function p layout n =
+    if n == p.main then main_function p layout (source_function_at p n) else declared_function p layout false false 0 (source_function_at p n)
+
+-- the destructor of class k
+abbrev pub lowered_destructor : Checked → Layout → ℕ → Option ℕ → RegionFunction
+lowered_destructor p layout k None = implicit_destructor_function p layout k
+lowered_destructor p layout k (Some i) = declared_function p layout true false k (method_at p k i)
+
+-- what is called
+abbrev pub lowered_callee : Checked → Layout → Callee → RegionFunction
+lowered_callee p layout (function n) = lowered_function p layout n
+lowered_callee p layout (method k i) = declared_function p layout true false k (method_at p k i)
+lowered_callee p layout (constructor k (declared i)) = declared_function p layout true false k (method_at p k i)
+lowered_callee p layout (constructor k implicit_default) = implicit_default_function p layout k
+lowered_callee p layout (constructor k implicit_copy) = implicit_copy_function p layout k
+lowered_callee p layout (destructor k) = lowered_destructor p layout k (destructor_place p k)
+
+-- regions of a program: each callee has its number
+pub record AreLowered (p : Checked) (layout : Layout) (q : Regions) : Type 0 where
+  pub globals : q.globals ≡ p.globals
+  pub main : q.main ≡ p.main
+  pub numbered : (callee : Callee) → IsCallable p callee → function_at q (number_of p callee) ≡ lowered_callee p layout callee
+
+-- what is asked of a program, as its checker sees to it
+pub record IsTypedProgram (p : Checked) (layout : Layout) : Type 0 where
+  pub apart : StandApart layout.classes p.classes
+  pub main_there : p.main < length p.functions
+  pub main_result : (source_function_at p p.main).result ≡ Int
+  pub main_parameters : (source_function_at p p.main).parameters ≡ []
+  pub plain : (n : ℕ) → n < length p.functions → (source_function_at p n).kind ≡ Plain
+  pub functions : (n : ℕ) → n < length p.functions → IsTypedBody (lowering p layout false (variables_of (source_function_at p n))) None (source_function_at p n)
+  pub methods : (k i : ℕ) → k < length p.classes → i < length (class_at p k).functions
+      → IsTypedBody (lowering p layout true (variables_of (method_at p k i))) (Some k) (method_at p k i)
+  pub constructors : (k i : ℕ) → k < length p.classes → i < length (class_at p k).functions → (method_at p k i).kind ≡ ConstructorKind
+      → ((method_at p k i).result ≡ Void) × CanInitialiseParts (lowering p layout true (variables_of (method_at p k i))) k (method_at p k i)
+  pub destructors : (k i : ℕ) → k < length p.classes → i < length (class_at p k).functions → (method_at p k i).kind ≡ DestructorKind
+      → ((method_at p k i).result ≡ Void) × ((method_at p k i).parameters ≡ [])
+  pub named : (k : ℕ) → k < length p.classes → class_named (class_at p k).name ≡ k
+  pub defaulted : (k i : ℕ) (t : ObjectType) → IsCallable p (constructor k implicit_default) → slice_get (parts_of p k) i ≡ Some t → CanDefaultPart p t
+  pub copied : (k i : ℕ) (t : ObjectType) → k < length p.classes → slice_get (parts_of p k) i ≡ Some t → CanCopyPart p t
+
+-- The forms that raise exceptions, or clean up behind them, do the same in each function, where calls do; and no jump comes out of main's body.
+pub record SameForms (p : Checked) (layout : Layout) (q : Regions) (limit : ℕ) : Type 0 where
+  pub functions : (fuel n : ℕ) → SameCalls layout (running p limit fuel) (regions_running q limit fuel (λ s. help_slot)) → n < length p.functions
+      → RunsAlike p layout q limit fuel None false (source_function_at p n)
+  pub methods : (fuel k i : ℕ) → SameCalls layout (running p limit fuel) (regions_running q limit fuel (λ s. help_slot)) → k < length p.classes
+      → i < length (class_at p k).functions → RunsAlike p layout q limit fuel (Some k) true (method_at p k i)
+  pub members : (fuel k : ℕ) (gives : Bool) (types : List Ty) → SameCalls layout (running p limit fuel) (regions_running q limit fuel (λ s. help_slot)) → k < length p.classes
+      → MemberRunsAlike p layout q limit fuel k gives types
+  pub stays : (fuel : ℕ) → StaysInBody (running p limit fuel) (source_function_at p p.main)
+
+-- every call of a typed program does what the call of its regions does
+abbrev pub AllCallsDoAlike : Type 0
+AllCallsDoAlike =
+    (p : Checked) (layout : Layout) (q : Regions) (limit : ℕ) → IsTypedProgram p layout → AreLowered p layout q → SameForms p layout q limit
+    → (fuel : ℕ) → SameCalls layout (running p limit fuel) (regions_running q limit fuel (λ s. help_slot))
+
+-- so the regions of a typed program mean what the program means
+abbrev pub RegionsMeanTheSame : Type 0
+RegionsMeanTheSame =
+    (p : Checked) (layout : Layout) (q : Regions) (input : List ℕ) (replies : List (List Reply)) (turns limit : ℕ)
+    → IsTypedProgram p layout → AreLowered p layout q → SameForms p layout q limit
+    → MeansTheSame (program_meaning p input replies turns limit) (regions_meaning q input replies turns limit)
