@@ -20,4 +20,5 @@ pub mod Members
 pub mod Copying
 pub mod Main
 pub mod Whole
+pub mod Jumps
 pub mod Statements

@@ -20,6 +20,7 @@ use Rattle.statement_simulation.specs.Main.{main_function}
 use Rattle.statement_simulation.specs.Whole.{lowered_function, lowered_destructor, AreLowered, IsTypedProgram, SameForms, AllCallsDoAlike, RegionsMeanTheSame}
 use Rattle.statement_simulation.proofs.Functions.{functions_run_alike, methods_run_alike}
 use Rattle.statement_simulation.proofs.Main.{main_runs_alike}
+use Rattle.statement_simulation.proofs.Jumps.{jumps_stay_in_loops}
 use Rattle.statement_simulation.proofs.Members.{constructors_run_alike, default_constructors_run_alike, destructors_run_alike, implicit_destructors_run_alike}
 use Rattle.statement_simulation.proofs.Copying.{copy_constructors_run_alike}
 use Rattle.statement_simulation.proofs.Programs.{calls_do_alike, programs_mean_the_same}
@@ -71,7 +72,7 @@ module _ (p : Checked) (layout : Layout) (q : Regions) (limit : ℕ) (typed : Is
           let main = is_number n p.main e in
           subst (λ m. Called (function m)) (sym main)
           (main_runs_alike p layout q limit fuel typed.apart same typed.main_result (subst (λ m. function_at q m ≡ main_function p layout (source_function_at p m)) main there)
-          (typed.functions p.main typed.main_there) (forms.functions fuel p.main same typed.main_there) (forms.stays fuel))
+          (typed.functions p.main typed.main_there) (forms.functions fuel p.main same typed.main_there) (jumps_stay_in_loops (running p limit fuel) (source_function_at p p.main) typed.main_jumps))
       go false e there = functions_run_alike p layout q limit fuel n typed.apart same e (typed.plain n lt) there (typed.functions n lt) (forms.functions fuel n same lt)
 
   destructor_called : (k : ℕ) → k < length p.classes → (o : Option ℕ) → destructor_place p k ≡ o → function_at q (number_of p (destructor k)) ≡ lowered_destructor p layout k o

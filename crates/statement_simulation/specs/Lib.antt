@@ -8,3 +8,4 @@ pub mod Parts
 pub mod Members
 pub mod Main
 pub mod Whole
+pub mod Jumps

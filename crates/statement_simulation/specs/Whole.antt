@@ -6,7 +6,7 @@ use Rattle.cxx_ast.specs.declared.types.Ty.{Ty}
 use Rattle.cxx_ast.specs.declared.types.Ty.TheVariants.{Int, Void}
 use Rattle.cxx_ast.specs.Plain.{Checked}
 use Rattle.eh_outer.specs.declared.module.Reply.{Reply}
-use Rattle.scope_rules.specs.Call.{running}
+use Rattle.scope_rules.specs.Call.{running, statements_in}
 use Rattle.scope_rules.specs.Class.{ObjectType, class_at, class_named, function_at as source_function_at, method_at, parts_of}
 use Rattle.scope_rules.specs.Construct.{destructor_place}
 use Rattle.scope_rules.specs.Meaning.{program_meaning}
@@ -19,7 +19,8 @@ use Rattle.region_forms.specs.LowerProgram.{lowering, declared_function, implici
 use Rattle.region_simulation.specs.Calls.{IsCallable, SameCalls}
 use Rattle.statement_simulation.specs.Functions.{IsTypedBody}
 use Rattle.statement_simulation.specs.Calls.{regions_running, RunsAlike}
-use Rattle.statement_simulation.specs.Main.{main_function, StaysInBody}
+use Rattle.statement_simulation.specs.Main.{main_function}
+use Rattle.statement_simulation.specs.Jumps.{HaveNoJump}
 use Rattle.statement_simulation.specs.Members.{CanInitialiseParts, CanDefaultPart, CanCopyPart, MemberRunsAlike}
 use Rattle.statement_simulation.specs.Programs.{MeansTheSame}
 
@@ -54,6 +55,7 @@ pub record IsTypedProgram (p : Checked) (layout : Layout) : Type 0 where
   pub main_there : p.main < length p.functions
   pub main_result : (source_function_at p p.main).result ≡ Int
   pub main_parameters : (source_function_at p p.main).parameters ≡ []
+  pub main_jumps : HaveNoJump (statements_in (source_function_at p p.main).body)
   pub plain : (n : ℕ) → n < length p.functions → (source_function_at p n).kind ≡ Plain
   pub functions : (n : ℕ) → n < length p.functions → IsTypedBody (lowering p layout false (variables_of (source_function_at p n))) None (source_function_at p n)
   pub methods : (k i : ℕ) → k < length p.classes → i < length (class_at p k).functions
@@ -66,7 +68,7 @@ pub record IsTypedProgram (p : Checked) (layout : Layout) : Type 0 where
   pub defaulted : (k i : ℕ) (t : ObjectType) → IsCallable p (constructor k implicit_default) → slice_get (parts_of p k) i ≡ Some t → CanDefaultPart p t
   pub copied : (k i : ℕ) (t : ObjectType) → k < length p.classes → slice_get (parts_of p k) i ≡ Some t → CanCopyPart p t
 
--- The forms that raise exceptions, or clean up behind them, do the same in each function, where calls do; and no jump comes out of main's body.
+-- the forms that raise exceptions, or clean up behind them, do the same in each function, where calls do
 pub record SameForms (p : Checked) (layout : Layout) (q : Regions) (limit : ℕ) : Type 0 where
   pub functions : (fuel n : ℕ) → SameCalls layout (running p limit fuel) (regions_running q limit fuel (λ s. help_slot)) → n < length p.functions
       → RunsAlike p layout q limit fuel None false (source_function_at p n)
@@ -74,7 +76,6 @@ pub record SameForms (p : Checked) (layout : Layout) (q : Regions) (limit : ℕ)
       → i < length (class_at p k).functions → RunsAlike p layout q limit fuel (Some k) true (method_at p k i)
   pub members : (fuel k : ℕ) (gives : Bool) (types : List Ty) → SameCalls layout (running p limit fuel) (regions_running q limit fuel (λ s. help_slot)) → k < length p.classes
       → MemberRunsAlike p layout q limit fuel k gives types
-  pub stays : (fuel : ℕ) → StaysInBody (running p limit fuel) (source_function_at p p.main)
 
 -- every call of a typed program does what the call of its regions does
 abbrev pub AllCallsDoAlike : Type 0
