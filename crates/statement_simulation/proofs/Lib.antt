@@ -19,6 +19,7 @@ pub mod PartsBuilt
 pub mod Members
 pub mod Copying
 pub mod Main
+pub mod Finding
 pub mod Whole
 pub mod Jumps
 pub mod Statements

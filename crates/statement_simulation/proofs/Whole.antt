@@ -1,13 +1,11 @@
 -- Every call of a typed program does the same, and so does the program.
-use Rattle.std.proofs.Common.{◌≡◌, ℕ, suc, ◌+◌, ◌<◌, Bool, true, false, List, [], ◌∷◌, Option, Some, None, refl, sym, subst, arith, length}
-use Rattle.std.specs.Prelude.{◌==◌, slice_get, unwrap_or, if◌then◌else◌}
+use Rattle.std.proofs.Common.{◌∙◌, ap, ◌≡◌, ℕ, suc, ◌<◌, Bool, true, false, [], Option, Some, None, refl, sym, subst, arith, length}
+use Rattle.std.specs.Prelude.{◌==◌, if◌then◌else◌}
 use Rattle.std.proofs.lemmas.Bool.Decides.{nat_tests}
-use Rattle.cxx_ast.specs.declared.declaration.FuncKind.{FuncKind}
-use Rattle.cxx_ast.specs.declared.declaration.FuncKind.TheVariants.{Plain, Method, Constructor as ConstructorKind, Destructor as DestructorKind}
-use Rattle.cxx_ast.specs.Plain.{Checked, Function}
+use Rattle.cxx_ast.specs.Plain.{Checked}
 use Rattle.scope_rules.specs.Call.{running}
-use Rattle.scope_rules.specs.Class.{class_at, function_at as source_function_at, method_at, no_function}
-use Rattle.scope_rules.specs.Construct.{is_constructor, is_destructor, place_from, destructor_place}
+use Rattle.scope_rules.specs.Class.{class_at, function_at as source_function_at, method_at}
+use Rattle.scope_rules.specs.Construct.{is_destructor, destructor_place}
 use Rattle.scope_rules.specs.Running.{Callee, function, method, constructor, destructor, declared, implicit_default, implicit_copy}
 use Rattle.region_forms.specs.Form.{help_slot, Regions, function_at}
 use Rattle.region_forms.specs.Layout.{Layout}
@@ -18,42 +16,13 @@ use Rattle.statement_simulation.specs.Functions.{gives_int}
 use Rattle.statement_simulation.specs.Calls.{regions_running, SameCall}
 use Rattle.statement_simulation.specs.Main.{main_function}
 use Rattle.statement_simulation.specs.Whole.{lowered_function, lowered_destructor, AreLowered, IsTypedProgram, SameForms, AllCallsDoAlike, RegionsMeanTheSame}
+use Rattle.statement_simulation.proofs.Finding.{constructor_kind, destructor_kind, found, part_defaults, part_copies}
 use Rattle.statement_simulation.proofs.Functions.{functions_run_alike, methods_run_alike}
 use Rattle.statement_simulation.proofs.Main.{main_runs_alike}
 use Rattle.statement_simulation.proofs.Jumps.{jumps_stay_in_loops}
 use Rattle.statement_simulation.proofs.Members.{constructors_run_alike, default_constructors_run_alike, destructors_run_alike, implicit_destructors_run_alike}
 use Rattle.statement_simulation.proofs.Copying.{copy_constructors_run_alike}
 use Rattle.statement_simulation.proofs.Programs.{calls_do_alike, programs_mean_the_same}
-
-constructor_kind : (k : FuncKind) → is_constructor k ≡ true → k ≡ ConstructorKind
-constructor_kind ConstructorKind e = refl
-constructor_kind Plain e = absurd (cc e)
-constructor_kind Method e = absurd (cc e)
-constructor_kind DestructorKind e = absurd (cc e)
-
-destructor_kind : (k : FuncKind) → is_destructor k ≡ true → k ≡ DestructorKind
-destructor_kind DestructorKind e = refl
-destructor_kind Plain e = absurd (cc e)
-destructor_kind Method e = absurd (cc e)
-destructor_kind ConstructorKind e = absurd (cc e)
-
--- a function that is found is there, and passes the test
-record Found (test : Function → Bool) (fs : List Function) (n i : ℕ) : Type 0 where
-  place : ℕ
-  number : i ≡ n + place
-  there : place < length fs
-  passes : test (unwrap_or (slice_get fs place) no_function) ≡ true
-
-found : (test : Function → Bool) (fs : List Function) (n i : ℕ) → place_from n test fs ≡ Some i → Found test fs n i
-found test [] n i e = absurd (cc e)
-found test (f ∷ fs) n i e = go (test f) refl e (found test fs (n + 1) i)
-  where
-    number_is : Some n ≡ Some i → n ≡ i
-    number_is e = cc e
-
-    go : (b : Bool) → test f ≡ b → (if b then Some n else place_from (n + 1) test fs) ≡ Some i → (place_from (n + 1) test fs ≡ Some i → Found test fs (n + 1) i) → Found test (f ∷ fs) n i
-    go true is e ih = record { place = 0; number = (let m = number_is e in omega (arith, m)); there = omega arith; passes = is }
-    go false is e ih = let h = ih e in let m = h.number in let lt = h.there in record { place = suc h.place; number = omega (arith, m); there = omega (arith, lt); passes = h.passes }
 
 is_number : (m n : ℕ) → (m == n) ≡ true → m ≡ n
 is_number m n e = grind (arith, nat_tests, e)
@@ -97,10 +66,10 @@ module _ (p : Checked) (layout : Layout) (q : Regions) (limit : ℕ) (typed : Is
       constructors_run_alike p layout q limit fuel k i typed.apart same kind void (lowered.numbered (constructor k (declared i)) can) (typed.methods k i can.0 can.1) initialised
       (forms.members fuel k (gives_int (method_at p k i).result) (variables_of (method_at p k i)) same can.0)
   called (constructor k implicit_default) can =
-      default_constructors_run_alike p layout q limit fuel k typed.apart same can.1 (lowered.numbered (constructor k implicit_default) can) (λ i t is. typed.defaulted k i t can is)
+      default_constructors_run_alike p layout q limit fuel k typed.apart same can.1 (lowered.numbered (constructor k implicit_default) can) (λ i t is. part_defaults p k i t can is)
       (forms.members fuel k false [] same can.0)
   called (constructor k implicit_copy) can =
-      copy_constructors_run_alike p layout q limit fuel k typed.apart same (typed.named k can) (lowered.numbered (constructor k implicit_copy) can) (λ i t is. typed.copied k i t can is)
+      copy_constructors_run_alike p layout q limit fuel k typed.apart same (typed.named k can) (lowered.numbered (constructor k implicit_copy) can) (λ i t is. part_copies p t (λ j named. typed.parts k i j can (is ∙ ap (λ u. Some u) named)))
       (forms.members fuel k false _ same can)
   called (destructor k) can = destructor_called k can (destructor_place p k) refl (lowered.numbered (destructor k) can)
 

@@ -7,7 +7,7 @@ use Rattle.cxx_ast.specs.declared.types.Ty.TheVariants.{Int, Void}
 use Rattle.cxx_ast.specs.Plain.{Checked}
 use Rattle.eh_outer.specs.declared.module.Reply.{Reply}
 use Rattle.scope_rules.specs.Call.{running, statements_in}
-use Rattle.scope_rules.specs.Class.{ObjectType, class_at, class_named, function_at as source_function_at, method_at, parts_of}
+use Rattle.scope_rules.specs.Class.{class_type, class_at, class_named, function_at as source_function_at, method_at, parts_of}
 use Rattle.scope_rules.specs.Construct.{destructor_place}
 use Rattle.scope_rules.specs.Meaning.{program_meaning}
 use Rattle.scope_rules.specs.Running.{Callee, function, method, constructor, destructor, declared, implicit_default, implicit_copy}
@@ -21,7 +21,7 @@ use Rattle.statement_simulation.specs.Functions.{IsTypedBody}
 use Rattle.statement_simulation.specs.Calls.{regions_running, RunsAlike}
 use Rattle.statement_simulation.specs.Main.{main_function}
 use Rattle.statement_simulation.specs.Jumps.{HaveNoJump}
-use Rattle.statement_simulation.specs.Members.{CanInitialiseParts, CanDefaultPart, CanCopyPart, MemberRunsAlike}
+use Rattle.statement_simulation.specs.Members.{CanInitialiseParts, MemberRunsAlike}
 use Rattle.statement_simulation.specs.Programs.{MeansTheSame}
 
 -- a function of the program; main stores 0 behind its body
@@ -65,8 +65,7 @@ pub record IsTypedProgram (p : Checked) (layout : Layout) : Type 0 where
   pub destructors : (k i : ℕ) → k < length p.classes → i < length (class_at p k).functions → (method_at p k i).kind ≡ DestructorKind
       → ((method_at p k i).result ≡ Void) × ((method_at p k i).parameters ≡ [])
   pub named : (k : ℕ) → k < length p.classes → class_named (class_at p k).name ≡ k
-  pub defaulted : (k i : ℕ) (t : ObjectType) → IsCallable p (constructor k implicit_default) → slice_get (parts_of p k) i ≡ Some t → CanDefaultPart p t
-  pub copied : (k i : ℕ) (t : ObjectType) → k < length p.classes → slice_get (parts_of p k) i ≡ Some t → CanCopyPart p t
+  pub parts : (k i j : ℕ) → k < length p.classes → slice_get (parts_of p k) i ≡ Some (class_type j) → j < length p.classes
 
 -- the forms that raise exceptions, or clean up behind them, do the same in each function, where calls do
 pub record SameForms (p : Checked) (layout : Layout) (q : Regions) (limit : ℕ) : Type 0 where
