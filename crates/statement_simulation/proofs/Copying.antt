@@ -5,7 +5,7 @@ use Rattle.cxx_ast.specs.declared.name.Name.{Name}
 use Rattle.cxx_ast.specs.declared.types.Param.{Param}
 use Rattle.cxx_ast.specs.declared.types.Ty.TheVariants.{ObjectRef}
 use Rattle.cxx_ast.specs.Plain.{Checked}
-use Rattle.scope_rules.specs.Call.{call_with as source_call_with, running, build_parts as source_build_parts, copy_part as source_copy_part, run_constructor}
+use Rattle.scope_rules.specs.Call.{build_parts as source_build_parts, copy_part as source_copy_part, run_constructor}
 use Rattle.scope_rules.specs.Class.{class_type, class_at, class_named, parts_of}
 use Rattle.scope_rules.specs.Context.{Context as SourceContext}
 use Rattle.scope_rules.specs.Frame.{variable_in, with_arguments}
@@ -22,6 +22,7 @@ use Rattle.region_simulation.specs.Places.{Places, Refers}
 use Rattle.region_simulation.specs.Reach.{is_in_reach, KindsFit}
 use Rattle.region_simulation.specs.Calls.{SameArguments, SameOwn}
 use Rattle.region_simulation.proofs.Standard.{builtins_same}
+use Rattle.statement_simulation.specs.Fueled.{fueled, fueled_call}
 use Rattle.statement_simulation.specs.Functions.{AreDeclared, all_declared_to}
 use Rattle.statement_simulation.specs.Calls.{regions_running}
 use Rattle.statement_simulation.specs.Members.{CopyConstructorsRunAlike}
@@ -72,14 +73,14 @@ own_given l p at k this c n given (x ∷ words) (a, refers, is, same) = one_refe
 -- the source copies from its argument
 same_run : (p : Checked) (limit fuel k : ℕ) (this : Reference) (given : List Argument) (c : SourceContext) (u : SourceWorld) → OneReference given
     → source_continued (with_arguments (copied p k ∷ []) given (record { this = this; variables = [] }) u)
-    (λ v. source_build_parts (running p limit fuel) (source_copy_part (running p limit fuel) v.this (variable_in v.variables 0) c) v.this 0 (parts_of p k) c (source_pure source_normal) >>=
+    (λ v. source_build_parts (fueled p limit fuel) (source_copy_part (fueled p limit fuel) v.this (variable_in v.variables 0) c) v.this 0 (parts_of p k) c (source_pure source_normal) >>=
     (λ flow. source_pure (pos 0)))
-    ≡ (run_constructor (running p limit fuel) k implicit_copy this given c >> source_pure (pos 0)) u
+    ≡ (run_constructor (fueled p limit fuel) k implicit_copy this given c >> source_pure (pos 0)) u
 same_run p limit fuel k this given c u one =
     subst (λ ys. source_continued (with_arguments (copied p k ∷ []) ys (record { this = this; variables = [] }) u)
-    (λ v. source_build_parts (running p limit fuel) (source_copy_part (running p limit fuel) v.this (variable_in v.variables 0) c) v.this 0 (parts_of p k) c (source_pure source_normal) >>=
+    (λ v. source_build_parts (fueled p limit fuel) (source_copy_part (fueled p limit fuel) v.this (variable_in v.variables 0) c) v.this 0 (parts_of p k) c (source_pure source_normal) >>=
     (λ flow. source_pure (pos 0)))
-    ≡ (run_constructor (running p limit fuel) k implicit_copy this ys c >> source_pure (pos 0)) u) (sym one.is) refl
+    ≡ (run_constructor (fueled p limit fuel) k implicit_copy this ys c >> source_pure (pos 0)) u) (sym one.is) refl
 
 -- it is in reach
 copied_in_reach : (p : Checked) (k : ℕ) (references : List Reference) → length references ≡ 1 → is_in_reach (all_declared_to (copied p k ∷ []) references []) 0 ≡ true
@@ -93,9 +94,9 @@ copy_constructors_run_alike p layout q limit fuel k apart same named there can a
     let l = lowering p layout true types in
     let kinds = kinds_of g.slots in
     let fit : KindsFit l kinds = slots_fit p layout true types g.body in
-    let call = source_call_with p limit fuel in
+    let call = fueled_call p limit fuel in
     let b = regions_running q limit fuel kinds in
-    let r = running p limit fuel in
+    let r = fueled p limit fuel in
     let declares : AreDeclared l 0 (copied p k ∷ []) = (record { numbered = refl; there = omega arith; typed = refl }, tt) in
     let own = own_named layout p at k this (record { text = []; place = 0; bound = Class k }) (class_at p k).name given words (sym named) passed in
     let one = own_given layout p at k this true (class_at p k).name given words own in

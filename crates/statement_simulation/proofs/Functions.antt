@@ -5,7 +5,7 @@ use Rattle.cxx_ast.specs.declared.declaration.FuncKind.TheVariants.{Plain, Metho
 use Rattle.cxx_ast.specs.declared.types.Ty.{Ty}
 use Rattle.cxx_ast.specs.declared.types.Ty.TheVariants.{Int, Void, Object, IntRef, ObjectRef}
 use Rattle.cxx_ast.specs.Plain.{Checked, Function}
-use Rattle.scope_rules.specs.Call.{call_with as source_call_with, running, statements_in, body_of, new_frame, value_returned, run_function as source_run_function, opened, after_call, open_call}
+use Rattle.scope_rules.specs.Call.{statements_in, body_of, new_frame, value_returned, run_function as source_run_function, opened, after_call, open_call}
 use Rattle.scope_rules.specs.Class.{class_type, function_at as source_function_at, method_at}
 use Rattle.scope_rules.specs.Context.{Context as SourceContext}
 use Rattle.scope_rules.specs.Expression.{types_of}
@@ -37,6 +37,7 @@ use Rattle.region_simulation.specs.Statements.{AreTypedStatements}
 use Rattle.region_simulation.proofs.Following.{refers_kept}
 use Rattle.region_simulation.proofs.Storing.{stored_value}
 use Rattle.region_simulation.proofs.Flowing.{does_inside}
+use Rattle.statement_simulation.specs.Fueled.{fueled, fueled_call}
 use Rattle.statement_simulation.specs.Statements.{SourceCalls, SameExceptions}
 use Rattle.statement_simulation.specs.Functions.{gives_int, all_declared_to, IsTypedBody}
 use Rattle.statement_simulation.specs.Calls.{regions_running, SameExtents, RunsAlike, FunctionsRunAlike, MethodsRunAlike}
@@ -108,9 +109,9 @@ own_kept l p at k w s c w2 s2 stands h j this types given (x ∷ words) (a, refe
 )
 
 module _ (p : Checked) (layout : Layout) (q : Regions) (limit fuel : ℕ) (apart : StandApart layout.classes p.classes)
-    (same : SameCalls layout (running p limit fuel) (regions_running q limit fuel (λ s. help_slot))) where
+    (same : SameCalls layout (fueled p limit fuel) (regions_running q limit fuel (λ s. help_slot))) where
   -- calls are the same whatever the kinds of the slots of the caller
-  pub same_for : (kinds : Kinds) → SameCalls layout (running p limit fuel) (regions_running q limit fuel kinds)
+  pub same_for : (kinds : Kinds) → SameCalls layout (fueled p limit fuel) (regions_running q limit fuel kinds)
   same_for kinds at callee this given words k c w s there stands passed = same at callee this given words k c w s there stands passed
 
   -- the regions of a body that is no constructor's nor destructor's
@@ -131,7 +132,7 @@ module _ (p : Checked) (layout : Layout) (q : Regions) (limit fuel : ℕ) (apart
       → (c : SourceContext) (v : SourceFrame) (references : List Reference) → length references ≡ length f.parameters → v.variables ≡ all_declared_to f.parameters references []
       → DoesAlike (lowering p layout is_member (variables_of f)) own (gives_int f.result)
       (regions_running q limit fuel (kinds_of (declared_function p layout is_member false k f).slots)) v c (length f.parameters) 0 1
-      (under_specification (running p limit fuel) f.specification (body_of (running p limit fuel) f v) c)
+      (under_specification (fueled p limit fuel) f.specification (body_of (fueled p limit fuel) f v) c)
       (limited f.specification (λ d. statements (lowering p layout is_member (variables_of f)) (statements_in f.body) 0 (length f.parameters) d) 1 ∷ [])
   runs is_member own k f typed alike c v references counted variables =
       let l = lowering p layout is_member (variables_of f) in
@@ -139,7 +140,7 @@ module _ (p : Checked) (layout : Layout) (q : Regions) (limit fuel : ℕ) (apart
       let kinds = kinds_of g.slots in
       let fit : KindsFit l kinds = slots_fit p layout is_member (variables_of f) g.body in
       let (exceptions, extents) = alike kinds fit in
-      body_does l own (source_call_with p limit fuel) (regions_running q limit fuel kinds) fit apart (same_for kinds) f exceptions extents v c
+      body_does l own (fueled_call p limit fuel) (regions_running q limit fuel kinds) fit apart (same_for kinds) f exceptions extents v c
       (subst (λ xs. AreTypedStatements l own (gives_int f.result) (statements_in f.body) xs (length f.parameters)) (sym variables) (typed.statements references counted))
 
   -- from where it begins
@@ -148,7 +149,7 @@ module _ (p : Checked) (layout : Layout) (q : Regions) (limit fuel : ℕ) (apart
       → (at : Places) (k : ℕ) (c : SourceContext) (w : SourceWorld) (s : State)
       → Begun (lowering p layout is_member (variables_of f)) own c at w s f.parameters (new_frame f this given (opened w))
       (called_state (kinds_of (declared_function p layout is_member false j f).slots) words (w.open_calls + 1) s)
-      → Alike layout p at k c w s SameValue (after_call (source_run_function (running p limit fuel) false f this given c (opened w)))
+      → Alike layout p at k c w s SameValue (after_call (source_run_function (fueled p limit fuel) false f this given c (opened w)))
       (run_function (regions_running q limit fuel (kinds_of [])) (declared_function p layout is_member false j f) words (context_of (w.open_calls + 1) c) s)
   function_call is_member own j f body typed alike this given words at k c w s begun =
       let l = lowering p layout is_member (variables_of f) in
@@ -156,7 +157,7 @@ module _ (p : Checked) (layout : Layout) (q : Regions) (limit fuel : ℕ) (apart
       let kinds = kinds_of g.slots in
       function_runs l own (gives_int f.result) (regions_running q limit fuel kinds) c f.parameters
       (limited f.specification (λ d. statements l (statements_in f.body) 0 (length f.parameters) d) 1 ∷ []) g body
-      (λ v. under_specification (running p limit fuel) f.specification (body_of (running p limit fuel) f v) c) (value_returned false f.result)
+      (λ v. under_specification (fueled p limit fuel) f.specification (body_of (fueled p limit fuel) f v) c) (value_returned false f.result)
       (results_agree l kinds (slots_fit p layout is_member (variables_of f) g.body) f.result)
       (λ v references counted variables. runs is_member own j f typed alike c v references counted variables) at k w s words (new_frame f this given (opened w)) begun
 
@@ -181,9 +182,9 @@ functions_run_alike p layout q limit fuel n apart same main kind there typed ali
     let g = declared_function p layout false false 0 f in
     let l = lowering p layout false (variables_of f) in
     let fit : KindsFit l (kinds_of g.slots) = slots_fit p layout false (variables_of f) g.body in
-    subst (λ z. Alike layout p at k c w s SameValue (open_call limit (source_run_function (running p limit fuel) z f this given c) w)
+    subst (λ z. Alike layout p at k c w s SameValue (open_call limit (source_run_function (fueled p limit fuel) z f this given c) w)
     (call_with q limit (suc fuel) n words (context_of w.open_calls c) s)) (sym main)
-    (opened_call p layout q limit fuel apart same n g there (source_run_function (running p limit fuel) false f this given c) words at k c w s stands
+    (opened_call p layout q limit fuel apart same n g there (source_run_function (fueled p limit fuel) false f this given c) words at k c w s stands
     (λ w2 s2 h.
     function_call p layout q limit fuel apart same false None 0 f (plain_body p layout q limit fuel apart same false 0 f kind) typed alike this given words h.places k c w2 s2
     (function_begins l (kinds_of g.slots) fit c f.parameters typed.parameters h.places w2 s2 h.stands given this words refl
@@ -195,7 +196,7 @@ methods_run_alike p layout q limit fuel j i apart same kind there typed alike at
     let g = declared_function p layout true false j f in
     let l = lowering p layout true (variables_of f) in
     let fit : KindsFit l (kinds_of g.slots) = slots_fit p layout true (variables_of f) g.body in
-    opened_call p layout q limit fuel apart same (number_of p (method j i)) g there (source_run_function (running p limit fuel) false f this given c) words at k c w s stands
+    opened_call p layout q limit fuel apart same (number_of p (method j i)) g there (source_run_function (fueled p limit fuel) false f this given c) words at k c w s stands
     (λ w2 s2 h.
     function_call p layout q limit fuel apart same true (Some j) j f (method_body p layout q limit fuel apart same true j f kind) typed alike this given words h.places k c w2 s2
     (method_begins l (kinds_of g.slots) fit c f.parameters typed.parameters h.places w2 s2 h.stands given j this words refl refl

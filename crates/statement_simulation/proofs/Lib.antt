@@ -1,3 +1,4 @@
+pub mod Fueled
 pub mod Choosing
 pub mod Looping
 pub mod Testing

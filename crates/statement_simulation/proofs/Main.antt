@@ -4,7 +4,7 @@ use Rattle.std.specs.Prelude.{◌==◌}
 use Rattle.std.proofs.lemmas.Bool.Decides.{nat_tests}
 use Rattle.cxx_ast.specs.declared.types.Ty.{Ty}
 use Rattle.cxx_ast.specs.declared.types.Ty.TheVariants.{Int}
-use Rattle.scope_rules.specs.Call.{call_with as source_call_with, running, statements_in, body_of, new_frame, value_returned, run_function as source_run_function, opened, after_call, open_call}
+use Rattle.scope_rules.specs.Call.{statements_in, body_of, new_frame, value_returned, run_function as source_run_function, opened, after_call, open_call}
 use Rattle.scope_rules.specs.Class.{function_at as source_function_at}
 use Rattle.scope_rules.specs.Expression.{types_of}
 use Rattle.scope_rules.specs.Frame.{Frame as SourceFrame}
@@ -28,6 +28,7 @@ use Rattle.region_simulation.specs.Statements.{AreTypedStatements}
 use Rattle.region_simulation.proofs.Evaluating.{meant_case}
 use Rattle.region_simulation.proofs.Joining.{joined}
 use Rattle.region_simulation.proofs.Flowing.{does_then}
+use Rattle.statement_simulation.specs.Fueled.{fueled, fueled_call}
 use Rattle.statement_simulation.specs.Functions.{gives_int, all_declared_to}
 use Rattle.statement_simulation.specs.Calls.{regions_running}
 use Rattle.statement_simulation.specs.Main.{main_regions, main_function, NotJumped, MainRunsAlike}
@@ -74,9 +75,9 @@ main_runs_alike p layout q limit fuel apart same int there typed alike stays at 
     let g = main_function p layout f in
     let kinds = kinds_of g.slots in
     let fit : KindsFit l kinds = slots_fit p layout false (variables_of f) g.body in
-    let r = running p limit fuel in
+    let r = fueled p limit fuel in
     let b = regions_running q limit fuel kinds in
-    let call = source_call_with p limit fuel in
+    let call = fueled_call p limit fuel in
     let h : RegionFunction = record g { body = in_order (main_regions l f ++ leave_region 1 ∷ []) } in
     let act : SourceFrame → SourceAction SourceFlow = (λ v. under_specification r f.specification (body_of r f v) c) in
     let acts : SourceFrame → SourceAction SourceFlow = (λ v. act v then source_pure (returns (Some (pos 0)))) in
@@ -99,7 +100,7 @@ main_runs_alike p layout q limit fuel apart same int there typed alike stays at 
         → v.variables ≡ all_declared_to (source_function_at p p.main).parameters references []
         → DoesAlike (lowering p layout false (variables_of (source_function_at p p.main))) None (gives_int (source_function_at p p.main).result)
         (regions_running q limit fuel (kinds_of (main_function p layout (source_function_at p p.main)).slots)) v c (length (source_function_at p p.main).parameters) 0 1
-        (under_specification (running p limit fuel) (source_function_at p p.main).specification (body_of (running p limit fuel) (source_function_at p p.main) v) c
+        (under_specification (fueled p limit fuel) (source_function_at p p.main).specification (body_of (fueled p limit fuel) (source_function_at p p.main) v) c
         then source_pure (returns (Some (pos 0))))
         (main_regions (lowering p layout false (variables_of (source_function_at p p.main))) (source_function_at p p.main) ++ leave_region 1 ∷ [])
     does v references counted variables =
@@ -108,12 +109,12 @@ main_runs_alike p layout q limit fuel apart same int there typed alike stays at 
         let g = main_function p layout f in
         let kinds = kinds_of g.slots in
         let fit : KindsFit l kinds = slots_fit p layout false (variables_of f) g.body in
-        let r = running p limit fuel in
+        let r = fueled p limit fuel in
         let b = regions_running q limit fuel kinds in
         let n = length f.parameters in
         does_then l None (gives_int f.result) b v c n 0 1 (under_specification r f.specification (body_of r f v) c) (source_pure (returns (Some (pos 0))))
         (limited f.specification (λ d. statements l (statements_in f.body) 0 n d) 1 ∷ []) (op (store (slot_place (result_slot l)) (number (pos 0))) ∷ leave_region 1 ∷ [])
-        (body_does l None (source_call_with p limit fuel) b fit apart (same_for p layout q limit fuel apart same kinds) f (alike kinds fit).0 (alike kinds fit).1 v c
+        (body_does l None (fueled_call p limit fuel) b fit apart (same_for p layout q limit fuel apart same kinds) f (alike kinds fit).0 (alike kinds fit).1 v c
         (subst (λ xs. AreTypedStatements l None (gives_int f.result) (statements_in f.body) xs n) (sym variables) (typed.statements references counted)))
         (does_return_value l None (gives_int f.result) b v c fit n 0 1 (source_pure (pos 0)) (record { before = []; value = number (pos 0); next = 0 }) (ap gives_int int)
         (meant_case l None b v c fit (first_temporary l) 0 (source_pure (pos 0)) [] (number (pos 0)) refl (λ at w s stands reach. (refl, refl))))

@@ -6,7 +6,7 @@ use Rattle.cxx_ast.specs.declared.declaration.FuncKind.TheVariants.{Constructor 
 use Rattle.cxx_ast.specs.declared.types.Param.{Param}
 use Rattle.cxx_ast.specs.declared.types.Ty.{Ty}
 use Rattle.cxx_ast.specs.Plain.{Checked, Function}
-use Rattle.scope_rules.specs.Call.{call_with as source_call_with, running, statements_in, body_of as source_body_of, new_frame, initialiser_for, construction, destruction, build_parts as source_build_parts, destroy_parts as source_destroy_parts, default_part as source_default_part, initial_part as source_initial_part, run_constructor, run_destructor, opened, after_call, open_call}
+use Rattle.scope_rules.specs.Call.{statements_in, body_of as source_body_of, new_frame, initialiser_for, construction, destruction, build_parts as source_build_parts, destroy_parts as source_destroy_parts, default_part as source_default_part, initial_part as source_initial_part, run_constructor, run_destructor, opened, after_call, open_call}
 use Rattle.scope_rules.specs.Class.{method_at, parts_of}
 use Rattle.scope_rules.specs.Context.{Context as SourceContext}
 use Rattle.scope_rules.specs.Expression.{types_of}
@@ -35,6 +35,7 @@ use Rattle.region_simulation.specs.Flows.{DoesAlike}
 use Rattle.region_simulation.specs.Statements.{AreTypedStatements}
 use Rattle.region_simulation.proofs.Standard.{builtins_same}
 use Rattle.region_simulation.proofs.Flowing.{does_inside}
+use Rattle.statement_simulation.specs.Fueled.{fueled, fueled_call}
 use Rattle.statement_simulation.specs.Functions.{gives_int, AreDeclared, all_declared_to, IsTypedBody}
 use Rattle.statement_simulation.specs.Calls.{regions_running}
 use Rattle.statement_simulation.specs.Members.{CanInitialise, CanInitialiseParts, MemberRunsAlike, ConstructorsRunAlike, DefaultConstructorsRunAlike, DestructorsRunAlike, ImplicitDestructorsRunAlike}
@@ -49,7 +50,7 @@ use Rattle.statement_simulation.proofs.Parts.{parts_build_alike, parts_destroy_a
 use Rattle.statement_simulation.proofs.PartsBuilt.{initial_goes, default_goes}
 
 module _ (p : Checked) (layout : Layout) (q : Regions) (limit fuel k : ℕ) (apart : StandApart layout.classes p.classes)
-    (same : SameCalls layout (running p limit fuel) (regions_running q limit fuel (λ s. help_slot))) where
+    (same : SameCalls layout (fueled p limit fuel) (regions_running q limit fuel (λ s. help_slot))) where
   -- whatever a constructor or a destructor does, its call gives nothing
   pub member_call : (types : List Ty) (g : RegionFunction) (rs : List Region) (params : List Param) (gives : Bool) → g.body ≡ in_order rs → g.result ≡ None
       → KindsFit (lowering p layout true types) (kinds_of g.slots) → kinds_of g.slots 0 ≡ address_slot → AreDeclared (lowering p layout true types) 0 params
@@ -83,55 +84,55 @@ module _ (p : Checked) (layout : Layout) (q : Regions) (limit fuel k : ℕ) (apa
     b = regions_running q limit fuel kinds
 
     body_does : (c : SourceContext) (e : ℕ) → 0 < e
-        → DoesAlike l (Some k) (gives_int f.result) b v c (length f.parameters) 0 e (source_body_of (running p limit fuel) f v c) (statements l (statements_in f.body) 0 (length f.parameters) e)
+        → DoesAlike l (Some k) (gives_int f.result) b v c (length f.parameters) 0 e (source_body_of (fueled p limit fuel) f v c) (statements l (statements_in f.body) 0 (length f.parameters) e)
     body_does c e lt =
-        statements_do_alike l (Some k) (gives_int f.result) (source_call_with p limit fuel) b fit apart (same_for p layout q limit fuel apart same kinds) (alike kinds fit).0
+        statements_do_alike l (Some k) (gives_int f.result) (fueled_call p limit fuel) b fit apart (same_for p layout q limit fuel apart same kinds) (alike kinds fit).0
         (statements_in f.body) v c (length f.parameters) 0 e lt
         (subst (λ xs. AreTypedStatements l (Some k) (gives_int f.result) (statements_in f.body) xs (length f.parameters)) (sym variables) (typed.statements references counted))
 
     construction_does : f.kind ≡ ConstructorKind → CanInitialiseParts l k f → (c : SourceContext) (e : ℕ) → 0 < e
-        → DoesAlike l (Some k) (gives_int f.result) b v c (length f.parameters) 0 e (construction (running p limit fuel) k f v c) (body_of l f.kind k f e)
+        → DoesAlike l (Some k) (gives_int f.result) b v c (length f.parameters) 0 e (construction (fueled p limit fuel) k f v c) (body_of l f.kind k f e)
     construction_does kind can c e lt =
-        subst (λ z. DoesAlike l (Some k) (gives_int f.result) b v c (length f.parameters) 0 e (construction (running p limit fuel) k f v c) (body_of l z k f e)) (sym kind)
-        (parts_build_alike l k (gives_int f.result) (source_call_with p limit fuel) b v c (alike kinds fit).1 (length f.parameters) e lt
-        (λ i. source_initial_part (running p limit fuel) v c i (initialiser_for p f.initialisers i)) (λ i. initial_part l k i (initialiser_for p f.initialisers i))
+        subst (λ z. DoesAlike l (Some k) (gives_int f.result) b v c (length f.parameters) 0 e (construction (fueled p limit fuel) k f v c) (body_of l z k f e)) (sym kind)
+        (parts_build_alike l k (gives_int f.result) (fueled_call p limit fuel) b v c (alike kinds fit).1 (length f.parameters) e lt
+        (λ i. source_initial_part (fueled p limit fuel) v c i (initialiser_for p f.initialisers i)) (λ i. initial_part l k i (initialiser_for p f.initialisers i))
         (λ i t is.
-        initial_goes l k (source_call_with p limit fuel) b v c fit apart (same_for p layout q limit fuel apart same kinds)
-        (builtins_same l (Some k) (source_call_with p limit fuel) b v c fit ((alike kinds fit).0.terminates v c) ((alike kinds fit).0.modules v c)) i t is (initialiser_for p f.initialisers i)
+        initial_goes l k (fueled_call p limit fuel) b v c fit apart (same_for p layout q limit fuel apart same kinds)
+        (builtins_same l (Some k) (fueled_call p limit fuel) b v c fit ((alike kinds fit).0.terminates v c) ((alike kinds fit).0.modules v c)) i t is (initialiser_for p f.initialisers i)
         (subst (λ xs. CanInitialise l (Some k) xs (initialiser_for p f.initialisers i) t) (sym variables) (can references counted i t is)))
-        (source_body_of (running p limit fuel) f v c) (λ d. statements l (statements_in f.body) 0 (length f.parameters) d) (λ d more. body_does c d more))
+        (source_body_of (fueled p limit fuel) f v c) (λ d. statements l (statements_in f.body) 0 (length f.parameters) d) (λ d more. body_does c d more))
 
     constructor_does : f.kind ≡ ConstructorKind → CanInitialiseParts l k f → (c : SourceContext)
-        → DoesAlike l (Some k) (gives_int f.result) b v c (length f.parameters) 0 1 (under_specification (running p limit fuel) f.specification (construction (running p limit fuel) k f v) c)
+        → DoesAlike l (Some k) (gives_int f.result) b v c (length f.parameters) 0 1 (under_specification (fueled p limit fuel) f.specification (construction (fueled p limit fuel) k f v) c)
         (limited f.specification (body_of l f.kind k f) 1 ∷ [])
     constructor_does kind can c = go f.specification
       where
         go : (listed : Option (List Ty)) → DoesAlike l (Some k) (gives_int f.result) b v c (length f.parameters) 0 1
-            (under_specification (running p limit fuel) listed (construction (running p limit fuel) k f v) c) (limited listed (body_of l f.kind k f) 1 ∷ [])
+            (under_specification (fueled p limit fuel) listed (construction (fueled p limit fuel) k f v) c) (limited listed (body_of l f.kind k f) 1 ∷ [])
         go None =
-            does_inside l (Some k) (gives_int f.result) b v c (length f.parameters) 0 1 (construction (running p limit fuel) k f v c) (body_of l f.kind k f 2) (omega arith)
+            does_inside l (Some k) (gives_int f.result) b v c (length f.parameters) 0 1 (construction (fueled p limit fuel) k f v c) (body_of l f.kind k f 2) (omega arith)
             (construction_does kind can c 2 (omega arith))
         go (Some listed) = (alike kinds fit).2.constructions v c f listed (λ d e lt. construction_does kind can d e lt)
 
     destruction_does : f.kind ≡ DestructorKind → v.variables ≡ [] → (c : SourceContext) (e : ℕ) → 0 < e
-        → DoesAlike l (Some k) (gives_int f.result) b v c (length f.parameters) 0 e (destruction (running p limit fuel) k f v.this c) (body_of l f.kind k f e)
+        → DoesAlike l (Some k) (gives_int f.result) b v c (length f.parameters) 0 e (destruction (fueled p limit fuel) k f v.this c) (body_of l f.kind k f e)
     destruction_does kind none c e lt =
-        subst (λ z. DoesAlike l (Some k) (gives_int f.result) b v c (length f.parameters) 0 e (destruction (running p limit fuel) k f v.this c) (body_of l z k f e)) (sym kind)
+        subst (λ z. DoesAlike l (Some k) (gives_int f.result) b v c (length f.parameters) 0 e (destruction (fueled p limit fuel) k f v.this c) (body_of l z k f e)) (sym kind)
         (subst (λ xs. DoesAlike l (Some k) (gives_int f.result) b v c (length f.parameters) 0 e
-        (source_destroy_parts (running p limit fuel) v.this 0 (parts_of p k) c (source_body_of (running p limit fuel) f (record { this = v.this; variables = xs }) c))
+        (source_destroy_parts (fueled p limit fuel) v.this 0 (parts_of p k) c (source_body_of (fueled p limit fuel) f (record { this = v.this; variables = xs }) c))
         (destroy_parts l k 0 (parts_of p k) (λ d. statements l (statements_in f.body) 0 (length f.parameters) d) e)) none
-        (parts_destroy_alike l k (gives_int f.result) (source_call_with p limit fuel) b v c (alike kinds fit).1 (length f.parameters) e lt (source_body_of (running p limit fuel) f v c)
+        (parts_destroy_alike l k (gives_int f.result) (fueled_call p limit fuel) b v c (alike kinds fit).1 (length f.parameters) e lt (source_body_of (fueled p limit fuel) f v c)
         (λ d. statements l (statements_in f.body) 0 (length f.parameters) d) (λ d more. body_does c d more)))
 
     destructor_does : f.kind ≡ DestructorKind → v.variables ≡ [] → (c : SourceContext)
-        → DoesAlike l (Some k) (gives_int f.result) b v c (length f.parameters) 0 1 (under_specification (running p limit fuel) f.specification (destruction (running p limit fuel) k f v.this) c)
+        → DoesAlike l (Some k) (gives_int f.result) b v c (length f.parameters) 0 1 (under_specification (fueled p limit fuel) f.specification (destruction (fueled p limit fuel) k f v.this) c)
         (limited f.specification (body_of l f.kind k f) 1 ∷ [])
     destructor_does kind none c = go f.specification
       where
         go : (listed : Option (List Ty)) → DoesAlike l (Some k) (gives_int f.result) b v c (length f.parameters) 0 1
-            (under_specification (running p limit fuel) listed (destruction (running p limit fuel) k f v.this) c) (limited listed (body_of l f.kind k f) 1 ∷ [])
+            (under_specification (fueled p limit fuel) listed (destruction (fueled p limit fuel) k f v.this) c) (limited listed (body_of l f.kind k f) 1 ∷ [])
         go None =
-            does_inside l (Some k) (gives_int f.result) b v c (length f.parameters) 0 1 (destruction (running p limit fuel) k f v.this c) (body_of l f.kind k f 2) (omega arith)
+            does_inside l (Some k) (gives_int f.result) b v c (length f.parameters) 0 1 (destruction (fueled p limit fuel) k f v.this c) (body_of l f.kind k f 2) (omega arith)
             (destruction_does kind none c 2 (omega arith))
         go (Some listed) = (alike kinds fit).2.destructions v c f listed (λ d e lt. destruction_does kind none d e lt)
 
@@ -141,7 +142,7 @@ constructors_run_alike p layout q limit fuel k i apart same kind void there type
     let g = declared_function p layout true false k f in
     let l = lowering p layout true (variables_of f) in
     let fit : KindsFit l (kinds_of g.slots) = slots_fit p layout true (variables_of f) g.body in
-    let r = running p limit fuel in
+    let r = fueled p limit fuel in
     member_call p layout q limit fuel k apart same (variables_of f) g (limited f.specification (body_of l f.kind k f) 1 ∷ []) f.parameters (gives_int f.result) refl
     (ap (λ t. result_for l t) void) fit refl typed.parameters (number_of p (constructor k (declared i))) there
     (λ d v. under_specification r f.specification (construction r k f v) d)
@@ -160,9 +161,9 @@ default_constructors_run_alike p layout q limit fuel k apart same none there can
     let l = lowering p layout true [] in
     let kinds = kinds_of g.slots in
     let fit : KindsFit l kinds = slots_fit p layout true [] g.body in
-    let call = source_call_with p limit fuel in
+    let call = fueled_call p limit fuel in
     let b = regions_running q limit fuel kinds in
-    let r = running p limit fuel in
+    let r = fueled p limit fuel in
     member_call p layout q limit fuel k apart same [] g (build_parts l k (default_part l k) 0 (parts_of p k) nothing_more 1) [] false
     (ap (λ z. in_order (if z then [] else build_parts l k (default_part l k) 0 (parts_of p k) nothing_more 1)) none) refl fit refl tt
     (number_of p (constructor k implicit_default)) there
@@ -181,7 +182,7 @@ destructors_run_alike p layout q limit fuel k i apart same place kind void none 
     let g = declared_function p layout true false k f in
     let l = lowering p layout true (variables_of f) in
     let fit : KindsFit l (kinds_of g.slots) = slots_fit p layout true (variables_of f) g.body in
-    let r = running p limit fuel in
+    let r = fueled p limit fuel in
     subst (λ o. Alike layout p at n c w s SameValue (open_call limit (run_destructor r k o this c >> source_pure (pos 0)) w)
     (call_with q limit (suc fuel) (number_of p (destructor k)) words (context_of w.open_calls c) s)) (sym place)
     (member_call p layout q limit fuel k apart same (variables_of f) g (limited f.specification (body_of l f.kind k f) 1 ∷ []) f.parameters (gives_int f.result) refl
@@ -201,12 +202,12 @@ implicit_destructors_run_alike p layout q limit fuel k apart same place there al
     let l = lowering p layout true [] in
     let kinds = kinds_of g.slots in
     let fit : KindsFit l kinds = slots_fit p layout true [] g.body in
-    let r = running p limit fuel in
+    let r = fueled p limit fuel in
     subst (λ o. Alike layout p at n c w s SameValue (open_call limit (run_destructor r k o this c >> source_pure (pos 0)) w)
     (call_with q limit (suc fuel) (number_of p (destructor k)) words (context_of w.open_calls c) s)) (sym place)
     (member_call p layout q limit fuel k apart same [] g (destroy_parts l k 0 (parts_of p k) nothing_more 1) [] false refl refl fit refl tt (number_of p (destructor k)) there
     (λ d v. source_destroy_parts r v.this 0 (parts_of p k) d (source_pure source_normal))
     (λ d v references counted variables.
-    parts_destroy_alike l k false (source_call_with p limit fuel) (regions_running q limit fuel kinds) v d (alike kinds fit).1 0 1 (omega arith) (source_pure source_normal) nothing_more
+    parts_destroy_alike l k false (fueled_call p limit fuel) (regions_running q limit fuel kinds) v d (alike kinds fit).1 0 1 (omega arith) (source_pure source_normal) nothing_more
     (λ e lt. does_nothing l (Some k) false (regions_running q limit fuel kinds) v d fit 0 0 e))
     at this given words n c w s stands passed (run_destructor r k None this c >> source_pure (pos 0)) (λ u. refl))

@@ -1,5 +1,5 @@
 -- Calls by fuel, and the meaning of a whole program.
-use Rattle.std.proofs.Common.{◌≡◌, ℕ, zero, suc, ℤ, List, [], refl, sym, ap, ◌∙◌, subst}
+use Rattle.std.proofs.Common.{◌≡◌, ℕ, zero, suc, ℤ, List, [], sym, ap, ◌∙◌, subst, arith}
 use Rattle.cxx_ast.specs.Plain.{Checked}
 use Rattle.eh_outer.specs.declared.module.Reply.{Reply}
 use Rattle.run_items.specs.declared.item.Item.{Item}
@@ -7,6 +7,7 @@ use Rattle.scope_rules.specs.Context.{Context as SourceContext, no_context, with
 use Rattle.scope_rules.specs.Expression.{types_of}
 use Rattle.scope_rules.specs.Meaning.{Meaning, MainOutcome, returned, stopped_by, end_of, after_main as source_after_main, first_world as source_first_world, program_meaning}
 use Rattle.scope_rules.specs.Outcome.{Result as SourceResult, done as source_done, stopped as source_stopped, thrown, cancelled, ended, undefined, out_of_turns, deep}
+use Rattle.scope_rules.specs.Running.{function}
 use Rattle.scope_rules.specs.World.{World as SourceWorld, nowhere}
 use Rattle.region_forms.specs.Layout.{Layout}
 use Rattle.region_forms.specs.Outcome.{State, Result, done}
@@ -17,11 +18,12 @@ use Rattle.region_simulation.specs.First.{first_places}
 use Rattle.region_simulation.specs.Calls.{SameArguments}
 use Rattle.region_simulation.proofs.First.{first_stands}
 use Rattle.statement_simulation.specs.Programs.{CallsDoAlike, MeansTheSame, ProgramsMeanTheSame}
+use Rattle.statement_simulation.proofs.Fueled.{fuel_lasts}
 use Rattle.statement_simulation.proofs.Looping.{seen}
 use Rattle.statement_simulation.proofs.Returning.{SameValue}
 
 pub calls_do_alike : CallsDoAlike
-calls_do_alike p layout q limit step zero at callee this given words k c w s there stands passed = (s, refl, seen layout p at c w s stands)
+calls_do_alike p layout q limit step zero at callee this given words k c w s there stands passed = tt
 calls_do_alike p layout q limit step (suc fuel) at callee this given words k c w s there stands passed =
     step fuel (calls_do_alike p layout q limit step fuel) callee there at this given words k c w s stands passed
 
@@ -55,6 +57,8 @@ programs_mean_the_same p layout q input replies turns limit globals main none sa
     (record { frame = no_frame; world = first_world q.globals input replies; turns = turns })))) (sym main)
     (subst (λ g. MeansTheSame (program_meaning p input replies turns limit) (after_main (call_with q limit (suc turns) p.main [] (record { guards = []; depth = 0 })
     (record { frame = no_frame; world = first_world g input replies; turns = turns })))) (sym globals)
+    (subst (λ r. MeansTheSame (source_after_main r) (after_main (call_with q limit (suc turns) p.main [] (record { guards = []; depth = 0 }) s)))
+    (fuel_lasts p limit (suc turns) (function p.main) nowhere [] no_context w (omega arith))
     (means_same layout p (first_places p) no_context w s _ _
     (same (first_places p) nowhere [] [] 0 no_context w s (first_stands layout p input replies turns)
-    (subst (λ ps. SameArguments layout p (first_places p) (types_of ps) [] []) (sym none) tt))))
+    (subst (λ ps. SameArguments layout p (first_places p) (types_of ps) [] []) (sym none) tt)))))

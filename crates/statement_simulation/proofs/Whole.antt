@@ -3,7 +3,6 @@ use Rattle.std.proofs.Common.{◌∙◌, ap, ◌≡◌, ℕ, suc, ◌<◌, Bool,
 use Rattle.std.specs.Prelude.{◌==◌, if◌then◌else◌}
 use Rattle.std.proofs.lemmas.Bool.Decides.{nat_tests}
 use Rattle.cxx_ast.specs.Plain.{Checked}
-use Rattle.scope_rules.specs.Call.{running}
 use Rattle.scope_rules.specs.Class.{class_at, function_at as source_function_at, method_at}
 use Rattle.scope_rules.specs.Construct.{is_destructor, destructor_place}
 use Rattle.scope_rules.specs.Running.{Callee, function, method, constructor, destructor, declared, implicit_default, implicit_copy}
@@ -12,6 +11,7 @@ use Rattle.region_forms.specs.Layout.{Layout}
 use Rattle.region_forms.specs.LowerProgram.{declared_function}
 use Rattle.region_forms.specs.Numbering.{number_of, variables_of}
 use Rattle.region_simulation.specs.Calls.{IsCallable, SameCalls}
+use Rattle.statement_simulation.specs.Fueled.{fueled}
 use Rattle.statement_simulation.specs.Functions.{gives_int}
 use Rattle.statement_simulation.specs.Calls.{regions_running, SameCall}
 use Rattle.statement_simulation.specs.Main.{main_function}
@@ -28,9 +28,9 @@ is_number : (m n : ℕ) → (m == n) ≡ true → m ≡ n
 is_number m n e = grind (arith, nat_tests, e)
 
 module _ (p : Checked) (layout : Layout) (q : Regions) (limit : ℕ) (typed : IsTypedProgram p layout) (lowered : AreLowered p layout q) (forms : SameForms p layout q limit) (fuel : ℕ)
-    (same : SameCalls layout (running p limit fuel) (regions_running q limit fuel (λ s. help_slot))) where
+    (same : SameCalls layout (fueled p limit fuel) (regions_running q limit fuel (λ s. help_slot))) where
   abbrev Called : Callee → Type 0
-  Called callee = SameCall layout (running p limit (suc fuel)) (regions_running q limit (suc fuel) (λ s. help_slot)) callee
+  Called callee = SameCall layout (fueled p limit (suc fuel)) (regions_running q limit (suc fuel) (λ s. help_slot)) callee
 
   function_called : (n : ℕ) → n < length p.functions → function_at q n ≡ lowered_function p layout n → Called (function n)
   function_called n lt there = go (n == p.main) refl there
@@ -41,7 +41,7 @@ module _ (p : Checked) (layout : Layout) (q : Regions) (limit : ℕ) (typed : Is
           let main = is_number n p.main e in
           subst (λ m. Called (function m)) (sym main)
           (main_runs_alike p layout q limit fuel typed.apart same typed.main_result (subst (λ m. function_at q m ≡ main_function p layout (source_function_at p m)) main there)
-          (typed.functions p.main typed.main_there) (forms.functions fuel p.main same typed.main_there) (jumps_stay_in_loops (running p limit fuel) (source_function_at p p.main) typed.main_jumps))
+          (typed.functions p.main typed.main_there) (forms.functions fuel p.main same typed.main_there) (jumps_stay_in_loops (fueled p limit fuel) (source_function_at p p.main) typed.main_jumps))
       go false e there = functions_run_alike p layout q limit fuel n typed.apart same e (typed.plain n lt) there (typed.functions n lt) (forms.functions fuel n same lt)
 
   destructor_called : (k : ℕ) → k < length p.classes → (o : Option ℕ) → destructor_place p k ≡ o → function_at q (number_of p (destructor k)) ≡ lowered_destructor p layout k o

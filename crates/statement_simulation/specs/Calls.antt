@@ -4,7 +4,6 @@ use Rattle.class_layout.specs.StandApart.{StandApart}
 use Rattle.cxx_ast.specs.declared.declaration.FuncKind.TheVariants.{Plain, Method}
 use Rattle.cxx_ast.specs.declared.types.Ty.{Ty}
 use Rattle.cxx_ast.specs.Plain.{Checked, Function, Statements}
-use Rattle.scope_rules.specs.Call.{call_with as source_call_with, running}
 use Rattle.scope_rules.specs.Class.{function_at as source_function_at, method_at}
 use Rattle.scope_rules.specs.Context.{Context as SourceContext}
 use Rattle.scope_rules.specs.Frame.{Frame as SourceFrame}
@@ -30,6 +29,7 @@ use Rattle.region_simulation.specs.Calls.{SamePassed, SameCalls}
 use Rattle.region_simulation.specs.Expressions.{source_running}
 use Rattle.region_simulation.specs.Flows.{DoesAlike}
 use Rattle.region_simulation.specs.Statements.{AreTypedStatements}
+use Rattle.statement_simulation.specs.Fueled.{fueled, fueled_call}
 use Rattle.statement_simulation.specs.Statements.{SourceCalls, StatementsDo, SameExceptions}
 use Rattle.statement_simulation.specs.Functions.{gives_int, IsTypedBody}
 
@@ -55,25 +55,25 @@ SameExtents l own gives call b =
 abbrev pub RunsAlike : Checked → Layout → Regions → (limit fuel : ℕ) → (own : Option ℕ) → (is_member : Bool) → Function → Type 0
 RunsAlike p layout q limit fuel own is_member f =
     let l = lowering p layout is_member (variables_of f) in
-    (kinds : Kinds) → KindsFit l kinds → SameExceptions l own (gives_int f.result) (source_call_with p limit fuel) (regions_running q limit fuel kinds) ×
-    SameExtents l own (gives_int f.result) (source_call_with p limit fuel) (regions_running q limit fuel kinds)
+    (kinds : Kinds) → KindsFit l kinds → SameExceptions l own (gives_int f.result) (fueled_call p limit fuel) (regions_running q limit fuel kinds) ×
+    SameExtents l own (gives_int f.result) (fueled_call p limit fuel) (regions_running q limit fuel kinds)
 
 -- A call of a function that is not main does the same with one unit of fuel more, where calls with that fuel do.
 abbrev pub FunctionsRunAlike : Type 0
 FunctionsRunAlike =
     (p : Checked) (layout : Layout) (q : Regions) (limit fuel n : ℕ) → StandApart layout.classes p.classes
-    → SameCalls layout (running p limit fuel) (regions_running q limit fuel (λ s. help_slot))
+    → SameCalls layout (fueled p limit fuel) (regions_running q limit fuel (λ s. help_slot))
     → (n == p.main) ≡ false → (source_function_at p n).kind ≡ Plain → function_at q n ≡ declared_function p layout false false 0 (source_function_at p n)
     → IsTypedBody (lowering p layout false (variables_of (source_function_at p n))) None (source_function_at p n)
     → RunsAlike p layout q limit fuel None false (source_function_at p n)
-    → SameCall layout (running p limit (suc fuel)) (regions_running q limit (suc fuel) (λ s. help_slot)) (function n)
+    → SameCall layout (fueled p limit (suc fuel)) (regions_running q limit (suc fuel) (λ s. help_slot)) (function n)
 
 -- so does a call of a function of a class
 abbrev pub MethodsRunAlike : Type 0
 MethodsRunAlike =
     (p : Checked) (layout : Layout) (q : Regions) (limit fuel k i : ℕ) → StandApart layout.classes p.classes
-    → SameCalls layout (running p limit fuel) (regions_running q limit fuel (λ s. help_slot))
+    → SameCalls layout (fueled p limit fuel) (regions_running q limit fuel (λ s. help_slot))
     → (method_at p k i).kind ≡ Method → function_at q (number_of p (method k i)) ≡ declared_function p layout true false k (method_at p k i)
     → IsTypedBody (lowering p layout true (variables_of (method_at p k i))) (Some k) (method_at p k i)
     → RunsAlike p layout q limit fuel (Some k) true (method_at p k i)
-    → SameCall layout (running p limit (suc fuel)) (regions_running q limit (suc fuel) (λ s. help_slot)) (method k i)
+    → SameCall layout (fueled p limit (suc fuel)) (regions_running q limit (suc fuel) (λ s. help_slot)) (method k i)

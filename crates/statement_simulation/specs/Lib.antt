@@ -1,3 +1,4 @@
+pub mod Fueled
 pub mod Sequences
 pub mod Declarations
 pub mod Statements

@@ -4,7 +4,7 @@ use Rattle.std.specs.Prelude.{◌≡◌, ℕ, suc, pos, false, List, [], ◌∷�
 use Rattle.class_layout.specs.StandApart.{StandApart}
 use Rattle.cxx_ast.specs.declared.types.Ty.TheVariants.{Int}
 use Rattle.cxx_ast.specs.Plain.{Checked, Function}
-use Rattle.scope_rules.specs.Call.{running, statements_in, body_of}
+use Rattle.scope_rules.specs.Call.{statements_in, body_of}
 use Rattle.scope_rules.specs.Class.{function_at as source_function_at}
 use Rattle.scope_rules.specs.Context.{Context as SourceContext}
 use Rattle.scope_rules.specs.Frame.{Frame as SourceFrame}
@@ -19,6 +19,7 @@ use Rattle.region_forms.specs.LowerExpression.{Lowering, result_slot, slot_place
 use Rattle.region_forms.specs.LowerStatement.{statements}
 use Rattle.region_forms.specs.LowerProgram.{lowering, limited, result_for, with_body}
 use Rattle.region_simulation.specs.Calls.{SameCalls}
+use Rattle.statement_simulation.specs.Fueled.{fueled}
 use Rattle.statement_simulation.specs.Functions.{IsTypedBody}
 use Rattle.statement_simulation.specs.Calls.{regions_running, SameCall, RunsAlike}
 
@@ -47,8 +48,8 @@ StaysInBody r f = (v : SourceFrame) (c : SourceContext) (w : SourceWorld) → No
 abbrev pub MainRunsAlike : Type 0
 MainRunsAlike =
     (p : Checked) (layout : Layout) (q : Regions) (limit fuel : ℕ) → StandApart layout.classes p.classes
-    → SameCalls layout (running p limit fuel) (regions_running q limit fuel (λ s. help_slot))
+    → SameCalls layout (fueled p limit fuel) (regions_running q limit fuel (λ s. help_slot))
     → (source_function_at p p.main).result ≡ Int → function_at q p.main ≡ main_function p layout (source_function_at p p.main)
     → IsTypedBody (lowering p layout false (variables_of (source_function_at p p.main))) None (source_function_at p p.main)
-    → RunsAlike p layout q limit fuel None false (source_function_at p p.main) → StaysInBody (running p limit fuel) (source_function_at p p.main)
-    → SameCall layout (running p limit (suc fuel)) (regions_running q limit (suc fuel) (λ s. help_slot)) (function p.main)
+    → RunsAlike p layout q limit fuel None false (source_function_at p p.main) → StaysInBody (fueled p limit fuel) (source_function_at p p.main)
+    → SameCall layout (fueled p limit (suc fuel)) (regions_running q limit (suc fuel) (λ s. help_slot)) (function p.main)

@@ -5,7 +5,7 @@ use Rattle.cxx_ast.specs.declared.declaration.FuncKind.TheVariants.{Constructor 
 use Rattle.cxx_ast.specs.declared.types.Ty.{Ty}
 use Rattle.cxx_ast.specs.declared.types.Ty.TheVariants.{Void}
 use Rattle.cxx_ast.specs.Plain.{Checked, Function, Expressions, no_expressions, expression_then}
-use Rattle.scope_rules.specs.Call.{call_with as source_call_with, running, initialiser_for, construction, destruction}
+use Rattle.scope_rules.specs.Call.{initialiser_for, construction, destruction}
 use Rattle.scope_rules.specs.Class.{ObjectType, int_type, class_type, class_at, class_named, method_at, object_type, parts_of}
 use Rattle.scope_rules.specs.Construct.{constructor_for, copy_constructor, destructor_place}
 use Rattle.scope_rules.specs.Context.{Context as SourceContext}
@@ -26,6 +26,7 @@ use Rattle.region_simulation.specs.Expressions.{source_running}
 use Rattle.region_simulation.specs.Flows.{DoesAlike}
 use Rattle.region_simulation.specs.Typing.{IsTyped}
 use Rattle.region_simulation.specs.Statements.{CanConstruct}
+use Rattle.statement_simulation.specs.Fueled.{fueled, fueled_call}
 use Rattle.statement_simulation.specs.Statements.{SourceCalls, SameExceptions}
 use Rattle.statement_simulation.specs.Functions.{gives_int, all_declared_to, IsTypedBody}
 use Rattle.statement_simulation.specs.Calls.{regions_running, SameCall}
@@ -88,56 +89,56 @@ pub record SameMemberExtents (l : Lowering) (k : ℕ) (gives : Bool) (call : Sou
 abbrev pub MemberRunsAlike : Checked → Layout → Regions → (limit fuel k : ℕ) → (gives : Bool) → List Ty → Type 0
 MemberRunsAlike p layout q limit fuel k gives types =
     let l = lowering p layout true types in
-    (kinds : Kinds) → KindsFit l kinds → SameExceptions l (Some k) gives (source_call_with p limit fuel) (regions_running q limit fuel kinds) ×
-    SameParts l k gives (source_call_with p limit fuel) (regions_running q limit fuel kinds) ×
-    SameMemberExtents l k gives (source_call_with p limit fuel) (regions_running q limit fuel kinds)
+    (kinds : Kinds) → KindsFit l kinds → SameExceptions l (Some k) gives (fueled_call p limit fuel) (regions_running q limit fuel kinds) ×
+    SameParts l k gives (fueled_call p limit fuel) (regions_running q limit fuel kinds) ×
+    SameMemberExtents l k gives (fueled_call p limit fuel) (regions_running q limit fuel kinds)
 
 -- a declared constructor: its parameters, the parts of the object, then its body
 abbrev pub ConstructorsRunAlike : Type 0
 ConstructorsRunAlike =
     (p : Checked) (layout : Layout) (q : Regions) (limit fuel k i : ℕ) → StandApart layout.classes p.classes
-    → SameCalls layout (running p limit fuel) (regions_running q limit fuel (λ s. help_slot))
+    → SameCalls layout (fueled p limit fuel) (regions_running q limit fuel (λ s. help_slot))
     → (method_at p k i).kind ≡ ConstructorKind → (method_at p k i).result ≡ Void
     → function_at q (number_of p (constructor k (declared i))) ≡ declared_function p layout true false k (method_at p k i)
     → IsTypedBody (lowering p layout true (variables_of (method_at p k i))) (Some k) (method_at p k i)
     → CanInitialiseParts (lowering p layout true (variables_of (method_at p k i))) k (method_at p k i)
     → MemberRunsAlike p layout q limit fuel k (gives_int (method_at p k i).result) (variables_of (method_at p k i))
-    → SameCall layout (running p limit (suc fuel)) (regions_running q limit (suc fuel) (λ s. help_slot)) (constructor k (declared i))
+    → SameCall layout (fueled p limit (suc fuel)) (regions_running q limit (suc fuel) (λ s. help_slot)) (constructor k (declared i))
 
 -- an implicit default constructor
 abbrev pub DefaultConstructorsRunAlike : Type 0
 DefaultConstructorsRunAlike =
     (p : Checked) (layout : Layout) (q : Regions) (limit fuel k : ℕ) → StandApart layout.classes p.classes
-    → SameCalls layout (running p limit fuel) (regions_running q limit fuel (λ s. help_slot))
+    → SameCalls layout (fueled p limit fuel) (regions_running q limit fuel (λ s. help_slot))
     → some_constructor (class_at p k).functions ≡ false → function_at q (number_of p (constructor k implicit_default)) ≡ implicit_default_function p layout k
     → ((i : ℕ) (t : ObjectType) → slice_get (parts_of p k) i ≡ Some t → CanDefaultPart p t) → MemberRunsAlike p layout q limit fuel k false []
-    → SameCall layout (running p limit (suc fuel)) (regions_running q limit (suc fuel) (λ s. help_slot)) (constructor k implicit_default)
+    → SameCall layout (fueled p limit (suc fuel)) (regions_running q limit (suc fuel) (λ s. help_slot)) (constructor k implicit_default)
 
 -- an implicit copy constructor
 abbrev pub CopyConstructorsRunAlike : Type 0
 CopyConstructorsRunAlike =
     (p : Checked) (layout : Layout) (q : Regions) (limit fuel k : ℕ) → StandApart layout.classes p.classes
-    → SameCalls layout (running p limit fuel) (regions_running q limit fuel (λ s. help_slot))
+    → SameCalls layout (fueled p limit fuel) (regions_running q limit fuel (λ s. help_slot))
     → class_named (class_at p k).name ≡ k → function_at q (number_of p (constructor k implicit_copy)) ≡ implicit_copy_function p layout k
     → ((i : ℕ) (t : ObjectType) → slice_get (parts_of p k) i ≡ Some t → CanCopyPart p t) → MemberRunsAlike p layout q limit fuel k false (copied_type (class_at p k))
-    → SameCall layout (running p limit (suc fuel)) (regions_running q limit (suc fuel) (λ s. help_slot)) (constructor k implicit_copy)
+    → SameCall layout (fueled p limit (suc fuel)) (regions_running q limit (suc fuel) (λ s. help_slot)) (constructor k implicit_copy)
 
 -- a declared destructor: its body in the scope of the parts
 abbrev pub DestructorsRunAlike : Type 0
 DestructorsRunAlike =
     (p : Checked) (layout : Layout) (q : Regions) (limit fuel k i : ℕ) → StandApart layout.classes p.classes
-    → SameCalls layout (running p limit fuel) (regions_running q limit fuel (λ s. help_slot))
+    → SameCalls layout (fueled p limit fuel) (regions_running q limit fuel (λ s. help_slot))
     → destructor_place p k ≡ Some i → (method_at p k i).kind ≡ DestructorKind → (method_at p k i).result ≡ Void → (method_at p k i).parameters ≡ []
     → function_at q (number_of p (destructor k)) ≡ declared_function p layout true false k (method_at p k i)
     → IsTypedBody (lowering p layout true (variables_of (method_at p k i))) (Some k) (method_at p k i)
     → MemberRunsAlike p layout q limit fuel k (gives_int (method_at p k i).result) (variables_of (method_at p k i))
-    → SameCall layout (running p limit (suc fuel)) (regions_running q limit (suc fuel) (λ s. help_slot)) (destructor k)
+    → SameCall layout (fueled p limit (suc fuel)) (regions_running q limit (suc fuel) (λ s. help_slot)) (destructor k)
 
 -- an implicit destructor
 abbrev pub ImplicitDestructorsRunAlike : Type 0
 ImplicitDestructorsRunAlike =
     (p : Checked) (layout : Layout) (q : Regions) (limit fuel k : ℕ) → StandApart layout.classes p.classes
-    → SameCalls layout (running p limit fuel) (regions_running q limit fuel (λ s. help_slot))
+    → SameCalls layout (fueled p limit fuel) (regions_running q limit fuel (λ s. help_slot))
     → destructor_place p k ≡ None → function_at q (number_of p (destructor k)) ≡ implicit_destructor_function p layout k
     → MemberRunsAlike p layout q limit fuel k false []
-    → SameCall layout (running p limit (suc fuel)) (regions_running q limit (suc fuel) (λ s. help_slot)) (destructor k)
+    → SameCall layout (fueled p limit (suc fuel)) (regions_running q limit (suc fuel) (λ s. help_slot)) (destructor k)

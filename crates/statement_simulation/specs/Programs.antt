@@ -2,7 +2,6 @@
 use Rattle.std.specs.Prelude.{◌≡◌, ℕ, suc, List, []}
 use Rattle.cxx_ast.specs.Plain.{Checked}
 use Rattle.eh_outer.specs.declared.module.Reply.{Reply}
-use Rattle.scope_rules.specs.Call.{running}
 use Rattle.scope_rules.specs.Class.{function_at as source_function_at}
 use Rattle.scope_rules.specs.Meaning.{Meaning, MainOutcome, stopped_by, program_meaning}
 use Rattle.scope_rules.specs.Outcome.{undefined}
@@ -11,15 +10,16 @@ use Rattle.region_forms.specs.Form.{Regions, help_slot}
 use Rattle.region_forms.specs.Layout.{Layout}
 use Rattle.region_forms.specs.Meaning.{regions_meaning}
 use Rattle.region_simulation.specs.Calls.{IsCallable, SameCalls}
+use Rattle.statement_simulation.specs.Fueled.{fueled}
 use Rattle.statement_simulation.specs.Calls.{regions_running, SameCall}
 
 -- where each call does the same with one unit of fuel more than calls with which all do, all do with any fuel
 abbrev pub CallsDoAlike : Type 0
 CallsDoAlike =
     (p : Checked) (layout : Layout) (q : Regions) (limit : ℕ)
-    → ((fuel : ℕ) → SameCalls layout (running p limit fuel) (regions_running q limit fuel (λ s. help_slot)) → (callee : Callee) → IsCallable p callee
-    → SameCall layout (running p limit (suc fuel)) (regions_running q limit (suc fuel) (λ s. help_slot)) callee)
-    → (fuel : ℕ) → SameCalls layout (running p limit fuel) (regions_running q limit fuel (λ s. help_slot))
+    → ((fuel : ℕ) → SameCalls layout (fueled p limit fuel) (regions_running q limit fuel (λ s. help_slot)) → (callee : Callee) → IsCallable p callee
+    → SameCall layout (fueled p limit (suc fuel)) (regions_running q limit (suc fuel) (λ s. help_slot)) callee)
+    → (fuel : ℕ) → SameCalls layout (fueled p limit fuel) (regions_running q limit fuel (λ s. help_slot))
 
 -- of a source that comes to what is undefined nothing is said
 abbrev pub MeansTheSameBy : MainOutcome → Meaning → Meaning → Type 0
@@ -34,5 +34,5 @@ MeansTheSame m other = MeansTheSameBy m.main m other
 abbrev pub ProgramsMeanTheSame : Type 0
 ProgramsMeanTheSame =
     (p : Checked) (layout : Layout) (q : Regions) (input : List ℕ) (replies : List (List Reply)) (turns limit : ℕ) → q.globals ≡ p.globals → q.main ≡ p.main
-    → (source_function_at p p.main).parameters ≡ [] → SameCall layout (running p limit (suc turns)) (regions_running q limit (suc turns) (λ s. help_slot)) (function p.main)
+    → (source_function_at p p.main).parameters ≡ [] → SameCall layout (fueled p limit (suc turns)) (regions_running q limit (suc turns) (λ s. help_slot)) (function p.main)
     → MeansTheSame (program_meaning p input replies turns limit) (regions_meaning q input replies turns limit)

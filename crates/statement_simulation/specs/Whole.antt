@@ -6,7 +6,7 @@ use Rattle.cxx_ast.specs.declared.types.Ty.{Ty}
 use Rattle.cxx_ast.specs.declared.types.Ty.TheVariants.{Int, Void}
 use Rattle.cxx_ast.specs.Plain.{Checked}
 use Rattle.eh_outer.specs.declared.module.Reply.{Reply}
-use Rattle.scope_rules.specs.Call.{running, statements_in}
+use Rattle.scope_rules.specs.Call.{statements_in}
 use Rattle.scope_rules.specs.Class.{class_type, class_at, class_named, function_at as source_function_at, method_at, parts_of}
 use Rattle.scope_rules.specs.Construct.{destructor_place}
 use Rattle.scope_rules.specs.Meaning.{program_meaning}
@@ -17,6 +17,7 @@ use Rattle.region_forms.specs.Meaning.{regions_meaning}
 use Rattle.region_forms.specs.Numbering.{number_of, variables_of}
 use Rattle.region_forms.specs.LowerProgram.{lowering, declared_function, implicit_default_function, implicit_copy_function, implicit_destructor_function}
 use Rattle.region_simulation.specs.Calls.{IsCallable, SameCalls}
+use Rattle.statement_simulation.specs.Fueled.{fueled}
 use Rattle.statement_simulation.specs.Functions.{IsTypedBody}
 use Rattle.statement_simulation.specs.Calls.{regions_running, RunsAlike}
 use Rattle.statement_simulation.specs.Main.{main_function}
@@ -69,18 +70,18 @@ pub record IsTypedProgram (p : Checked) (layout : Layout) : Type 0 where
 
 -- the forms that raise exceptions, or clean up behind them, do the same in each function, where calls do
 pub record SameForms (p : Checked) (layout : Layout) (q : Regions) (limit : ℕ) : Type 0 where
-  pub functions : (fuel n : ℕ) → SameCalls layout (running p limit fuel) (regions_running q limit fuel (λ s. help_slot)) → n < length p.functions
+  pub functions : (fuel n : ℕ) → SameCalls layout (fueled p limit fuel) (regions_running q limit fuel (λ s. help_slot)) → n < length p.functions
       → RunsAlike p layout q limit fuel None false (source_function_at p n)
-  pub methods : (fuel k i : ℕ) → SameCalls layout (running p limit fuel) (regions_running q limit fuel (λ s. help_slot)) → k < length p.classes
+  pub methods : (fuel k i : ℕ) → SameCalls layout (fueled p limit fuel) (regions_running q limit fuel (λ s. help_slot)) → k < length p.classes
       → i < length (class_at p k).functions → RunsAlike p layout q limit fuel (Some k) true (method_at p k i)
-  pub members : (fuel k : ℕ) (gives : Bool) (types : List Ty) → SameCalls layout (running p limit fuel) (regions_running q limit fuel (λ s. help_slot)) → k < length p.classes
+  pub members : (fuel k : ℕ) (gives : Bool) (types : List Ty) → SameCalls layout (fueled p limit fuel) (regions_running q limit fuel (λ s. help_slot)) → k < length p.classes
       → MemberRunsAlike p layout q limit fuel k gives types
 
 -- every call of a typed program does what the call of its regions does
 abbrev pub AllCallsDoAlike : Type 0
 AllCallsDoAlike =
     (p : Checked) (layout : Layout) (q : Regions) (limit : ℕ) → IsTypedProgram p layout → AreLowered p layout q → SameForms p layout q limit
-    → (fuel : ℕ) → SameCalls layout (running p limit fuel) (regions_running q limit fuel (λ s. help_slot))
+    → (fuel : ℕ) → SameCalls layout (fueled p limit fuel) (regions_running q limit fuel (λ s. help_slot))
 
 -- so the regions of a typed program mean what the program means
 abbrev pub RegionsMeanTheSame : Type 0

@@ -1,6 +1,7 @@
 // Laws of lowering: calls of no effect, whose contracts state what holds of every program.
 ghost use Rattle.statement_simulation.specs.Calls.{FunctionsRunAlike, MethodsRunAlike};
 ghost use Rattle.statement_simulation.specs.Declarations.{IntsStandSet, IntsStandUnset, ReferencesAreBound};
+ghost use Rattle.statement_simulation.specs.Fueled.{FuelLasts};
 ghost use Rattle.statement_simulation.specs.Jumps.{JumpsStayInLoops};
 ghost use Rattle.statement_simulation.specs.Main.{MainRunsAlike};
 ghost use Rattle.statement_simulation.specs.Members.{ConstructorsRunAlike, CopyConstructorsRunAlike, DefaultConstructorsRunAlike, DestructorsRunAlike, ImplicitDestructorsRunAlike};
@@ -163,4 +164,9 @@ pub fn regions_mean_the_same()
 /// No `break` and no `continue` comes out of a function's body where each stands in a loop, whatever is thrown, caught and unexpected.
 pub fn jumps_stay_in_loops()
     ensures { JumpsStayInLoops }
+{}
+
+/// Calls of a source with fuel above the turns that are left are what they are where nothing is said once fuel runs out: it does not.
+pub fn fuel_lasts()
+    ensures { FuelLasts }
 {}
