@@ -1,0 +1,12 @@
+pub mod Ordered
+pub mod Doomed
+pub mod Caught
+pub mod Standing
+pub mod Ends
+pub mod Raises
+pub mod New
+pub mod Modules
+pub mod Barriers
+pub mod Scopes
+pub mod Protecting
+pub mod Entering

@@ -1,0 +1,7 @@
+pub mod Doomed
+pub mod Same
+pub mod Ends
+pub mod Raises
+pub mod Barred
+pub mod Scopes
+pub mod Handlers

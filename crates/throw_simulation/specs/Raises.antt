@@ -1,0 +1,65 @@
+-- That exceptions are raised alike (ISO/IEC 14882:2003, 15.1, 15.5.1): one that is doomed terminates before any cleanup, and any other travels.
+use Rattle.std.specs.Prelude.{◌≡◌, ℕ, ◌≤◌, ℤ, true, false, List, Option}
+use Rattle.cxx_ast.specs.declared.name.Builtin.TheVariants.{Module, Terminate}
+use Rattle.cxx_ast.specs.Plain.{Expression}
+use Rattle.scope_rules.specs.Class.{contains}
+use Rattle.scope_rules.specs.World.{World as SourceWorld, Live, Reference}
+use Rattle.scope_rules.specs.Context.{Context as SourceContext, handling}
+use Rattle.scope_rules.specs.Outcome.{Action as SourceAction}
+use Rattle.scope_rules.specs.Frame.{Frame as SourceFrame}
+use Rattle.scope_rules.specs.Running.{Running as SourceRunning, Argument as SourceArgument, Callee}
+use Rattle.scope_rules.specs.Expression.{value_of}
+use Rattle.scope_rules.specs.Throw.{raise_exception}
+use Rattle.region_forms.specs.Caught.{only_front}
+use Rattle.region_forms.specs.Layout.{Layout}
+use Rattle.region_forms.specs.Outcome.{State}
+use Rattle.region_forms.specs.Ending.{Running, raise}
+use Rattle.region_forms.specs.LowerExpression.{Lowering, first_temporary, lower}
+use Rattle.region_simulation.specs.Places.{Places}
+use Rattle.region_simulation.specs.Reach.{KindsFit}
+use Rattle.region_simulation.specs.Stands.{IsSound, Stands, context_of}
+use Rattle.region_simulation.specs.Alike.{Alike}
+use Rattle.region_simulation.specs.Typing.{IsTyped}
+use Rattle.region_simulation.specs.Evaluates.{Evaluates}
+use Rattle.region_simulation.specs.Expressions.{source_running, SameBuiltin}
+use Rattle.throw_simulation.specs.Same.{RunAlike}
+
+-- where an exception is entered that was made, does not travel, and has no handler beneath others, what is handled and what travels stays sound
+abbrev pub StaysSound : SourceContext → Type 0
+StaysSound c =
+    (e last : ℕ) (lives : List Live) → e ≤ last → contains c.travelling e ≡ false → only_front e c.handled ≡ true → IsSound c last lives → IsSound (handling e c) last lives
+
+-- so it is where no exception that travels is handled
+abbrev pub EntriesStaySound : Type 0
+EntriesStaySound = (c : SourceContext) → ((e : ℕ) → contains c.travelling e ≡ true → contains c.handled e ≡ false) → StaysSound c
+
+-- an exception can be raised: it was made, it does not travel, and if it is handled, its handlers are the newest
+pub record CanBeRaised (c : SourceContext) (w : SourceWorld) (e : ℕ) : Type 0 where
+  pub made : e ≤ w.last_number
+  pub rests : contains c.travelling e ≡ false
+  pub front : only_front e c.handled ≡ true
+
+-- nothing is answered
+abbrev pub Never : {A B : Type 0} → A → B → SourceWorld → Places → State → Type 0
+Never a b w at s = ⊥
+
+-- it is raised alike
+abbrev pub RaisesAlike : Type 0
+RaisesAlike =
+    (l : Layout) (a : SourceRunning) (b : Running) → RunAlike l a b → (at : Places) (k : ℕ) (c : SourceContext) (w : SourceWorld) (s : State) (e : ℕ)
+    → Stands l a.program at c w s → StaysSound c → CanBeRaised c w e
+    → Alike l a.program at k c w s Never (raise_exception {A = ℤ} a e c w) (raise {A = ℤ} b e (context_of w.open_calls c) s)
+
+-- the two built-in functions that may raise or terminate do the same
+abbrev pub ModulesAnswerAlike : Type 0
+ModulesAnswerAlike =
+    (l : Lowering) (own : Option ℕ) (call : Callee → Reference → List SourceArgument → SourceContext → SourceAction ℤ) (b : Running) (v : SourceFrame) (c : SourceContext)
+    → KindsFit l b.kinds → RunAlike l.layout (source_running l call) b → StaysSound c
+    → SameBuiltin l own call b v c Terminate × SameBuiltin l own call b v c Module
+
+-- so every typed expression evaluates to what it means, with nothing asked of built-in functions
+abbrev pub AllExpressionsEvaluate : Type 0
+AllExpressionsEvaluate =
+    (l : Lowering) (own : Option ℕ) (call : Callee → Reference → List SourceArgument → SourceContext → SourceAction ℤ) (b : Running) (v : SourceFrame) (c : SourceContext)
+    → KindsFit l b.kinds → RunAlike l.layout (source_running l call) b → StaysSound c → (e : Expression) (t : ℕ) → first_temporary l ≤ t → IsTyped l own v.variables e
+    → Evaluates l own b v c t (value_of (source_running l call) v e c) (lower l e t)

@@ -1,0 +1,81 @@
+// Laws of exceptions in lowered programs: calls of no effect, whose contracts state what holds of every program.
+ghost use Rattle.throw_simulation.specs.Doomed.{CheckedClassesAreOrdered, DoomedAlike};
+ghost use Rattle.throw_simulation.specs.Ends.{TerminatesAlike};
+ghost use Rattle.throw_simulation.specs.Handlers.{EntersAlike};
+ghost use Rattle.throw_simulation.specs.Raises.{AllExpressionsEvaluate, EntriesStaySound, ModulesAnswerAlike, RaisesAlike};
+ghost use Rattle.throw_simulation.specs.Scopes.{BarriersAlike, DestroysAlike, ProtectsAlike, ScopesEndAlike};
+
+use region_forms::laws::caught_list_follows;
+
+/// In a checked program there is a class, `std::bad_exception`, and each class stands behind its base.
+pub fn checked_classes_are_ordered()
+    ensures { CheckedClassesAreOrdered }
+{}
+
+/// Where classes stand behind their bases, clauses match, specifications allow and guards doom in regions exactly the exceptions that they do in
+/// the source.
+pub fn doomed_alike()
+    ensures { DoomedAlike }
+{}
+
+/// Terminate ends alike: with a handler, which may come back or not, without one, and while a handler runs.
+pub fn terminates_alike()
+    ensures { TerminatesAlike }
+{}
+
+/// Where no exception that travels is handled, one that is entered leaves what is handled and what travels sound.
+pub fn entries_stay_sound()
+    ensures { EntriesStaySound }
+{}
+
+/// An exception is raised alike: where it is doomed, terminate is called before anything else, in a handler of it if it is native; any other
+/// begins to travel.
+pub fn raises_alike()
+    ensures { RaisesAlike }
+{
+    caught_list_follows();
+}
+
+/// The built-in functions that may raise or terminate do the same: a module answers with its next reply, which may raise a foreign exception, or
+/// terminate where as many exceptions are live as can be.
+pub fn modules_answer_alike()
+    ensures { ModulesAnswerAlike }
+{
+    caught_list_follows();
+}
+
+/// So every typed expression is lowered to what it means, where calls do the same.
+pub fn all_expressions_evaluate()
+    ensures { AllExpressionsEvaluate }
+{
+    caught_list_follows();
+}
+
+/// What is done behind a barrier comes out alike, and neither an exception nor a forced unwind does: a forced unwind calls terminate there.
+pub fn barriers_alike()
+    ensures { BarriersAlike }
+{}
+
+/// A scope ends alike, whatever is done in it and at its end, and so does what is built between a part and its object: what was built is destroyed
+/// in a normal exit of the scope, and behind a barrier where an exception or a forced unwind comes out.
+pub fn scopes_end_alike()
+    ensures { ScopesEndAlike }
+{}
+
+/// An object is destroyed alike, in a place that leads to it.
+pub fn destroys_alike()
+    ensures { DestroysAlike }
+{}
+
+/// A region that is protected by the destruction of an object does what a scope of the object does, or the building of an object that it is a part
+/// of, over whatever is done inside.
+pub fn protects_alike()
+    ensures { ProtectsAlike }
+{}
+
+/// An exception that travels is entered alike, and then is handled; entering a foreign one while another is handled calls terminate.
+pub fn enters_alike()
+    ensures { EntersAlike }
+{
+    caught_list_follows();
+}
