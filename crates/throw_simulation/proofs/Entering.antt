@@ -21,7 +21,6 @@ use Rattle.region_forms.specs.Laws.{CaughtListFollows}
 use Rattle.region_simulation.specs.Places.{Places}
 use Rattle.region_simulation.specs.Stands.{exception_of, world_of, Stands, context_of}
 use Rattle.region_simulation.specs.Alike.{Alike}
-use Rattle.region_simulation.proofs.Following.{keeps_all}
 use Rattle.throw_simulation.specs.Same.{RunAlike}
 use Rattle.throw_simulation.specs.Raises.{StaysSound}
 use Rattle.throw_simulation.specs.Barred.{StaysInside}
@@ -29,7 +28,7 @@ use Rattle.throw_simulation.specs.Scopes.{Any}
 use Rattle.throw_simulation.specs.Handlers.{EntersAlike}
 use Rattle.throw_simulation.proofs.Barriers.{ends_inside}
 use Rattle.throw_simulation.proofs.Caught.{holds_is}
-use Rattle.throw_simulation.proofs.Standing.{sound_resting, all_old, stands_on}
+use Rattle.throw_simulation.proofs.Standing.{sound_resting, all_old, stands_on, follows_changed}
 use Rattle.throw_simulation.proofs.Ends.{ends_out, terminates as terminates_out}
 use Rattle.throw_simulation.proofs.Raises.{exception_same}
 
@@ -87,15 +86,8 @@ module _ (l : Layout) (a : SourceRunning) (b : Running) (same : RunAlike l a b) 
       record s { world = entered e s.world },
       refl,
       (
-        record {
-          places = at;
-          stay = λ o lt. refl;
-          objects = omega arith;
-          calls = omega arith;
-          open_calls = refl;
-          keeps = keeps_all k s.frame;
-          stands = entered_stands l a.program at c w s e stands stays rests front laws;
-        },
+        follows_changed l a.program at k (handling e c) w (after_entry l a.program at c w s e stands stays rests front laws) s (entered e s.world) refl refl refl
+            (entered_stands l a.program at c w s e stands stays rests front laws),
         tt,
       ),
     ),

@@ -10,3 +10,5 @@ pub mod Barriers
 pub mod Scopes
 pub mod Protecting
 pub mod Entering
+pub mod Giving
+pub mod LettingGo

@@ -1,5 +1,5 @@
 -- The two built-in functions that may raise or terminate.
-use Rattle.std.proofs.Common.{◌≡◌, ℕ, ◌+◌, ◌≤◌, ℤ, pos, negsuc, Bool, true, false, List, [], ◌∷◌, ◌++◌, Option, Some, None, refl, sym, ap, subst, arith, length}
+use Rattle.std.proofs.Common.{◌≡◌, ℕ, ◌+◌, ◌≤◌, ℤ, pos, negsuc, Bool, true, false, List, [], ◌∷◌, ◌++◌, Option, Some, None, refl, sym, ap, subst, arith}
 use Rattle.std.specs.Prelude.{slice_get, slice_set, if◌then◌else◌}
 use Rattle.cxx_ast.specs.declared.types.Ty.{Ty}
 use Rattle.cxx_ast.specs.declared.name.Builtin.TheVariants.{Module, Terminate}
@@ -27,20 +27,20 @@ use Rattle.region_forms.specs.LowerExpression.{Lowering, first_temporary, Lowere
 use Rattle.region_simulation.specs.Places.{Places}
 use Rattle.region_simulation.specs.Reach.{KindsFit}
 use Rattle.region_simulation.specs.Stands.{world_of, Stands, context_of}
-use Rattle.region_simulation.specs.Alike.{Follows, Alike}
+use Rattle.region_simulation.specs.Alike.{Alike}
 use Rattle.region_simulation.specs.Calls.{SameArguments}
 use Rattle.region_simulation.specs.Typing.{types_for}
 use Rattle.region_simulation.specs.Evaluates.{Evaluates}
 use Rattle.region_simulation.specs.Passes.{IsGiven, Passes}
 use Rattle.region_simulation.specs.Expressions.{source_running, SameBuiltin}
 use Rattle.region_simulation.proofs.Paths.{some_same}
-use Rattle.region_simulation.proofs.Following.{Agreement, keeps_all, alike_on, alike_then}
+use Rattle.region_simulation.proofs.Following.{Agreement, alike_on, alike_then}
 use Rattle.region_simulation.proofs.Joining.{joined}
 use Rattle.region_simulation.proofs.Builtins.{number_passed, ending, Next, seen_alike}
 use Rattle.region_simulation.proofs.Standard.{expressions_evaluate}
 use Rattle.throw_simulation.specs.Same.{RunAlike}
 use Rattle.throw_simulation.specs.Raises.{StaysSound, Never, ModulesAnswerAlike, AllExpressionsEvaluate}
-use Rattle.throw_simulation.proofs.Standing.{all_old, stands_on}
+use Rattle.throw_simulation.proofs.Standing.{all_old, stands_on, follows_changed}
 use Rattle.throw_simulation.proofs.Ends.{ends_out, terminates as terminates_out}
 use Rattle.throw_simulation.proofs.Raises.{raises as raises_out}
 use Rattle.throw_simulation.proofs.New.{newly, full_same, new_on, new_can}
@@ -57,21 +57,6 @@ module _ (l : Lowering) (own : Option ℕ) (call : SourceCallee → Reference �
   stops_alike next at w s (source_stopped (ended x) w2) y (s2, e, h) = (s2, ap ending e, h)
   stops_alike next at w s (source_stopped out_of_turns w2) y (s2, e, h) = (s2, ap ending e, h)
   stops_alike next at w s (source_stopped deep w2) y (s2, e, h) = (s2, ap ending e, h)
-
-  -- a change of the world alone
-  abbrev moved_on : (at : Places) (w w2 : SourceWorld) (s : State) (y : World) → w2.objects ≡ w.objects → w2.open_calls ≡ w.open_calls → y.calls ≡ s.world.calls
-      → Stands l.layout l.program at c w2 (record s { world = y }) → Follows l.layout l.program at t w s c w2 (record s { world = y })
-  moved_on at w w2 s y objects opened calls stands =
-      let more = ap (λ os. length os) objects in
-      record {
-        places = at;
-        stay = λ o lt. refl;
-        objects = omega (arith, more);
-        calls = omega (arith, calls);
-        open_calls = opened;
-        keeps = keeps_all t s.frame;
-        stands = stands;
-      }
 
   -- a reply that is taken
   module _ (at : Places) (w : SourceWorld) (s : State) (stands : Stands l.layout l.program at c w s) where
@@ -123,7 +108,7 @@ module _ (l : Lowering) (own : Option ℕ) (call : SourceCallee → Reference �
               (raise {A = Unit {0}} b (w.last_number + 1) ctx (record s { world = after n }))
           flies_on =
               let stands3 = new_on l.layout l.program at c taken s2 standing (source_foreign k n) (made n w.last_number) tt in
-              let h = moved_on at w (new n) s (after n) refl refl refl stands3 in
+              let h = follows_changed l.layout l.program at t c w (new n) s (after n) refl refl refl stands3 in
               alike_on l.layout l.program Never at t c c w s (new n) (record s { world = after n }) h
               (raise_exception a (w.last_number + 1) c (new n)) (raise b (w.last_number + 1) ctx (record s { world = after n }))
               (raises_out l.layout a b same laws ℤ (Unit {0}) at c (new n) (record s { world = after n }) stands3 (w.last_number + 1) stays

@@ -24,14 +24,14 @@ use Rattle.region_forms.specs.Ending.{Running, enter_and_terminate, terminate_be
 use Rattle.region_simulation.specs.Places.{Places}
 use Rattle.region_simulation.specs.Stands.{exception_of, live_of, guard_of, context_of, world_of, Stands}
 use Rattle.region_simulation.specs.Alike.{Alike}
-use Rattle.region_simulation.proofs.Following.{Agreement, keeps_all}
+use Rattle.region_simulation.proofs.Following.{Agreement}
 use Rattle.throw_simulation.specs.Doomed.{numbered}
 use Rattle.throw_simulation.specs.Same.{RunAlike}
 use Rattle.throw_simulation.specs.Ends.{EndsAlike}
 use Rattle.throw_simulation.specs.Raises.{StaysSound, CanBeRaised, RaisesAlike, Never}
 use Rattle.throw_simulation.proofs.Doomed.{doomed_alike}
 use Rattle.throw_simulation.proofs.Caught.{flown_front}
-use Rattle.throw_simulation.proofs.Standing.{sound_travelling, all_old, stands_on, seen}
+use Rattle.throw_simulation.proofs.Standing.{sound_travelling, all_old, stands_on, seen, follows_changed}
 use Rattle.throw_simulation.proofs.Ends.{ends_out, terminates_with, terminates}
 
 -- the exception with a number, by the numbers of its type and its destructor
@@ -138,15 +138,7 @@ module _ (l : Layout) (a : SourceRunning) (b : Running) (same : RunAlike l a b) 
         go false = (
           record s { world = flies e s.world },
           refl,
-          record {
-            places = at;
-            stay = λ o lt. refl;
-            objects = omega arith;
-            calls = omega arith;
-            open_calls = refl;
-            keeps = keeps_all k s.frame;
-            stands = travels_on l a.program at c w s stands laws e can;
-          },
+          follows_changed l a.program at k (with_travelling e c) w w s (flies e s.world) refl refl refl (travels_on l a.program at c w s stands laws e can),
         )
 
 pub raises_alike : CaughtListFollows → RaisesAlike

@@ -1,5 +1,5 @@
 -- A state goes on standing for a world where neither memory nor an object is changed; what is handled and what travels may be.
-use Rattle.std.proofs.Common.{◌≡◌, ℕ, ◌≤◌, ◌⊎◌, inl, inr, Bool, true, false, List, ◌∷◌, Some, refl, sym, ap, ◌∙◌, subst, arith}
+use Rattle.std.proofs.Common.{◌≡◌, ℕ, ◌≤◌, ◌⊎◌, inl, inr, Bool, true, false, List, ◌∷◌, Some, refl, sym, ap, ◌∙◌, subst, arith, length}
 use Rattle.std.specs.Prelude.{◌==◌, ◌||◌, not, slice_get, if◌then◌else◌}
 use Rattle.std.proofs.lemmas.Bool.Decides.{nat_tests}
 use Rattle.cxx_ast.specs.Plain.{Checked}
@@ -13,7 +13,8 @@ use Rattle.region_forms.specs.World.{Base, of_global, of_variable, of_exception,
 use Rattle.region_forms.specs.Outcome.{State}
 use Rattle.region_simulation.specs.Places.{Places}
 use Rattle.region_simulation.specs.Stands.{world_of, IsMade, IsSound, AreHandlers, Stands}
-use Rattle.region_simulation.specs.Alike.{SameSeen}
+use Rattle.region_simulation.specs.Alike.{SameSeen, Follows}
+use Rattle.region_simulation.proofs.Following.{keeps_all}
 use Rattle.region_simulation.proofs.Builtins.{remembers_same}
 use Rattle.throw_simulation.specs.Raises.{EntriesStaySound}
 
@@ -149,3 +150,18 @@ entries_stay_sound c none e last lives made rests front h = record {
             true_not : true ≡ false → ⊥
             true_not e = cc e
         which false same = refl
+
+-- what follows where the world alone is changed, and no object
+abbrev pub follows_changed : (l : Layout) (p : Checked) (at : Places) (k : ℕ) (d : SourceContext) (w w2 : SourceWorld) (s : State) (y : World) → w2.objects ≡ w.objects
+    → w2.open_calls ≡ w.open_calls → y.calls ≡ s.world.calls → Stands l p at d w2 (record s { world = y }) → Follows l p at k w s d w2 (record s { world = y })
+follows_changed l p at k d w w2 s y objects opened calls stands =
+    let more = ap (λ os. length os) objects in
+    record {
+      places = at;
+      stay = λ o lt. refl;
+      objects = omega (arith, more);
+      calls = omega (arith, calls);
+      open_calls = opened;
+      keeps = keeps_all k s.frame;
+      stands = stands;
+    }

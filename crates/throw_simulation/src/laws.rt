@@ -1,7 +1,7 @@
 // Laws of exceptions in lowered programs: calls of no effect, whose contracts state what holds of every program.
 ghost use Rattle.throw_simulation.specs.Doomed.{CheckedClassesAreOrdered, DoomedAlike};
 ghost use Rattle.throw_simulation.specs.Ends.{TerminatesAlike};
-ghost use Rattle.throw_simulation.specs.Handlers.{EntersAlike};
+ghost use Rattle.throw_simulation.specs.Handlers.{EntersAlike, HandlersEndAlike};
 ghost use Rattle.throw_simulation.specs.Raises.{AllExpressionsEvaluate, EntriesStaySound, ModulesAnswerAlike, RaisesAlike};
 ghost use Rattle.throw_simulation.specs.Scopes.{BarriersAlike, DestroysAlike, ProtectsAlike, ScopesEndAlike};
 
@@ -76,6 +76,15 @@ pub fn protects_alike()
 /// An exception that travels is entered alike, and then is handled; entering a foreign one while another is handled calls terminate.
 pub fn enters_alike()
     ensures { EntersAlike }
+{
+    caught_list_follows();
+}
+
+/// What is done while an exception is handled comes out alike with the leaving behind it: the exception is kept where another handler of it is
+/// entered or it travels again, and else it is destroyed and freed, or cleaned up by its module; behind a barrier where another exception or a
+/// forced unwind comes out.
+pub fn handlers_end_alike()
+    ensures { HandlersEndAlike }
 {
     caught_list_follows();
 }

@@ -1,0 +1,141 @@
+-- Handlers are left alike.
+use Rattle.std.proofs.Common.{◌≡◌, ℕ, ◌+◌, Bool, true, false, [], ◌∷◌, ◌++◌, refl, sym, ap, ◌∙◌, subst, arith}
+use Rattle.std.specs.Prelude.{◌==◌, ◌||◌, not, if◌then◌else◌}
+use Rattle.run_items.specs.declared.item.Item.TheVariants.{Leave}
+use Rattle.scope_rules.specs.Class.{contains}
+use Rattle.scope_rules.specs.World.{World as SourceWorld, exception_at as source_exception_at}
+use Rattle.scope_rules.specs.Context.{Context as SourceContext, barrier, guarded_by, handling, with_travelling}
+use Rattle.scope_rules.specs.Outcome.{Result as SourceResult, done as source_done, stopped as source_stopped, thrown, cancelled, ended, undefined, out_of_turns, deep, pure as source_pure}
+use Rattle.scope_rules.specs.Running.{Running as SourceRunning}
+use Rattle.scope_rules.specs.Handler.{give_back as source_give_back, let_go, after_handler}
+use Rattle.region_forms.specs.Caught.{left_of, gives_back, caught_of, only_front}
+use Rattle.region_forms.specs.Form.{leave}
+use Rattle.region_forms.specs.Laws.{CaughtListFollows}
+use Rattle.region_forms.specs.Layout.{Layout}
+use Rattle.region_forms.specs.LowerExpression.{result_slot}
+use Rattle.region_forms.specs.World.{World, exception_at}
+use Rattle.region_forms.specs.Effect.{left, newest_of}
+use Rattle.region_forms.specs.Outcome.{State, Context, Result, pure}
+use Rattle.region_forms.specs.Ending.{Running, after_scope, give_back, leave_newest}
+use Rattle.region_forms.specs.Meaning.{outwards, operation, region}
+use Rattle.region_simulation.specs.Places.{Places}
+use Rattle.region_simulation.specs.Stands.{world_of, Stands, context_of}
+use Rattle.region_simulation.specs.Alike.{Alike}
+use Rattle.region_simulation.specs.Flows.{FlowAgrees}
+use Rattle.region_simulation.proofs.Following.{Agreement, follows_now, alike_on}
+use Rattle.region_simulation.proofs.Flowing.{alike_after, outwards_agrees}
+use Rattle.throw_simulation.specs.Same.{RunAlike}
+use Rattle.throw_simulation.specs.Barred.{NotThrown, CallsAreBarred}
+use Rattle.throw_simulation.specs.Scopes.{Any}
+use Rattle.throw_simulation.specs.Handlers.{EmptyDestructor, MissingDestructors, HandlersEndAlike}
+use Rattle.throw_simulation.proofs.Caught.{newest_is}
+use Rattle.throw_simulation.proofs.Standing.{sound_left, all_old, stands_on, stands_guarded, follows_changed}
+use Rattle.throw_simulation.proofs.Raises.{exception_same}
+use Rattle.throw_simulation.proofs.Giving.{gives_back_alike, giving_barred}
+use Rattle.throw_simulation.proofs.Scopes.{IsSteady, flows_steady, thrown_out, cancelled_out, done_out}
+
+module _ (l : Layout) (a : SourceRunning) (b : Running) (same : RunAlike l a b) (empty : EmptyDestructor l a b) (missing : MissingDestructors l a b) (laws : CaughtListFollows) where
+  -- the newest handler is left, and its exception is given back or kept
+  module _ (at : Places) (m : ℕ) (c : SourceContext) (w : SourceWorld) (s : State) (e : ℕ) (stands : Stands l a.program at (handling e c) w s) where
+    abbrev ctx : Context
+    ctx = context_of w.open_calls c
+
+    abbrev after_leaving : SourceWorld
+    after_leaving = record w { items = w.items ++ Leave e ∷ [] }
+
+    abbrev state_after : State
+    state_after = record s { world = left s.world }
+
+    newest : newest_of s.world.caught ≡ e
+    newest = ap (λ y. newest_of y.caught) stands.world ∙ newest_is e c.travelling c.handled
+
+    left_stands : Stands l a.program at c after_leaving state_after
+    left_stands =
+        let world = world_of a.program c after_leaving s.world.memory s.world.calls in
+        stands_on l a.program at (handling e c) c w after_leaving s (left s.world)
+        (ap left stands.world ∙
+        ap {A = ℕ} {B = World} (λ n. record world { items = w.items ++ Leave n ∷ []; caught = left_of (caught_of c.travelling (e ∷ c.handled)) }) (newest_is e c.travelling c.handled) ∙
+        ap {B = World} (λ xs. record world { caught = xs }) (laws.left e c.travelling c.handled))
+        refl refl (omega arith) (sound_left e c stands.sound) stands.handlers (all_old w.live) stands
+
+    given : Alike l a.program at m c after_leaving state_after Any (source_give_back a e (source_exception_at w e) c after_leaving)
+        (give_back b (newest_of s.world.caught) (exception_at s.world (newest_of s.world.caught)) ctx state_after)
+    given =
+        subst (λ n. Alike l a.program at m c after_leaving state_after Any (source_give_back a e (source_exception_at w e) c after_leaving) (give_back b n (exception_at s.world n) ctx state_after)) (sym newest)
+        (subst (λ x. Alike l a.program at m c after_leaving state_after Any (source_give_back a e (source_exception_at w e) c after_leaving) (give_back b e x ctx state_after))
+        (sym (exception_same l a.program at (handling e c) w s stands e))
+        (gives_back_alike l a b same empty missing at m c after_leaving state_after left_stands e (source_exception_at w e) refl))
+
+    lets_go : (kept : Bool) → gives_back (caught_of c.travelling (e ∷ c.handled)) ≡ not kept
+        → Alike l a.program at m c w s Any (let_go a e kept c w) (leave_newest b ctx s)
+    lets_go kept is =
+        alike_on l a.program Any at m c c w s after_leaving state_after (follows_changed l a.program at m c w after_leaving s (left s.world) refl refl refl left_stands)
+        (let_go a e kept c w) (leave_newest b ctx s)
+        (subst (λ z. Alike l a.program at m c after_leaving state_after Any (let_go a e kept c w)
+        ((if z then give_back b (newest_of s.world.caught) (exception_at s.world (newest_of s.world.caught)) ctx else pure tt) state_after))
+        (sym (ap (λ y. gives_back y.caught) stands.world ∙ is)) (go kept))
+      where
+        go : (z : Bool) → Alike l a.program at m c after_leaving state_after Any ((if z then source_pure tt else source_give_back a e (source_exception_at w e) c) after_leaving)
+            ((if not z then give_back b (newest_of s.world.caught) (exception_at s.world (newest_of s.world.caught)) ctx else pure tt) state_after)
+        go true = (tt, state_after, refl, (follows_now l a.program at m c after_leaving state_after left_stands, tt))
+        go false = given
+
+  -- behind a barrier no exception comes out
+  leaving_barred : CallsAreBarred a → (at : Places) (c : SourceContext) (w : SourceWorld) (s : State) (e : ℕ) (kept : Bool) → Stands l a.program at (handling e c) w s
+      → NotThrown (let_go a e kept (guarded_by barrier c) w)
+  leaving_barred bar at c w s e true stands = tt
+  leaving_barred bar at c w s e false stands =
+      giving_barred a bar e (source_exception_at w e) c (record w { items = w.items ++ Leave e ∷ [] }) (sound_left e c stands.sound)
+
+  -- however what is done in a handler comes out
+  module _ (bar : CallsAreBarred a) {A B : Type 0} (agree : Agreement A B) (n : ℕ) (steady : IsSteady agree n) (at : Places) (k : ℕ) (c : SourceContext) (w : SourceWorld) (s : State) (e : ℕ)
+      (sound : Stands l a.program at (handling e c) w s) (rests : contains c.travelling e ≡ false) where
+    front : only_front e c.handled ≡ true
+    front = sound.sound.together.0
+
+    last : gives_back (caught_of c.travelling (e ∷ c.handled)) ≡ not (contains c.handled e)
+    last = laws.given_back e c.travelling c.handled rests front
+
+    -- it is kept where it travels again
+    kept_or_last : (f : ℕ) → gives_back (caught_of (f ∷ c.travelling) (e ∷ c.handled)) ≡ not (f == e || contains c.handled e)
+    kept_or_last f = go (f == e) refl
+      where
+        go : (z : Bool) → (f == e) ≡ z → gives_back (caught_of (f ∷ c.travelling) (e ∷ c.handled)) ≡ not (z || contains c.handled e)
+        go true is = laws.kept e (f ∷ c.travelling) c.handled (ap (λ z. z || contains c.travelling e) is)
+        go false is = laws.given_back e (f ∷ c.travelling) c.handled (ap (λ z. z || contains c.travelling e) is ∙ rests) front
+
+    abbrev cleanup : Context → State → Result (Unit {0})
+    cleanup = operation b leave
+
+    pub handler_ends : (x : SourceResult A) (y : Result B) → Alike l a.program at k (handling e c) w s agree x y
+        → Alike l a.program at k c w s agree (after_handler a e c x) (after_scope b (context_of w.open_calls c) cleanup y)
+    handler_ends (source_done u w2) y h =
+        done_out l a b same agree at k c w s (let_go a e (contains c.handled e)) cleanup n steady (handling e c) u w2 y h
+        (λ s2 g. lets_go g.places (k + n) c w2 s2 e g.stands (contains c.handled e) last)
+    handler_ends (source_stopped (thrown f) w2) y h =
+        let kept = f == e || contains c.handled e in
+        thrown_out l a b same agree at k c w s (let_go a e kept) cleanup (handling e c) f w2 y h
+        (λ s2 g.
+        let d = with_travelling f c in
+        let standing = stands_guarded l a.program g.places barrier (with_travelling f (handling e c)) w2 s2 g.stands in
+        (leaving_barred bar g.places d w2 s2 e kept g.stands, lets_go g.places k (guarded_by barrier d) w2 s2 e standing kept (kept_or_last f)))
+        (after_scope b (context_of w.open_calls c) cleanup) (λ t. refl)
+    handler_ends (source_stopped (cancelled x) w2) y h =
+        let kept = contains c.handled e in
+        cancelled_out l a b same agree at k c w s (let_go a e kept) cleanup (handling e c) x w2 y h
+        (λ s2 g.
+        let standing = stands_guarded l a.program g.places barrier (handling e c) w2 s2 g.stands in
+        (leaving_barred bar g.places c w2 s2 e kept g.stands, lets_go g.places k (guarded_by barrier c) w2 s2 e standing kept last))
+        (after_scope b (context_of w.open_calls c) cleanup) (λ t. refl)
+    handler_ends (source_stopped undefined w2) y h = tt
+    handler_ends (source_stopped (ended x) w2) y (s2, is, h) = (s2, ap (after_scope b (context_of w.open_calls c) cleanup) is, h)
+    handler_ends (source_stopped out_of_turns w2) y (s2, is, h) = (s2, ap (after_scope b (context_of w.open_calls c) cleanup) is, h)
+    handler_ends (source_stopped deep w2) y (s2, is, h) = (s2, ap (after_scope b (context_of w.open_calls c) cleanup) is, h)
+
+pub handlers_end_alike : CaughtListFollows → HandlersEndAlike
+handlers_end_alike laws l gives i d lt a b same bar empty missing at k c w s e stands rests act body h =
+    let ctx = context_of w.open_calls c in
+    let agree = FlowAgrees l gives i (d + 1) in
+    alike_after l.layout a.program agree (FlowAgrees l gives i d) at k c w s (after_handler a e c (act (handling e c) w))
+    (after_scope b ctx (operation b leave) (region b body ctx s)) outwards (outwards_agrees l gives i d lt)
+    (handler_ends l.layout a b same empty missing laws bar agree (result_slot l + 1) (flows_steady l gives i (d + 1)) at k c w s e stands rests (act (handling e c) w) (region b body ctx s) h)
