@@ -9,7 +9,7 @@ use Rattle.scope_rules.specs.Running.{Running as SourceRunning, function}
 use Rattle.scope_rules.specs.Terminate.{after_terminate_handler as source_after, run_terminate_handler as source_run, terminate_with as source_terminate_with, terminate as source_terminate}
 use Rattle.region_forms.specs.Layout.{Layout}
 use Rattle.region_forms.specs.World.{World}
-use Rattle.region_forms.specs.Outcome.{State, Result, stop}
+use Rattle.region_forms.specs.Outcome.{State, Result, Action, stop, continued}
 use Rattle.region_forms.specs.Ending.{Running, after_terminate_handler, run_terminate_handler, terminate_with, terminate}
 use Rattle.region_simulation.specs.Places.{Places}
 use Rattle.region_simulation.specs.Stands.{IsHandler, Stands, context_of}
@@ -18,6 +18,7 @@ use Rattle.region_simulation.specs.Calls.{SameArguments}
 use Rattle.region_simulation.proofs.Following.{Agreement}
 use Rattle.throw_simulation.specs.Same.{RunAlike}
 use Rattle.throw_simulation.specs.Ends.{EndsAlike, TerminatesAlike}
+use Rattle.throw_simulation.specs.Raises.{Never}
 use Rattle.throw_simulation.proofs.Standing.{sound_guarded, sound_ending, all_old, stands_on, seen}
 
 module _ (l : Layout) (a : SourceRunning) (b : Running) (same : RunAlike l a b) where
@@ -31,6 +32,17 @@ module _ (l : Layout) (a : SourceRunning) (b : Running) (same : RunAlike l a b) 
   ends_out agree at k c w s (source_stopped undefined w2) y h = tt
   ends_out agree at k c w s (source_stopped out_of_turns w2) y h = h
   ends_out agree at k c w s (source_stopped deep w2) y h = h
+
+  -- what is never done comes out of what would come behind it
+  pub never_on : {A B C : Type 0} (next : Agreement A C) (at : Places) (k : ℕ) (c : SourceContext) (w : SourceWorld) (s : State) (x : SourceResult A) (y : Result B) (g : B → Action C)
+      → Alike l a.program at k c w s Never x y → Alike l a.program at k c w s next x (continued y g)
+  never_on next at k c w s (source_done u w2) y g (z, s2, e, (h, never)) = absurd never
+  never_on next at k c w s (source_stopped (thrown x) w2) y g (s2, e, h) = (s2, ap (λ z. continued z g) e, h)
+  never_on next at k c w s (source_stopped (cancelled n) w2) y g (s2, e, h) = (s2, ap (λ z. continued z g) e, h)
+  never_on next at k c w s (source_stopped undefined w2) y g h = tt
+  never_on next at k c w s (source_stopped (ended x) w2) y g (s2, e, h) = (s2, ap (λ z. continued z g) e, h)
+  never_on next at k c w s (source_stopped out_of_turns w2) y g (s2, e, h) = (s2, ap (λ z. continued z g) e, h)
+  never_on next at k c w s (source_stopped deep w2) y g (s2, e, h) = (s2, ap (λ z. continued z g) e, h)
 
   -- however a terminate handler comes out
   after_ends : {A B : Type 0} (C D : Type 0) (agree : Agreement A B) (at : Places) (k : ℕ) (c : SourceContext) (w : SourceWorld) (s : State) (x : SourceResult A) (y : Result B)

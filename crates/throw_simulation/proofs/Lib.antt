@@ -12,3 +12,6 @@ pub mod Protecting
 pub mod Entering
 pub mod Giving
 pub mod LettingGo
+pub mod Kept
+pub mod Throws
+pub mod Rethrows

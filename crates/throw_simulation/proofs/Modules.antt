@@ -12,7 +12,7 @@ use Rattle.scope_rules.specs.World.{World as SourceWorld, Reference, foreign as 
 use Rattle.scope_rules.specs.Context.{Context as SourceContext}
 use Rattle.scope_rules.specs.Frame.{Frame as SourceFrame}
 use Rattle.scope_rules.specs.Running.{Running as SourceRunning, Argument as SourceArgument, Callee as SourceCallee}
-use Rattle.scope_rules.specs.Outcome.{Result as SourceResult, done as source_done, stopped as source_stopped, thrown, cancelled, ended, undefined, out_of_turns, deep, Action as SourceAction, pure as source_pure, ◌>>=◌}
+use Rattle.scope_rules.specs.Outcome.{Result as SourceResult, done as source_done, Action as SourceAction, pure as source_pure, ◌>>=◌}
 use Rattle.scope_rules.specs.Terminate.{terminate as source_terminate}
 use Rattle.scope_rules.specs.Throw.{is_full as source_is_full, new_exception, raise_exception, raise_foreign, answered as source_answered, take_reply, call_module}
 use Rattle.scope_rules.specs.Expression.{value_at, arguments}
@@ -20,7 +20,7 @@ use Rattle.region_forms.specs.Laws.{CaughtListFollows}
 use Rattle.region_forms.specs.Form.{call_value, builtin, Callee, arguments_from, regions_from}
 use Rattle.region_forms.specs.World.{Word, World, foreign, with_item}
 use Rattle.region_forms.specs.Effect.{if_some, called, finished, terminates, raises, answered, replied, module_called, with_new}
-use Rattle.region_forms.specs.Outcome.{State, Context, Flow, Result}
+use Rattle.region_forms.specs.Outcome.{Context, Flow, Result, State, continued, normal, pure}
 use Rattle.region_forms.specs.Ending.{Running, perform, terminate, raise}
 use Rattle.region_forms.specs.Meaning.{followed, regions}
 use Rattle.region_forms.specs.LowerExpression.{Lowering, first_temporary, LoweredArguments, in_temporary, slot_place, stored_in, lower_arguments}
@@ -41,7 +41,7 @@ use Rattle.region_simulation.proofs.Standard.{expressions_evaluate}
 use Rattle.throw_simulation.specs.Same.{RunAlike}
 use Rattle.throw_simulation.specs.Raises.{StaysSound, Never, ModulesAnswerAlike, AllExpressionsEvaluate}
 use Rattle.throw_simulation.proofs.Standing.{all_old, stands_on, follows_changed}
-use Rattle.throw_simulation.proofs.Ends.{ends_out, terminates as terminates_out}
+use Rattle.throw_simulation.proofs.Ends.{ends_out, never_on, terminates as terminates_out}
 use Rattle.throw_simulation.proofs.Raises.{raises as raises_out}
 use Rattle.throw_simulation.proofs.New.{newly, full_same, new_on, new_can}
 
@@ -50,13 +50,10 @@ module _ (l : Lowering) (own : Option ℕ) (call : SourceCallee → Reference �
   -- what never is done comes out of an operation as it is
   stops_alike : {A : Type 0} (next : Agreement A Flow) (at : Places) (w : SourceWorld) (s : State) (x : SourceResult A) (y : Result (Unit {0}))
       → Alike l.layout l.program at t c w s Never x y → Alike l.layout l.program at t c w s next x (ending y)
-  stops_alike next at w s (source_done u w2) y (z, s2, e, (h, never)) = absurd never
-  stops_alike next at w s (source_stopped (thrown x) w2) y (s2, e, h) = (s2, ap ending e, h)
-  stops_alike next at w s (source_stopped (cancelled n) w2) y (s2, e, h) = (s2, ap ending e, h)
-  stops_alike next at w s (source_stopped undefined w2) y h = tt
-  stops_alike next at w s (source_stopped (ended x) w2) y (s2, e, h) = (s2, ap ending e, h)
-  stops_alike next at w s (source_stopped out_of_turns w2) y (s2, e, h) = (s2, ap ending e, h)
-  stops_alike next at w s (source_stopped deep w2) y (s2, e, h) = (s2, ap ending e, h)
+  stops_alike next at w s x y h =
+      let a = source_running l call in
+      never_on l.layout a b same next at t c w s x (continued y (λ u. pure normal)) (followed (pure normal))
+      (never_on l.layout a b same Never at t c w s x y (λ u. pure normal) h)
 
   -- a reply that is taken
   module _ (at : Places) (w : SourceWorld) (s : State) (stands : Stands l.layout l.program at c w s) where

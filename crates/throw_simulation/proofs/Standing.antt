@@ -9,7 +9,7 @@ use Rattle.scope_rules.specs.Context.{Context as SourceContext, Guard, guarded_b
 use Rattle.region_forms.specs.Caught.{only_front}
 use Rattle.throw_simulation.proofs.Caught.{front_out}
 use Rattle.region_forms.specs.Layout.{Layout}
-use Rattle.region_forms.specs.World.{Base, of_global, of_variable, of_exception, World}
+use Rattle.region_forms.specs.World.{Base, of_global, of_variable, of_exception, Frame, World}
 use Rattle.region_forms.specs.Outcome.{State}
 use Rattle.region_simulation.specs.Places.{Places}
 use Rattle.region_simulation.specs.Stands.{world_of, IsMade, IsSound, AreHandlers, Stands}
@@ -101,21 +101,45 @@ made_later calls m n (of_variable c s) le h = h
 made_later calls m n (of_exception e) le h = omega (arith, h, le)
 
 module _ (l : Layout) (p : Checked) (at : Places) where
-  pub stands_on : (c d : SourceContext) (w w2 : SourceWorld) (s : State) (y : World) → y ≡ world_of p d w2 s.world.memory s.world.calls → w2.objects ≡ w.objects
-      → w2.turns ≡ w.turns → w.last_number ≤ w2.last_number → IsSound d w2.last_number w2.live → AreHandlers p w2.installed → AreOld w.live w2.live
+  -- where native exceptions are made too, it is said where their objects stand, and that the handlers kept with them can be called
+  pub stands_with : (c d : SourceContext) (w w2 : SourceWorld) (s : State) (y : World) → y ≡ world_of p d w2 s.world.memory s.world.calls → w2.objects ≡ w.objects
+      → w2.turns ≡ w.turns → w.last_number ≤ w2.last_number → IsSound d w2.last_number w2.live → AreHandlers p w2.installed
+      → ((i e o : ℕ) (t : ObjectType) (kept : Installed) → slice_get w2.live i ≡ Some (record { number = e; exception = native t o kept })
+      → (at o ≡ Some (record { base = of_exception e; type = t })) × AreHandlers p kept)
       → Stands l p at c w s → Stands l p at d w2 (record s { world = y })
-  stands_on c d w w2 s y is objects turns later sound handlers old h =
+  stands_with c d w w2 s y is objects turns later sound handlers natives h =
       subst (λ z. Stands l p at d w2 (record s { world = z })) (sym is) (record {
         world = refl;
         turns = h.turns ∙ sym turns;
         memory = remembers_same l p at w w2 s.world.memory objects h.memory;
         globals = h.globals;
-        exceptions = λ i e o t kept there. (let (j, before) = old i e o t kept there in h.exceptions j e o t kept before);
+        exceptions = λ i e o t kept there. (natives i e o t kept there).0;
         made = λ o x there. made_later s.world.calls w.last_number w2.last_number x.base later (h.made o x there);
         sound = sound;
         handlers = handlers;
-        kept = λ i e o t kept there. (let (j, before) = old i e o t kept there in h.kept j e o t kept before);
+        kept = λ i e o t kept there. (natives i e o t kept there).1;
       })
+
+  pub stands_on : (c d : SourceContext) (w w2 : SourceWorld) (s : State) (y : World) → y ≡ world_of p d w2 s.world.memory s.world.calls → w2.objects ≡ w.objects
+      → w2.turns ≡ w.turns → w.last_number ≤ w2.last_number → IsSound d w2.last_number w2.live → AreHandlers p w2.installed → AreOld w.live w2.live
+      → Stands l p at c w s → Stands l p at d w2 (record s { world = y })
+  stands_on c d w w2 s y is objects turns later sound handlers old h =
+      stands_with c d w w2 s y is objects turns later sound handlers
+      (λ i e o t kept there. (let (j, before) = old i e o t kept there in (h.exceptions j e o t kept before, h.kept j e o t kept before))) h
+
+  -- nor is a frame
+  pub stands_framed : (c : SourceContext) (w : SourceWorld) (s : State) (f : Frame) → Stands l p at c w s → Stands l p at c w (record s { frame = f })
+  stands_framed c w s f h = record {
+    world = h.world;
+    turns = h.turns;
+    memory = h.memory;
+    globals = h.globals;
+    exceptions = h.exceptions;
+    made = h.made;
+    sound = h.sound;
+    handlers = h.handlers;
+    kept = h.kept;
+  }
 
   -- guards are no part of what both see
   pub stands_guarded : (g : Guard) (c : SourceContext) (w : SourceWorld) (s : State) → Stands l p at c w s → Stands l p at (guarded_by g c) w s

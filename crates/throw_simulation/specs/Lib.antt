@@ -5,3 +5,4 @@ pub mod Raises
 pub mod Barred
 pub mod Scopes
 pub mod Handlers
+pub mod Throws

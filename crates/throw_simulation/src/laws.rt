@@ -4,6 +4,7 @@ ghost use Rattle.throw_simulation.specs.Ends.{TerminatesAlike};
 ghost use Rattle.throw_simulation.specs.Handlers.{EntersAlike, HandlersEndAlike};
 ghost use Rattle.throw_simulation.specs.Raises.{AllExpressionsEvaluate, EntriesStaySound, ModulesAnswerAlike, RaisesAlike};
 ghost use Rattle.throw_simulation.specs.Scopes.{BarriersAlike, DestroysAlike, ProtectsAlike, ScopesEndAlike};
+ghost use Rattle.throw_simulation.specs.Throws.{RethrowsAlike, ThrowsAlike};
 
 use region_forms::laws::caught_list_follows;
 
@@ -85,6 +86,21 @@ pub fn enters_alike()
 /// forced unwind comes out.
 pub fn handlers_end_alike()
     ensures { HandlersEndAlike }
+{
+    caught_list_follows();
+}
+
+/// An object is thrown alike, over whatever builds it: an exception object is made, built, kept as one of its type, and raised. It is freed where
+/// building exits by an exception or a forced unwind; where as many exceptions are live as can be, terminate is called.
+pub fn throws_alike()
+    ensures { ThrowsAlike }
+{
+    caught_list_follows();
+}
+
+/// The newest handled exception is thrown again alike; where none is handled, or it travels, terminate is called.
+pub fn rethrows_alike()
+    ensures { RethrowsAlike }
 {
     caught_list_follows();
 }
