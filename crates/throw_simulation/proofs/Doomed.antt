@@ -1,13 +1,14 @@
 -- Regions stop an exception where the source does.
-use Rattle.std.proofs.Common.{◌≡◌, ℕ, zero, suc, ◌+◌, ◌<◌, Bool, true, false, List, [], ◌∷◌, Option, Some, None, refl, ap, ◌∙◌, subst, arith, length}
+use Rattle.std.proofs.Common.{◌≡◌, ℕ, zero, suc, ◌+◌, ◌<◌, Bool, true, false, List, [], ◌∷◌, ◌++◌, Option, Some, None, refl, ap, ◌∙◌, subst, arith, length}
 use Rattle.std.specs.Prelude.{◌==◌, ◌||◌, not, map, slice_get, unwrap_or, find, cond}
 use Rattle.std.proofs.lemmas.Bool.Decides.{nat_tests}
 use Rattle.std.proofs.lemmas.List.{length-map}
 use Rattle.cxx_ast.specs.declared.name.Name.{Name}
 use Rattle.cxx_ast.specs.Plain.{Class, Checked}
-use Rattle.scope_rules.specs.Class.{ObjectType, int_type, class_type, some_of, contains, class_named, no_class, class_at, chain_of_bases, derives as source_derives}
+use Rattle.scope_rules.specs.Class.{ObjectType, int_type, class_type, some_of, contains, class_named, no_class, class_at, base_part, member_part, chain_of_bases, derives as source_derives}
 use Rattle.scope_rules.specs.Context.{Clause, catch_all, catch_type, Guard, try_block, specification, barrier}
 use Rattle.scope_rules.specs.Guard.{matches as source_matches, allows as source_allows, stops as source_stops, dooms as source_dooms}
+use Rattle.class_layout.specs.Fit.{AreBefore}
 use Rattle.region_forms.specs.Form.{TypeRow}
 use Rattle.region_forms.specs.Guard.{base_row, in_chain, derives, matches, allows, stops, dooms}
 use Rattle.region_forms.specs.Numbering.{type_number, base_number, class_row, class_rows, type_rows}
@@ -84,7 +85,7 @@ chain_same p ordered (suc n) (suc m) k b more longer inside =
     go None e ih = chain_ends m (type_rows p) (b + 1)
     go (Some x) e ih =
         let (one, two) = inside x e in
-        let lt = ordered.before k x e in
+        let lt = (subst (λ y. AreBefore k (base_part y ++ map member_part (class_at p k).members)) e (ordered.before k)).0 in
         ih (class_named x) (omega (arith, one, lt)) (omega (arith, two, lt)) (λ y f. (omega (arith, one, lt), omega (arith, two, lt)))
 
 module _ (p : Checked) (ordered : AreOrdered p) where

@@ -15,3 +15,5 @@ pub mod LettingGo
 pub mod Kept
 pub mod Throws
 pub mod Rethrows
+pub mod Unset
+pub mod Constructing

@@ -1,19 +1,19 @@
 -- That regions stop an exception where the source does.
-use Rattle.std.specs.Prelude.{◌≡◌, ℕ, ◌<◌, List, map, length, Option, Some, option_map}
-use Rattle.cxx_ast.specs.declared.name.Name.{Name}
+use Rattle.std.specs.Prelude.{◌≡◌, ℕ, ◌<◌, List, map, length, Option, option_map}
 use Rattle.cxx_ast.specs.Plain.{Checked}
 use Rattle.cxx_ast.specs.Checked.{IsChecked}
-use Rattle.scope_rules.specs.Class.{ObjectType, class_named, class_at}
+use Rattle.scope_rules.specs.Class.{ObjectType, parts_of}
 use Rattle.scope_rules.specs.Context.{Clause as SourceClause, Guard as SourceGuard}
 use Rattle.scope_rules.specs.Guard.{matches as source_matches, allows as source_allows, is_doomed as source_is_doomed}
+use Rattle.class_layout.specs.Fit.{AreBefore}
 use Rattle.region_forms.specs.Guard.{matches, allows, is_doomed}
 use Rattle.region_forms.specs.Numbering.{type_number, type_rows}
 use Rattle.region_simulation.specs.Stands.{clause_of, guard_of}
 
--- there is a class, and each class stands behind its base
+-- there is a class, and the parts of each class, its base and its members, are of classes before it
 pub record AreOrdered (p : Checked) : Type 0 where
   pub some : 0 < length p.classes
-  pub before : (k : ℕ) (b : Name) → (class_at p k).base ≡ Some b → class_named b < k
+  pub before : (k : ℕ) → AreBefore k (parts_of p k)
 
 -- the classes of a checked program are in order
 abbrev pub CheckedClassesAreOrdered : Type 0

@@ -6,3 +6,4 @@ pub mod Barred
 pub mod Scopes
 pub mod Handlers
 pub mod Throws
+pub mod Copies

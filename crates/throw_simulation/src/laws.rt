@@ -1,4 +1,5 @@
 // Laws of exceptions in lowered programs: calls of no effect, whose contracts state what holds of every program.
+ghost use Rattle.throw_simulation.specs.Copies.{CopiesAlike};
 ghost use Rattle.throw_simulation.specs.Doomed.{CheckedClassesAreOrdered, DoomedAlike};
 ghost use Rattle.throw_simulation.specs.Ends.{TerminatesAlike};
 ghost use Rattle.throw_simulation.specs.Handlers.{EntersAlike, HandlersEndAlike};
@@ -8,12 +9,12 @@ ghost use Rattle.throw_simulation.specs.Throws.{RethrowsAlike, ThrowsAlike};
 
 use region_forms::laws::caught_list_follows;
 
-/// In a checked program there is a class, `std::bad_exception`, and each class stands behind its base.
+/// In a checked program there is a class, `std::bad_exception`, and the parts of each class are of classes before it.
 pub fn checked_classes_are_ordered()
     ensures { CheckedClassesAreOrdered }
 {}
 
-/// Where classes stand behind their bases, clauses match, specifications allow and guards doom in regions exactly the exceptions that they do in
+/// Where classes stand behind those of their parts, clauses match, specifications allow and guards doom in regions exactly the exceptions that they do in
 /// the source.
 pub fn doomed_alike()
     ensures { DoomedAlike }
@@ -104,3 +105,8 @@ pub fn rethrows_alike()
 {
     caught_list_follows();
 }
+
+/// An object is copied alike behind a barrier, by its class's copy constructor, declared or not.
+pub fn copies_alike()
+    ensures { CopiesAlike }
+{}
