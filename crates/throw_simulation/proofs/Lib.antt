@@ -17,3 +17,6 @@ pub mod Throws
 pub mod Rethrows
 pub mod Unset
 pub mod Constructing
+pub mod Building
+pub mod Ints
+pub mod Operands

@@ -38,6 +38,16 @@ plain_only n e o x t kept plain same = subst IsPlain (ap {A = SourceLive} (λ y.
 abbrev pub newly : SourceException → Item → SourceWorld → SourceWorld
 newly x i w = record w { last_number = w.last_number + 1; live = w.live ++ record { number = w.last_number + 1; exception = x } ∷ []; items = w.items ++ i ∷ [] }
 
+-- no exception of its number is native
+pub new_unbuilt : (w : SourceWorld) (n : ℕ) (x : SourceException) → IsPlain x → ((i : ℕ) (y : SourceLive) → slice_get w.live i ≡ Some y → y.number ≤ n) → (i o : ℕ) (t : ObjectType) (kept : Installed)
+    → slice_get (w.live ++ record { number = n + 1; exception = x } ∷ []) i ≡ Some (record { number = n + 1; exception = source_native t o kept }) → ⊥
+new_unbuilt w n x plain made i o t kept there = go (last_or_before w.live (record { number = n + 1; exception = x }) (record { number = n + 1; exception = source_native t o kept }) i there)
+  where
+    go : ((slice_get w.live i ≡ Some (record { number = n + 1; exception = source_native t o kept })) ⊎
+        (◌≡◌ {A = SourceLive} (record { number = n + 1; exception = x }) (record { number = n + 1; exception = source_native t o kept }))) → ⊥
+    go (inl before) = let le = made i (record { number = n + 1; exception = source_native t o kept }) before in omega (arith, le)
+    go (inr same) = plain_only (n + 1) (n + 1) o x t kept plain same
+
 -- its number is not that of any that is made
 pub new_number : (n : ℕ) (es : List ℕ) → ((e : ℕ) → contains es e ≡ true → e ≤ n) → contains es (n + 1) ≡ false
 new_number n es made = go (contains es (n + 1)) refl

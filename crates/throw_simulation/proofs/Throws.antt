@@ -30,11 +30,11 @@ use Rattle.region_simulation.proofs.Following.{Agreement, follows_on, alike_less
 use Rattle.region_simulation.proofs.Storing.{same_number, other_number}
 use Rattle.throw_simulation.specs.Same.{RunAlike}
 use Rattle.throw_simulation.specs.Raises.{StaysSound, CanBeRaised, Never}
-use Rattle.throw_simulation.specs.Throws.{IsBuilt, BuildsAlike, ThrowsAlike}
+use Rattle.throw_simulation.specs.Throws.{IsUnbuilt, IsBuilt, BuildsAlike, ThrowsAlike}
 use Rattle.throw_simulation.proofs.Standing.{stands_framed, follows_changed}
 use Rattle.throw_simulation.proofs.Ends.{ends_out, never_on, terminates as terminates_out}
 use Rattle.throw_simulation.proofs.Raises.{raises as raises_out}
-use Rattle.throw_simulation.proofs.New.{newly, new_number, full_same, new_on}
+use Rattle.throw_simulation.proofs.New.{newly, new_number, new_unbuilt, full_same, new_on}
 use Rattle.throw_simulation.proofs.Caught.{front_unhandled}
 use Rattle.throw_simulation.proofs.Giving.{without, without_follows}
 use Rattle.throw_simulation.proofs.Kept.{after_keeping, kept_on}
@@ -152,11 +152,14 @@ module _ (l : Lowering) (call : Callee → Reference → List SourceArgument →
     nothing_there : (o : ℕ) (x : Stood) → at o ≡ Some x → x.base ≡ of_exception e → ⊥
     nothing_there o x is base = let le = subst (IsMade s.world.calls w.last_number) base (stands.made o x is) in omega (arith, le)
 
+    unbuilt : IsUnbuilt e made
+    unbuilt i o u handlers there = new_unbuilt w (w.last_number) source_building tt stands.sound.live i o u handlers there
+
     built : Alike l.layout l.program at (first_temporary l) c made s2 (IsBuilt e t) (build made) (regions b (regions_from rs) ctx s2)
     built =
         builds at made s2 e made_stands
         (reaches_kept l own v at (result_slot l) w s c c made s2 stands (made_follows (result_slot l) (omega arith)) (omega arith) reach)
-        slot (omega arith) nothing_there
+        slot (omega arith) unbuilt nothing_there
 
     building_on : Alike l.layout l.program at k c made s2 agree
         (source_continued (source_after_building e (build made)) (λ o. keep e o >> raise_exception a e c)) (regions b (regions_from rest) ctx s2)

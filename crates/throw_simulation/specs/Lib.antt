@@ -7,3 +7,4 @@ pub mod Scopes
 pub mod Handlers
 pub mod Throws
 pub mod Copies
+pub mod Operands

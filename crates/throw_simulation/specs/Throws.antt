@@ -1,7 +1,7 @@
 -- That objects are thrown alike (ISO/IEC 14882:2003, 15.1).
-use Rattle.std.specs.Prelude.{◌≡◌, ℕ, ◌≤◌, ℤ, Bool, List, [], ◌∷◌, Option, Some}
+use Rattle.std.specs.Prelude.{◌≡◌, ℕ, ◌≤◌, ℤ, Bool, List, [], ◌∷◌, Option, Some, slice_get}
 use Rattle.scope_rules.specs.Class.{ObjectType}
-use Rattle.scope_rules.specs.World.{World as SourceWorld, Reference}
+use Rattle.scope_rules.specs.World.{World as SourceWorld, Installed, native, Reference}
 use Rattle.scope_rules.specs.Context.{Context as SourceContext}
 use Rattle.scope_rules.specs.Outcome.{Action as SourceAction}
 use Rattle.scope_rules.specs.Frame.{Frame as SourceFrame}
@@ -27,12 +27,16 @@ use Rattle.throw_simulation.specs.Raises.{StaysSound}
 abbrev pub IsBuilt : ℕ → ObjectType → ℕ → Flow → SourceWorld → Places → State → Type 0
 IsBuilt e t o flow w at s = (flow ≡ normal) × (at o ≡ Some (record { base = of_exception e; type = t }))
 
+-- no exception of this number is kept as built
+abbrev pub IsUnbuilt : ℕ → SourceWorld → Type 0
+IsUnbuilt e w = (i o : ℕ) (t : ObjectType) (kept : Installed) → slice_get w.live i ≡ Some (record { number = e; exception = native t o kept }) → ⊥
+
 -- Regions build the object of an exception as an action does. The address of the exception object is in its slot, and nothing stands there
 -- yet; slots before the temporaries are kept.
 abbrev pub BuildsAlike : Lowering → (own : Option ℕ) → Running → SourceFrame → SourceContext → ObjectType → SourceAction ℕ → List Region → Type 0
 BuildsAlike l own b v c t build rs =
     (at : Places) (w : SourceWorld) (s : State) (e : ℕ) → Stands l.layout l.program at c w s → Reaches l own at v s.frame
-    → s.frame.slots (exception_slot l) ≡ address_word (object_address e) → e ≤ w.last_number → ((o : ℕ) (x : Stood) → at o ≡ Some x → x.base ≡ of_exception e → ⊥)
+    → s.frame.slots (exception_slot l) ≡ address_word (object_address e) → e ≤ w.last_number → IsUnbuilt e w → ((o : ℕ) (x : Stood) → at o ≡ Some x → x.base ≡ of_exception e → ⊥)
     → Alike l.layout l.program at (first_temporary l) c w s (IsBuilt e t) (build w) (regions b (regions_from rs) (context_of w.open_calls c) s)
 
 -- what is said in each call of each function, in every context in which entries stay sound

@@ -3,6 +3,7 @@ ghost use Rattle.throw_simulation.specs.Copies.{CopiesAlike};
 ghost use Rattle.throw_simulation.specs.Doomed.{CheckedClassesAreOrdered, DoomedAlike};
 ghost use Rattle.throw_simulation.specs.Ends.{TerminatesAlike};
 ghost use Rattle.throw_simulation.specs.Handlers.{EntersAlike, HandlersEndAlike};
+ghost use Rattle.throw_simulation.specs.Operands.{OperandsThrowAlike};
 ghost use Rattle.throw_simulation.specs.Raises.{AllExpressionsEvaluate, EntriesStaySound, ModulesAnswerAlike, RaisesAlike};
 ghost use Rattle.throw_simulation.specs.Scopes.{BarriersAlike, DestroysAlike, ProtectsAlike, ScopesEndAlike};
 ghost use Rattle.throw_simulation.specs.Throws.{RethrowsAlike, ThrowsAlike};
@@ -110,3 +111,11 @@ pub fn rethrows_alike()
 pub fn copies_alike()
     ensures { CopiesAlike }
 {}
+
+/// `throw` does the same with each operand that can be thrown, an int, an object that is built from arguments or a copy of what names stand for,
+/// and without one.
+pub fn operands_throw_alike()
+    ensures { OperandsThrowAlike }
+{
+    caught_list_follows();
+}
