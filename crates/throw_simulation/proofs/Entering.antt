@@ -58,7 +58,7 @@ module _ (l : Layout) (p : Checked) (at : Places) (c : SourceContext) (w : Sourc
       ap {B = World} (λ xs. record world { caught = xs }) (laws.entered e c.travelling c.handled rests front))
       refl refl (omega arith) (stays e w.last_number w.live made_before rests front (sound_resting e c stands.sound)) stands.handlers (all_old w.live) stands
 
-  tested : (is_foreign (exception_at s.world e) && holds_other e s.world.caught) ≡ (source_is_foreign (source_exception_at w e) && some_of (λ f. not (f == e)) c.handled)
+  pub tested : (is_foreign (exception_at s.world e) && holds_other e s.world.caught) ≡ (source_is_foreign (source_exception_at w e) && some_of (λ f. not (f == e)) c.handled)
   tested =
       ap (λ x. is_foreign x && holds_other e s.world.caught) (exception_same l p at (with_travelling e c) w s stands e) ∙
       ap (λ x. x && holds_other e s.world.caught) (foreign_same p (source_exception_at w e)) ∙

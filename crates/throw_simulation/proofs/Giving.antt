@@ -98,7 +98,7 @@ module _ (l : Layout) (p : Checked) (at : Places) (m : ℕ) (c : SourceContext) 
   freed_after (source_stopped deep w2) y (s2, is, h) = (s2, ap (after_destructor e) is, h)
 
 -- an exception object stands at its exception
-object_refers : (l : Layout) (p : Checked) (at : Places) (c : SourceContext) (w : SourceWorld) (s : State) (i e o : ℕ) (t : ObjectType) (kept : Installed)
+pub object_refers : (l : Layout) (p : Checked) (at : Places) (c : SourceContext) (w : SourceWorld) (s : State) (i e o : ℕ) (t : ObjectType) (kept : Installed)
     → Stands l p at c w s → slice_get w.live i ≡ Some (record { number = e; exception = source_native t o kept }) → Refers l p at (whole o) t (object_address e)
 object_refers l p at c w s i e o t kept stands there = record {
   stood = record { base = of_exception e; type = t };

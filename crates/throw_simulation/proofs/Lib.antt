@@ -20,3 +20,8 @@ pub mod Constructing
 pub mod Building
 pub mod Ints
 pub mod Operands
+pub mod Tries
+pub mod Handling
+pub mod Parameters
+pub mod Catching
+pub mod Handlers

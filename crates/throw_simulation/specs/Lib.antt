@@ -8,3 +8,4 @@ pub mod Handlers
 pub mod Throws
 pub mod Copies
 pub mod Operands
+pub mod Tries

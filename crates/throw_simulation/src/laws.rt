@@ -7,6 +7,7 @@ ghost use Rattle.throw_simulation.specs.Operands.{OperandsThrowAlike};
 ghost use Rattle.throw_simulation.specs.Raises.{AllExpressionsEvaluate, EntriesStaySound, ModulesAnswerAlike, RaisesAlike};
 ghost use Rattle.throw_simulation.specs.Scopes.{BarriersAlike, DestroysAlike, ProtectsAlike, ScopesEndAlike};
 ghost use Rattle.throw_simulation.specs.Throws.{RethrowsAlike, ThrowsAlike};
+ghost use Rattle.throw_simulation.specs.Tries.{TriesAlike};
 
 use region_forms::laws::caught_list_follows;
 
@@ -119,3 +120,8 @@ pub fn operands_throw_alike()
 {
     caught_list_follows();
 }
+
+/// A try block does the same, over whatever is done in it and whatever its clauses do with an exception that comes out.
+pub fn tries_alike()
+    ensures { TriesAlike }
+{}
