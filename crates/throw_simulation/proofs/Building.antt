@@ -50,7 +50,7 @@ use Rattle.throw_simulation.specs.Throws.{IsBuilt}
 use Rattle.throw_simulation.proofs.Unset.{unset_is_shaped, unset_is_not_set}
 use Rattle.throw_simulation.proofs.Kept.{shaped_type}
 use Rattle.throw_simulation.proofs.Protecting.{leads_on}
-use Rattle.throw_simulation.proofs.Constructing.{built_by, copied_out}
+use Rattle.throw_simulation.proofs.Constructing.{built_by, copied_both}
 
 -- each argument has its parameter
 types_all : (types : List Ty) (es : Expressions) → count_of es ≡ length types → types_for types es ≡ types
@@ -173,4 +173,4 @@ module _ (l : Lowering) (own : Option ℕ) (call : Callee → Reference → List
         subst (λ z. Alike l.layout l.program at (first_temporary l) c w s (IsBuilt e (class_type k)) (new_copy a k source c w) z)
         (sym (single b (copied l k (thrown_place l) (place_of l names)) (context_of w.open_calls c) s))
         (built_on (source_behind_barrier a c (copy_object a k (whole o) source)) (region b (copied l k (thrown_place l) (place_of l names)) (context_of w.open_calls c))
-        (copied_out l.layout a b same bar (with_place at o stood) (first_temporary l) (first_temporary l) c w1 s (thrown_place l) (place_of l names) (whole o) source k can h1.stands leads1 comes))
+        (copied_both l.layout a b same bar (with_place at o stood) (first_temporary l) (first_temporary l) c w1 s (thrown_place l) (place_of l names) (whole o) source k can h1.stands leads1 comes).1)

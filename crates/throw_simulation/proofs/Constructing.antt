@@ -30,7 +30,7 @@ use Rattle.region_simulation.specs.Calls.{IsCallable, SameArguments}
 use Rattle.region_simulation.proofs.Following.{follows_now, keeps_all, alike_then}
 use Rattle.region_simulation.proofs.Flowing.{alike_after}
 use Rattle.throw_simulation.specs.Same.{RunAlike}
-use Rattle.throw_simulation.specs.Barred.{CallsAreBarred}
+use Rattle.throw_simulation.specs.Barred.{CallsAreBarred, StaysInside}
 use Rattle.throw_simulation.specs.Scopes.{Any, LeadsTo}
 use Rattle.throw_simulation.specs.Copies.{CopiesAlike}
 use Rattle.throw_simulation.proofs.Standing.{stands_guarded}
@@ -111,12 +111,13 @@ module _ (l : Layout) (a : SourceRunning) (b : Running) (same : RunAlike l a b) 
       (λ v v2 w2 s2 h e. (tt, s2, refl, (follows_now l a.program h.places m c w2 s2 h.stands, tt)))))
 
   -- an object is copied behind a barrier
-  pub copied_out : CallsAreBarred a → (at : Places) (n m : ℕ) (c : SourceContext) (w : SourceWorld) (s : State) (place from : Place) (target source : Reference) (k : ℕ)
+  pub copied_both : CallsAreBarred a → (at : Places) (n m : ℕ) (c : SourceContext) (w : SourceWorld) (s : State) (place from : Place) (target source : Reference) (k : ℕ)
       → IsCallable a.program (constructor k (copy_constructor a.program k)) → Stands l a.program at c w s
       → LeadsTo l a.program at n b.kinds s.frame place target k → LeadsTo l a.program at n b.kinds s.frame from source k
-      → Alike l a.program at m c w s (λ u flow w2 at2 s2. flow ≡ normal) (source_behind_barrier a c (copy_object a k target source) w)
+      → StaysInside (source_behind_barrier a c (copy_object a k target source) w) ×
+      Alike l a.program at m c w s (λ u flow w2 at2 s2. flow ≡ normal) (source_behind_barrier a c (copy_object a k target source) w)
       (region b (barrier (op (construct place (number_of a.program (constructor k (copy_constructor a.program k))) (arguments_from (address_argument from ∷ []))))) (context_of w.open_calls c) s)
-  copied_out bar at n m c w s place from target source k there stands leads comes =
+  copied_both bar at n m c w s place from target source k there stands leads comes =
       let d = guarded_by source_barrier c in
       let ctx = context_of w.open_calls c in
       let which = copy_constructor a.program k in
@@ -129,10 +130,12 @@ module _ (l : Layout) (a : SourceRunning) (b : Running) (same : RunAlike l a b) 
       (stands_guarded l a.program at source_barrier c w s stands) leads words (copy_passed l a.program at source k comes.address comes.refers) in
       let done = alike_after l a.program Any (λ u flow w2 at2 s2. flow ≡ normal) at m d w s (act d w) y (λ u. normal) (λ u v w2 at2 s2 any. refl) inner in
       let out = barred_out l a b same (λ u flow w2 at2 s2. flow ≡ normal) at m c w s (act d w) (continued y (λ u. pure normal))
-      (not_thrown_on (a.call (constructor k which) target (by_reference source ∷ []) d w) tt (bar (constructor k which) target (by_reference source ∷ []) c w stands.sound)) done in
-      alike_after l a.program (λ u flow w2 at2 s2. flow ≡ normal) (λ u flow w2 at2 s2. flow ≡ normal) at m c w s (source_behind_barrier a c act w)
-      (after_barrier b ctx (continued y (λ u. pure normal))) outwards (λ u flow w2 at2 s2 e. ap outwards e) out.1
+      (not_thrown_on (a.call (constructor k which) target (by_reference source ∷ []) d w) tt (bar (constructor k which) target (by_reference source ∷ []) c w stands.sound)) done in (
+        out.0,
+        alike_after l a.program (λ u flow w2 at2 s2. flow ≡ normal) (λ u flow w2 at2 s2. flow ≡ normal) at m c w s (source_behind_barrier a c act w)
+            (after_barrier b ctx (continued y (λ u. pure normal))) outwards (λ u flow w2 at2 s2 e. ap outwards e) out.1,
+      )
 
 pub copies_alike : CopiesAlike
 copies_alike l a b same bar at n m c w s place from target source k there stands leads comes =
-    copied_out l a b same bar at n m c w s place from target source k there stands leads comes
+    (copied_both l a b same bar at n m c w s place from target source k there stands leads comes).1

@@ -74,7 +74,7 @@ module _ (laws : CaughtListFollows) (l : Lowering) (own : Option ℕ) (gives : B
     keeps1 : Keeps k s.frame s1.frame
     keeps1 = slot_keeps k k (address_word (object_address e)) s.frame (omega arith)
 
-    reference_handled : (t : Ty) → IsReference t → IsNoObject (Some t) → variable_type l n ≡ t → (y : CaughtAs l.program w e (object_type t))
+    pub reference_handled : (t : Ty) → IsReference t → IsNoObject (Some t) → variable_type l n ≡ t → (y : CaughtAs l.program w e (object_type t))
         → IsReachedBy t k s1.frame (object_address e)
         → ((q : Reference) (f : SourceContext) → catch_parameter a (Some t) q f w ≡ source_done (bound_as w t q) w)
         → Alike l.layout l.program at k c w s (FlowAgrees l gives i d) (handle a e (Some t) x body v c w)

@@ -25,3 +25,6 @@ pub mod Handling
 pub mod Parameters
 pub mod Catching
 pub mod Handlers
+pub mod IntHandlers
+pub mod ObjectHandlers
+pub mod Clauses

@@ -9,3 +9,4 @@ pub mod Throws
 pub mod Copies
 pub mod Operands
 pub mod Tries
+pub mod Catches

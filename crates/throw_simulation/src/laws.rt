@@ -1,4 +1,5 @@
 // Laws of exceptions in lowered programs: calls of no effect, whose contracts state what holds of every program.
+ghost use Rattle.throw_simulation.specs.Catches.{HandlersCatchAlike, TryBlocksDoAlike};
 ghost use Rattle.throw_simulation.specs.Copies.{CopiesAlike};
 ghost use Rattle.throw_simulation.specs.Doomed.{CheckedClassesAreOrdered, DoomedAlike};
 ghost use Rattle.throw_simulation.specs.Ends.{TerminatesAlike};
@@ -125,3 +126,18 @@ pub fn operands_throw_alike()
 pub fn tries_alike()
     ensures { TriesAlike }
 {}
+
+/// Handlers catch alike: the first whose clause matches is entered, with its parameter, a copy behind a barrier that is destroyed when the body is
+/// left, an int, or a reference to the exception's object or its base; where none matches, the exception travels on.
+pub fn handlers_catch_alike()
+    ensures { HandlersCatchAlike }
+{
+    caught_list_follows();
+}
+
+/// A try block of statements with handlers does the same, where no exception that travels comes out of its statements.
+pub fn try_blocks_do_alike()
+    ensures { TryBlocksDoAlike }
+{
+    caught_list_follows();
+}
