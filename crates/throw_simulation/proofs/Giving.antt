@@ -43,7 +43,7 @@ others_live p e (x ∷ xs) = go (x.number == e) (others_live p e xs)
     go false ih = ap (λ ys. live_of p x ∷ ys) ih
 
 -- an element that is left was one before
-left_before : {A : Type 0} (test : A → Bool) (xs : List A) (i : ℕ) (y : A) → slice_get (filter test xs) i ≡ Some y → (j : ℕ) × (slice_get xs j ≡ Some y)
+pub left_before : {A : Type 0} (test : A → Bool) (xs : List A) (i : ℕ) (y : A) → slice_get (filter test xs) i ≡ Some y → (j : ℕ) × (slice_get xs j ≡ Some y)
 left_before test [] i y e = absurd (cc e)
 left_before test (x ∷ xs) i y e = go (test x) i e (λ j f. left_before test xs j y f)
   where

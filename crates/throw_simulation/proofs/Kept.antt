@@ -38,11 +38,11 @@ replaced_live p e x (y ∷ ys) = go (y.number == e) (replaced_live p e x ys)
     go false ih = ap (λ zs. live_of p y ∷ zs) ih
 
 -- one of the list is as it was, or the one that took a place
-data Replaces (e : ℕ) (x : SourceException) (xs : List SourceLive) (i : ℕ) (z : SourceLive) : Type 0 where
+pub data Replaces (e : ℕ) (x : SourceException) (xs : List SourceLive) (i : ℕ) (z : SourceLive) : Type 0 where
   is_new : (y : SourceLive) → slice_get xs i ≡ Some y → y.number ≡ e → z ≡ record { number = e; exception = x } → Replaces e x xs i z
   is_old : slice_get xs i ≡ Some z → Replaces e x xs i z
 
-replaces : (e : ℕ) (x : SourceException) (xs : List SourceLive) (i : ℕ) (z : SourceLive) → slice_get (map (source_replaced e x) xs) i ≡ Some z → Replaces e x xs i z
+pub replaces : (e : ℕ) (x : SourceException) (xs : List SourceLive) (i : ℕ) (z : SourceLive) → slice_get (map (source_replaced e x) xs) i ≡ Some z → Replaces e x xs i z
 replaces e x [] i z is = absurd (cc is)
 replaces e x (y ∷ ys) zero z is = go (y.number == e) refl is
   where

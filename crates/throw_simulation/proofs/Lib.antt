@@ -28,3 +28,6 @@ pub mod Handlers
 pub mod IntHandlers
 pub mod ObjectHandlers
 pub mod Clauses
+pub mod Faring
+pub mod FaringThrows
+pub mod FaringHandlers

@@ -19,7 +19,7 @@ use Rattle.throw_simulation.proofs.Caught.{front_unhandled}
 use Rattle.throw_simulation.proofs.Standing.{sound_later, stands_on}
 
 -- an element of a list with one behind it
-last_or_before : {A : Type 0} (xs : List A) (y z : A) (i : ℕ) → slice_get (xs ++ y ∷ []) i ≡ Some z → (slice_get xs i ≡ Some z) ⊎ (y ≡ z)
+pub last_or_before : {A : Type 0} (xs : List A) (y z : A) (i : ℕ) → slice_get (xs ++ y ∷ []) i ≡ Some z → (slice_get xs i ≡ Some z) ⊎ (y ≡ z)
 last_or_before [] y z zero e = inr (cc e)
 last_or_before [] y z (suc i) e = absurd (cc e)
 last_or_before (x ∷ xs) y z zero e = inl e
@@ -30,7 +30,7 @@ abbrev pub IsPlain : SourceException → Type 0
 IsPlain (source_native t o kept) = ⊥
 IsPlain _ = Unit {0}
 
-plain_only : (n e o : ℕ) (x : SourceException) (t : ObjectType) (kept : Installed) → IsPlain x
+pub plain_only : (n e o : ℕ) (x : SourceException) (t : ObjectType) (kept : Installed) → IsPlain x
     → ◌≡◌ {A = SourceLive} (record { number = n; exception = x }) (record { number = e; exception = source_native t o kept }) → ⊥
 plain_only n e o x t kept plain same = subst IsPlain (ap {A = SourceLive} (λ y. y.exception) same) plain
 

@@ -19,7 +19,7 @@ use Rattle.region_simulation.proofs.Builtins.{remembers_same}
 use Rattle.throw_simulation.specs.Raises.{EntriesStaySound}
 
 -- an exception is one of a list, or the one in front
-held : (e f : ℕ) (es : List ℕ) → contains (e ∷ es) f ≡ true → (f ≡ e) ⊎ (contains es f ≡ true)
+pub held : (e f : ℕ) (es : List ℕ) → contains (e ∷ es) f ≡ true → (f ≡ e) ⊎ (contains es f ≡ true)
 held e f es h = go (e == f) refl h
   where
     go : (b : Bool) → (e == f) ≡ b → (b || contains es f) ≡ true → (f ≡ e) ⊎ (contains es f ≡ true)

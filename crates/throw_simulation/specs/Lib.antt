@@ -10,3 +10,4 @@ pub mod Copies
 pub mod Operands
 pub mod Tries
 pub mod Catches
+pub mod Fares

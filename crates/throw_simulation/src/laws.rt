@@ -3,6 +3,7 @@ ghost use Rattle.throw_simulation.specs.Catches.{HandlersCatchAlike, TryBlocksDo
 ghost use Rattle.throw_simulation.specs.Copies.{CopiesAlike};
 ghost use Rattle.throw_simulation.specs.Doomed.{CheckedClassesAreOrdered, DoomedAlike};
 ghost use Rattle.throw_simulation.specs.Ends.{TerminatesAlike};
+ghost use Rattle.throw_simulation.specs.Fares.{FaringCallsAreBarred};
 ghost use Rattle.throw_simulation.specs.Handlers.{EntersAlike, HandlersEndAlike};
 ghost use Rattle.throw_simulation.specs.Operands.{OperandsThrowAlike};
 ghost use Rattle.throw_simulation.specs.Raises.{AllExpressionsEvaluate, EntriesStaySound, ModulesAnswerAlike, RaisesAlike};
@@ -141,3 +142,8 @@ pub fn try_blocks_do_alike()
 {
     caught_list_follows();
 }
+
+/// Where calls let out no exception but one that travelled not before and that no guard dooms, none comes out of a call behind a barrier.
+pub fn faring_calls_are_barred()
+    ensures { FaringCallsAreBarred }
+{}
