@@ -160,7 +160,7 @@ module _ (r : Running) (fare : CallsFare r) (n : ℕ) where
     while_handled_fares act fares =
         handler_fares c w few order e made rests front known (act (handling e c) w) (fares n w few (orderly_handling c w e made front order))
 
-  entry_fares : (c : Context) (w : World) (e : ℕ) → IsOrderly c w → Fares r.program n c w (enter r e c w)
+  pub entry_fares : (c : Context) (w : World) (e : ℕ) → IsOrderly c w → Fares r.program n c w (enter r e c w)
   entry_fares c w e order = go (is_foreign (exception_at w e) && some_of (λ f. not (f == e)) c.handled)
     where
       go : (z : Bool) → Fares r.program n c w ((if z then terminate r (with_travelling e c) else emit (Enter e)) w)

@@ -31,3 +31,4 @@ pub mod Clauses
 pub mod Faring
 pub mod FaringThrows
 pub mod FaringHandlers
+pub mod FaringSpecifications
