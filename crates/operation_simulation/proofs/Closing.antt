@@ -1,0 +1,101 @@
+-- What stands still does where calls newer than one are no longer live.
+use Rattle.std.proofs.Common.{◌≡◌, refl, ap₂, arith, ℕ, ◌+◌, ◌<◌, ◌≤◌, List, [], ◌∷◌}
+use Rattle.std.specs.Prelude.{◌&&◌, not, Bool, true, false}
+use Rattle.std.proofs.lemmas.Bool.Decides.{nat_tests}
+use Rattle.rv64_isa.specs.State.{Part}
+use Rattle.region_forms.specs.World.{Base, Word, nothing, number_word, address_word, flying, unwinding, Frame, World}
+use Rattle.linear_forms.specs.Activation.{Activation}
+use Rattle.code_simulation.specs.Frames.{WordHolds}
+use Rattle.operation_simulation.specs.Plan.{Plan, shape, setting}
+use Rattle.operation_simulation.specs.Extents.{newer}
+use Rattle.operation_simulation.specs.Calls.{CallStands, CallsWait}
+use Rattle.operation_simulation.specs.Matches.{UnitStands, MemoryMatches}
+use Rattle.operation_simulation.specs.Returns.{closed}
+
+both_are : (a b : Bool) → (a && not b) ≡ true → (a ≡ true) × (b ≡ false)
+both_are true false e = (refl, refl)
+both_are true true e = absurd (cc e)
+both_are false b e = absurd (cc e)
+
+-- what is live afterwards was so before, and is of no newer call
+pub live_before : (p : Plan) (c : ℕ) (b : Base) → (closed p c).live b ≡ true → (p.live b ≡ true) × (newer c b ≡ false)
+live_before p c b e = both_are (p.live b) (newer c b) e
+
+pub live_after : (p : Plan) (c : ℕ) (b : Base) → p.live b ≡ true → newer c b ≡ false → (closed p c).live b ≡ true
+live_after p c b e f = ap₂ (λ x y. x && not y) e f
+
+word_closed : (p : Plan) (c n : ℕ) (memory : List Part) (a : ℕ) (word : Word) → WordHolds (setting p n) memory a word → WordHolds (setting (closed p c) n) memory a word
+word_closed p c n memory a nothing h = tt
+word_closed p c n memory a (number_word z) h = h
+word_closed p c n memory a (address_word b) h = h
+word_closed p c n memory a (flying e target) h = h
+word_closed p c n memory a (unwinding k) h = tt
+
+call_closed : (p : Plan) (c n : ℕ) (frame : Frame) (v : World) (memory : List Part) (stack back : ℕ) → frame.call ≤ c → CallStands p n frame v memory stack back → CallStands (closed p c) n frame v memory stack back
+call_closed p c n frame v memory stack back old st = record {
+  known = st.known;
+  small = st.small;
+  above = st.above;
+  below = st.below;
+  holds = record {
+    room = st.holds.room;
+    slots = λ s inside. word_closed p c n memory _ (frame.slots s) (st.holds.slots s inside);
+    variables = st.holds.variables;
+    own = λ s inside. live_after p c _ (st.holds.own s inside) (grind (arith, nat_tests, old));
+    ints = λ a z live there. st.holds.ints a z (live_before p c a.base live).0 there;
+    reached = st.holds.reached;
+    all_globals = λ g inside. live_after p c _ (st.holds.all_globals g inside) refl;
+  };
+  slots = record { variables = st.slots.variables; whole = st.slots.whole; aligned = st.slots.aligned; ints = st.slots.ints };
+  begun = st.begun;
+  saved = st.saved;
+  alone = λ b live. st.alone b (live_before p c b live).0;
+  clear = λ b live not_newer. st.clear b (live_before p c b live).0 not_newer;
+}
+
+waits_closed : (p : Plan) (c : ℕ) (fs : List Activation) (v : World) (memory : List Part) (stack back limit : ℕ) → limit ≤ c → CallsWait p fs v memory stack back limit → CallsWait (closed p c) fs v memory stack back limit
+waits_closed p c [] v memory stack back limit old h = h
+waits_closed p c (a ∷ fs) v memory stack back limit old h =
+    let w = h.3 in (
+      h.0,
+      h.1,
+      h.2,
+      record {
+        callee = w.callee;
+        op = w.op;
+        there = w.there;
+        call = w.call;
+        calls = w.calls;
+        front = w.front;
+        is = w.is;
+        returns = w.returns;
+        stands = call_closed p c h.1 a.frame v memory stack h.2 (omega (arith, h.0, old)) w.stands;
+      },
+      waits_closed p c fs v memory (stack + (shape p h.1).size) h.2 a.frame.call (omega (arith, h.0, old)) h.4,
+    )
+
+-- the call that waits is the newest again
+pub popped : (p : Plan) (n m : ℕ) (frame : Frame) (a : Activation) (fs : List Activation) (v : World) (memory : List Part) (stack back outer : ℕ) → MemoryMatches p n frame (a ∷ fs) v memory stack back →
+    a.frame.call < frame.call → CallStands p m a.frame v memory (stack + (shape p n).size) outer → CallsWait p fs v memory (stack + (shape p n).size + (shape p m).size) outer a.frame.call →
+    MemoryMatches (closed p a.frame.call) m a.frame fs v memory (stack + (shape p n).size) outer
+popped p n m frame a fs v memory stack back outer h less stands waiting =
+    let c : ℕ = a.frame.call in
+    record {
+      top = call_closed p c m a.frame v memory (stack + (shape p n).size) outer (omega arith) stands;
+      newest = omega (arith, less, h.newest);
+      waiting = waits_closed p c fs v memory (stack + (shape p n).size + (shape p m).size) outer c (omega arith) waiting;
+      apart = record {
+        apart = λ b d live other differ. h.apart.apart b d (live_before p c b live).0 (live_before p c d other).0 differ;
+        may = λ b o k live inside. h.apart.may b o k (live_before p c b live).0 inside;
+        below = λ b live. h.apart.below b (live_before p c b live).0;
+        aligned = λ b live. h.apart.aligned b (live_before p c b live).0;
+      };
+      inside = λ b z live there. h.inside b z (live_before p c b.base live).0 there;
+      may = h.may;
+      last = λ b live. (live_before p c b live).1;
+      fresh = h.fresh;
+      unit = unit_closed p c memory h.unit;
+    }
+  where
+    unit_closed : (p : Plan) (c : ℕ) (memory : List Part) → UnitStands p memory → UnitStands (closed p c) memory
+    unit_closed p c memory h = record { few = h.few; short = h.short; frames = h.frames; registers = h.registers; start = h.start; functions = h.functions }

@@ -1,0 +1,5 @@
+use Rattle.operation_simulation.proofs.Units.{units_stand}
+use Rattle.operation_simulation.proofs.laws.units_stand.Goals as goal
+
+pub returns : goal.returns
+returns c = units_stand

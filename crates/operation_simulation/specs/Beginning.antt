@@ -1,0 +1,68 @@
+-- Main begins.
+use Rattle.std.specs.Prelude.{◌≡◌, ℕ, ◌+◌, ◌-◌, ◌*◌, ◌^◌, ◌<◌, ◌≤◌, ℤ, nat_lt, Bool, true, false, List, [], length, slice_get, Some}
+use Rattle.rv64_isa.specs.State.{State}
+use Rattle.rv64_isa.specs.Step.{x}
+use Rattle.eh_outer.specs.declared.module.Reply.{Reply}
+use Rattle.cxa_runtime.specs.World as abi
+use Rattle.cxa_runtime.specs.Raising.{Image}
+use Rattle.region_forms.specs.World.{Base, of_global, of_variable, of_exception}
+use Rattle.linear_forms.specs.Linear.{UnitCode}
+use Rattle.linear_forms.specs.UnitRun.{first_state}
+use Rattle.emission_forms.specs.Registers.{sp}
+use Rattle.emission_forms.specs.Emitted.{main_jump, target_byte}
+use Rattle.emission_forms.specs.StubCode.{stub_words}
+use Rattle.code_simulation.specs.Memory.{MayWrite}
+use Rattle.code_simulation.specs.Standing.{PiecesAt}
+use Rattle.code_simulation.specs.Frames.{IntAt}
+use Rattle.code_simulation.specs.Turning.{Reaches}
+use Rattle.code_simulation.specs.UnitAt.{ground_at, whole_words}
+use Rattle.operation_simulation.specs.Plan.{Plan, shape}
+use Rattle.operation_simulation.specs.Calls.{stack_end}
+use Rattle.operation_simulation.specs.Matches.{UnitStands, StackMay, Matches}
+use Rattle.operation_simulation.specs.Entering.{opened}
+
+-- the first byte of a global: they stand downwards below the records of types, which stand below the first word
+abbrev pub global_byte : UnitCode → ℕ → ℕ → ℕ
+global_byte u base g = base - (24 * length u.types + 4 * (g + 1))
+
+abbrev pub place_before : UnitCode → ℕ → Base → ℕ
+place_before u base (of_global g) = global_byte u base g
+place_before u base (of_variable c s) = 0
+place_before u base (of_exception e) = 0
+
+abbrev pub is_global : ℕ → Base → Bool
+is_global many (of_global g) = nat_lt g many
+is_global many (of_variable c s) = false
+is_global many (of_exception e) = false
+
+-- before main, globals alone are live
+abbrev pub plan_before : UnitCode → ℕ → Plan
+plan_before u base = record {
+  unit = u;
+  base = base;
+  at = place_before u base;
+  live = is_global (length u.globals);
+  size = λ b. 4;
+  ints = λ b. true;
+}
+
+-- A hart before the first word: the unit stands, sp is at the stack's end, and the globals have their values, all below the stack and near
+-- to the code.
+pub record StandsBefore (u : UnitCode) (base : ℕ) (s : State) : Type 0 where
+  pub pc : s.pc ≡ base
+  pub registers : length s.regs ≡ 32
+  pub stack : x s sp ≡ stack_end
+  pub unit : UnitStands (plan_before u base) s.memory
+  pub jump : PiecesAt s.memory (ground_at u base (record { target = target_byte u; label = λ l. l })) stub_words (main_jump u)
+  pub main : u.main < length u.functions
+  pub may : StackMay s.memory
+  pub deep : 24 * length u.types + 4 * length u.globals ≤ base
+  pub near : 4 * whole_words u + 24 * length u.types + 4 * length u.globals < 2 ^ 30
+  pub low : base ≤ 0x7000_0000
+  pub globals : (g : ℕ) (z : ℤ) → slice_get u.globals g ≡ Some z → IntAt s.memory (global_byte u base g) z
+  pub writable : (g o n : ℕ) → g < length u.globals → o + n ≤ 4 → MayWrite s.memory (global_byte u base g + o) n
+
+-- Eight turns lead from there to where the first operation of main begins in the machine for linear code, with the same input and replies.
+abbrev pub MainBegins : Type 0
+MainBegins = (image : Image) (u : UnitCode) (base : ℕ) (w : abi.World) (input : List ℕ) (replies : List (List Reply)) → StandsBefore u base w.hart → w.input ≡ input → w.replies ≡ replies → w.last_number ≡ 0 →
+    w.terminating ≡ false → Reaches image 8 w [] (λ v. Matches (opened (plan_before u base) u.main 0 (stack_end - (shape (plan_before u base) u.main).size)) (first_state u input replies) v)

@@ -1,0 +1,15 @@
+pub mod Plan
+pub mod Extents
+pub mod Calls
+pub mod Matches
+pub mod Operations
+pub mod Returns
+pub mod Entering
+pub mod Ending
+pub mod Lines
+pub mod Runs
+pub mod Fields
+pub mod Units
+pub mod Beginning
+pub mod Whole
+pub mod Laws

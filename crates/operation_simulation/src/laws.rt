@@ -1,0 +1,91 @@
+// Laws of operations on the machine: calls of no effect, whose contracts state what holds of every program.
+ghost use Rattle.operation_simulation.specs.Beginning.{MainBegins};
+ghost use Rattle.operation_simulation.specs.Ending.{MainsEnd};
+ghost use Rattle.operation_simulation.specs.Entering.{CallsRun};
+ghost use Rattle.operation_simulation.specs.Fields.{PiecesFit};
+ghost use Rattle.operation_simulation.specs.Laws.{OperationsRun, StoresStayApart};
+ghost use Rattle.operation_simulation.specs.Lines.{LinesRun};
+ghost use Rattle.operation_simulation.specs.Returns.{ReturnsRun};
+ghost use Rattle.operation_simulation.specs.Runs.{StepsRun};
+ghost use Rattle.operation_simulation.specs.Units.{UnitsStand};
+ghost use Rattle.operation_simulation.specs.Whole.{ProgramsRunPlainly};
+
+use code_simulation::laws::{addresses_are_computed, calls_are_turns, places_are_written};
+
+/// A store leaves all but what it is made to: open calls, return addresses, and ints at other addresses.
+pub fn stores_stay_apart()
+    ensures { StoresStayApart }
+{}
+
+/// Stores, binds, values, labels and jumps do on the ABI machine what they do on the machine for linear code. What is asked of a program
+/// is what well-formed regions, bounded frames and short functions give; that an address in a slot is one of live bytes is so as long as
+/// no reference outlives its object.
+pub fn operations_run()
+    ensures { OperationsRun }
+{
+    places_are_written();
+    addresses_are_computed();
+}
+
+/// A call of a compiled function begins on the ABI machine as it does on the machine for linear code, where the stack has room: what is
+/// passed is in the first slots of its frame, and the caller waits with the address behind the call.
+pub fn calls_run()
+    ensures { CallsRun }
+{
+    addresses_are_computed();
+}
+
+/// A call of a compiled function returns on the ABI machine as it does on the machine for linear code, with its value.
+pub fn returns_run()
+    ensures { ReturnsRun }
+{
+    places_are_written();
+}
+
+/// A line that the machine for linear code writes is written by the ABI machine.
+pub fn lines_run()
+    ensures { LinesRun }
+{
+    calls_are_turns();
+}
+
+/// Where main returns, the run of the ABI machine exits with what main gives.
+pub fn mains_end()
+    ensures { MainsEnd }
+{
+    calls_are_turns();
+}
+
+/// Runs of such steps, with calls inside one another, are matched as a whole: the same items, at most so many turns, and the exit number of
+/// main.
+pub fn steps_run()
+    ensures { StepsRun }
+{
+    places_are_written();
+    addresses_are_computed();
+    calls_are_turns();
+}
+
+/// Every piece that an operation of a short function becomes has its fields in their ranges.
+pub fn pieces_fit()
+    ensures { PiecesFit }
+{}
+
+/// Where all words of a unit stand, its functions stand as the simulation asks.
+pub fn units_stand()
+    ensures { UnitsStand }
+{}
+
+/// A new hart at a unit's first word comes to where main's first operation begins.
+pub fn main_begins()
+    ensures { MainBegins }
+{}
+
+/// A program whose main comes to its return by such steps runs alike on both machines: the same items, and the same exit number.
+pub fn programs_run_plainly()
+    ensures { ProgramsRunPlainly }
+{
+    places_are_written();
+    addresses_are_computed();
+    calls_are_turns();
+}
