@@ -4,7 +4,7 @@ use Rattle.run_items.specs.declared.item.Item.{Item}
 use Rattle.region_forms.specs.Form.{Kinds, Place, evaluate, store, bind}
 use Rattle.region_forms.specs.World.{Frame, World, written}
 use Rattle.region_forms.specs.Evaluation.{Location, in_memory, in_frame, locate}
-use Rattle.region_forms.specs.Effect.{goes, if_some, finished, stored_at}
+use Rattle.region_forms.specs.Effect.{goes, if_some, finished, stored_at, byte_of}
 use Rattle.linear_forms.specs.Linear.{LinearOp, plain, label, jump, jump_zero}
 use Rattle.linear_forms.specs.Activation.{State}
 use Rattle.operation_simulation.specs.Plan.{Plan, slot_kinds}
@@ -16,6 +16,8 @@ use Rattle.operation_simulation.proofs.Given.{same_beside}
 use Rattle.operation_simulation.proofs.Entering.{call_step}
 use Rattle.operation_simulation.proofs.Calling.{same_next, enters_to}
 use Rattle.operation_simulation.proofs.Returning.{return_step}
+use Rattle.operation_simulation.proofs.Reading.{taken, read_op, finished_step}
+use Rattle.linear_forms.specs.UnitRun.{code_of}
 
 -- what is stored is no item
 stored_items : (l : Location) (z : ℤ) (frame new_frame : Frame) (v u : World) → stored_at l z frame v ≡ goes new_frame u → u.items ≡ v.items
@@ -49,9 +51,14 @@ step_items : (p q : Plan) (st next : State) (most : ℕ) (items : List Item) →
 step_items p q st next most items (inl s) = nothing_more st next items s.nothing_shown (quiet_items p s.number st next s.operation s.at s.quiet)
 step_items p q st next most items (inr (inl s)) = s.line.more
 step_items p q st next most items (inr (inr (inl s))) =
+    let read = read_op p s.number s.wants st s.operation s.at.runs s.at.there s.reads in
+    let went = finished_step (code_of p.unit) (slot_kinds p s.number) s.wants (byte_of st.world.input) (taken st.world) st next (read.steps next s.at.step) in
+    nothing_more st next items s.nothing_shown
+    (ap (λ (y : State). y.world.items) (sym went.next_is) ∙ finished_items (slot_kinds p s.number) s.wants (byte_of st.world.input) st.top.frame went.frame (taken st.world) went.world went.stored)
+step_items p q st next most items (inr (inr (inr (inl s)))) =
     let went = same_next (enters_to p s.call.number s.given st) next (call_step p s.number st next s.operation s.call s.given s.at.runs s.at.there s.is s.passed s.at.step) in
     nothing_more st next items s.nothing_shown (ap (λ (y : State). y.world.items) (sym went) ∙ (same_beside (slot_kinds p s.call.number) st.world.calls 0 s.given st.world).items)
-step_items p q st next most items (inr (inr (inr s))) =
+step_items p q st next most items (inr (inr (inr (inr s)))) =
     let went = return_step p s.number s.caller st next s.waiting s.others s.result s.operation s.at.runs s.at.there s.frames s.callee s.waits s.at.step in
     nothing_more st next items s.nothing_shown
     (ap (λ (y : State). y.world.items) (sym went.next_is) ∙ finished_items (slot_kinds p s.caller) (wanted s.operation) went.value s.waiting.frame went.frame st.world went.world went.stored)

@@ -19,6 +19,7 @@ pub mod Entered
 pub mod Calling
 pub mod Ending
 pub mod Lines
+pub mod Reading
 pub mod Runs
 pub mod ValueFields
 pub mod Fields

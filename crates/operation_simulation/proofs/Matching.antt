@@ -52,7 +52,7 @@ some_steps g here words (suc n) s t from to runs some = omega arith
 
 -- ---- turns
 
-outside_stays : (v : World) (w u : abi.World) → SameRuntime w u → SameOutside v w → SameOutside v u
+pub outside_stays : (v : World) (w u : abi.World) → SameRuntime w u → SameOutside v w → SameOutside v u
 outside_stays v w u same h = record {
   input = same.input ∙ h.input;
   replies = same.replies ∙ h.replies;

@@ -158,7 +158,7 @@ return_step p n m st next a fs r o runs there frames callee waits h =
         to leaves_newest got e = absurd (cc e)
         to meaningless got e = absurd (cc e)
 
-outside_finished : (kinds : Kinds) (q : Option Place) (z : ℤ) (frame new_frame : Frame) (v new_world : World) (w : abi.World) → finished kinds q z frame v ≡ goes new_frame new_world → SameOutside v w →
+pub outside_finished : (kinds : Kinds) (q : Option Place) (z : ℤ) (frame new_frame : Frame) (v new_world : World) (w : abi.World) → finished kinds q z frame v ≡ goes new_frame new_world → SameOutside v w →
     SameOutside new_world w
 outside_finished kinds None z frame new_frame v new_world w e h = let same : v ≡ new_world = cc e in subst (λ u. SameOutside u w) same h
 outside_finished kinds (Some q) z frame new_frame v new_world w e h = by (locate kinds frame q) e

@@ -24,6 +24,7 @@ use Rattle.operation_simulation.proofs.Operations.{operations_run}
 use Rattle.operation_simulation.proofs.Returning.{returns_run}
 use Rattle.operation_simulation.proofs.Calling.{calls_run}
 use Rattle.operation_simulation.proofs.Lines.{lines_run}
+use Rattle.operation_simulation.proofs.Reading.{bytes_run}
 use Rattle.operation_simulation.proofs.Ending.{mains_end}
 
 -- what is matched is reached
@@ -53,9 +54,12 @@ step_reaches places addresses turns image p q st next w most items h (inr (inl s
     let line = lines_run turns image p s.number st next w s.operation s.value h s.at.runs s.at.there s.writes s.stands s.at.step in
     reached_by image p next w most items q (length (linear_code (shape p s.number) s.operation)) line.0 s.plan s.turns (same_line p s.number s.value st next items line.0 s.line line.1) line.2
 step_reaches places addresses turns image p q st next w most items h (inr (inr (inl s))) =
+    reached_by image p next w most items q (length (linear_code (shape p s.number) s.operation)) [] s.plan s.turns s.nothing_shown
+    (bytes_run places turns image p s.number st next w s.operation s.wants h s.at.runs s.at.there s.reads s.bytes s.stands s.at.step)
+step_reaches places addresses turns image p q st next w most items h (inr (inr (inr (inl s)))) =
     reached_by image (opened p s.call.number st.world.calls (frame_for p s.call.number (st.top ∷ st.frames))) next w most items q (length (linear_code (shape p s.number) s.operation) + 4) [] s.plan s.turns s.nothing_shown
     (calls_run addresses image p s.number st next w s.operation s.call s.given h s.at.runs s.at.there s.is s.passed s.fits s.at.step)
-step_reaches places addresses turns image p q st next w most items h (inr (inr (inr s))) =
+step_reaches places addresses turns image p q st next w most items h (inr (inr (inr (inr s)))) =
     reached_by image (closed p s.waiting.frame.call) next w most items q (length (linear_code (shape p s.number) (return s.result)) + length (stored_behind (shape p s.caller) s.operation)) [] s.plan s.turns s.nothing_shown
     (returns_run places image p s.number s.caller st next w s.waiting s.others s.result s.operation h s.at.runs s.at.there s.frames s.callee s.waits s.stands s.wants s.at.step)
 

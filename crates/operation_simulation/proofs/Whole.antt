@@ -26,7 +26,8 @@ one_step : (p q : Plan) (st next : State) (most : ℕ) (items : List Item) → S
 one_step p q st next most items (inl s) = record { goes = λ k. ap (go_on (exec (code_of p.unit) k)) s.at.step; unit = ap (λ (r : Plan). r.unit) s.plan }
 one_step p q st next most items (inr (inl s)) = record { goes = λ k. ap (go_on (exec (code_of p.unit) k)) s.at.step; unit = ap (λ (r : Plan). r.unit) s.plan }
 one_step p q st next most items (inr (inr (inl s))) = record { goes = λ k. ap (go_on (exec (code_of p.unit) k)) s.at.step; unit = ap (λ (r : Plan). r.unit) s.plan }
-one_step p q st next most items (inr (inr (inr s))) = record { goes = λ k. ap (go_on (exec (code_of p.unit) k)) s.at.step; unit = ap (λ (r : Plan). r.unit) s.plan }
+one_step p q st next most items (inr (inr (inr (inl s)))) = record { goes = λ k. ap (go_on (exec (code_of p.unit) k)) s.at.step; unit = ap (λ (r : Plan). r.unit) s.plan }
+one_step p q st next most items (inr (inr (inr (inr s)))) = record { goes = λ k. ap (go_on (exec (code_of p.unit) k)) s.at.step; unit = ap (λ (r : Plan). r.unit) s.plan }
 
 record AllSteps (n : ℕ) (p : Plan) (st last : State) (q : Plan) : Type 0 where
   goes : (k : ℕ) → exec (code_of p.unit) (n + k) st ≡ exec (code_of p.unit) k last

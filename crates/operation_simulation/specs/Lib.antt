@@ -7,6 +7,7 @@ pub mod Returns
 pub mod Entering
 pub mod Ending
 pub mod Lines
+pub mod Bytes
 pub mod Runs
 pub mod Fields
 pub mod Units

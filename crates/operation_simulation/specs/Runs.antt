@@ -6,7 +6,7 @@ use Rattle.cxa_runtime.specs.World as abi
 use Rattle.cxa_runtime.specs.Raising.{Image}
 use Rattle.cxa_runtime.specs.Run.{run}
 use Rattle.scope_rules.specs.Outcome.{exit}
-use Rattle.region_forms.specs.Form.{Value}
+use Rattle.region_forms.specs.Form.{Place, Value}
 use Rattle.region_forms.specs.World.{Word, World}
 use Rattle.linear_forms.specs.Linear.{LinearOp, return}
 use Rattle.linear_forms.specs.Stub.{compiled}
@@ -23,6 +23,7 @@ use Rattle.operation_simulation.specs.Operations.{IsQuiet, OperationStands}
 use Rattle.operation_simulation.specs.Returns.{closed, ResultStands, WantedStands}
 use Rattle.operation_simulation.specs.Entering.{opened, frame_for, given_to, CallFits}
 use Rattle.operation_simulation.specs.Lines.{Writes, LineIs}
+use Rattle.operation_simulation.specs.Bytes.{Reads, AreBytes}
 
 -- a step at an operation of the newest call
 pub record StepAt (p : Plan) (st next : State) (n : ℕ) (o : LinearOp) : Type 0 where
@@ -52,6 +53,19 @@ pub record LineStep (p : Plan) (st next : State) (q : Plan) (most : ℕ) (items 
   pub plan : q ≡ p
   pub turns : most ≡ length (linear_code (shape p number) operation)
   pub line : LineIs p number value st next items
+
+-- one that reads a byte
+pub record ByteStep (p : Plan) (st next : State) (q : Plan) (most : ℕ) (items : List Item) : Type 0 where
+  pub number : ℕ
+  pub operation : LinearOp
+  pub at : StepAt p st next number operation
+  pub wants : Option Place
+  pub reads : Reads wants operation
+  pub bytes : AreBytes st.world.input
+  pub stands : WantedStands p number st.top.frame wants
+  pub plan : q ≡ p
+  pub turns : most ≡ length (linear_code (shape p number) operation)
+  pub nothing_shown : items ≡ []
 
 -- one that calls a compiled function
 pub record CallStep (p : Plan) (st next : State) (q : Plan) (most : ℕ) (items : List Item) : Type 0 where
@@ -86,7 +100,8 @@ pub record ReturnStep (p : Plan) (st next : State) (q : Plan) (most : ℕ) (item
   pub nothing_shown : items ≡ []
 
 abbrev pub StepMade : Plan → State → State → Plan → ℕ → List Item → Type 0
-StepMade p st next q most items = QuietStep p st next q most items ⊎ LineStep p st next q most items ⊎ CallStep p st next q most items ⊎ ReturnStep p st next q most items
+StepMade p st next q most items =
+    QuietStep p st next q most items ⊎ LineStep p st next q most items ⊎ ByteStep p st next q most items ⊎ CallStep p st next q most items ⊎ ReturnStep p st next q most items
 
 -- so many of them, one after the other
 abbrev pub StepsMade : ℕ → Plan → State → State → Plan → ℕ → List Item → Type 0

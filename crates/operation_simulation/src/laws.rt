@@ -1,5 +1,6 @@
 // Laws of operations on the machine: calls of no effect, whose contracts state what holds of every program.
 ghost use Rattle.operation_simulation.specs.Beginning.{MainBegins};
+ghost use Rattle.operation_simulation.specs.Bytes.{BytesRun};
 ghost use Rattle.operation_simulation.specs.Ending.{MainsEnd};
 ghost use Rattle.operation_simulation.specs.Entering.{CallsRun};
 ghost use Rattle.operation_simulation.specs.Fields.{PiecesFit};
@@ -46,6 +47,14 @@ pub fn returns_run()
 pub fn lines_run()
     ensures { LinesRun }
 {
+    calls_are_turns();
+}
+
+/// A byte that the machine for linear code reads, or the end of the input that it finds, is read and found by the ABI machine.
+pub fn bytes_run()
+    ensures { BytesRun }
+{
+    places_are_written();
     calls_are_turns();
 }
 

@@ -1,0 +1,205 @@
+-- A byte is read alike.
+use Rattle.std.proofs.Common.{◌≡◌, ◌∙◌, refl, sym, ap, subst, arith, ℕ, ◌+◌, ◌<◌, ℤ, pos, negsuc, List, [], ◌∷◌, ◌++◌, length, Option, Some, None, inl, inr}
+use Rattle.std.specs.Prelude.{◌⊎◌, slice_get}
+use Rattle.std.proofs.lemmas.Bool.Decides.{nat_tests}
+use Rattle.cxx_ast.specs.declared.name.Builtin.TheVariants.{ReadByte}
+use Rattle.rv64_isa.specs.declared.step.Step.TheVariants.{Ecall}
+use Rattle.rv64_isa.specs.State.{State, state, with_reg}
+use Rattle.rv64_isa.specs.Step.{step_of, x}
+use Rattle.cxa_runtime.specs.World as abi
+use Rattle.cxa_runtime.specs.Raising.{Image}
+use Rattle.region_forms.specs.Form.{Kinds, Place, call_value, builtin, no_arguments, Op, evaluate, store, call}
+use Rattle.region_forms.specs.World.{Frame, World, number_word, with_slot, written}
+use Rattle.region_forms.specs.Evaluation.{Location, in_memory, in_frame, locate}
+use Rattle.region_forms.specs.Effect.{effect, goes, if_some, finished, stored_at, byte_of, bytes_after}
+use Rattle.linear_forms.specs.Linear.{LinearOp, plain}
+use Rattle.linear_forms.specs.Stub.{compiled}
+use Rattle.linear_forms.specs.Activation.{Code, State as LinearState, goes_to}
+use Rattle.linear_forms.specs.Machine.{step}
+use Rattle.linear_forms.specs.Operation.{performed}
+use Rattle.linear_forms.specs.UnitRun.{code_of}
+use Rattle.emission_forms.specs.Registers.{sp, a0, a7}
+use Rattle.emission_forms.specs.Piece.{Piece}
+use Rattle.emission_forms.specs.RuntimeCall.{runtime_call}
+use Rattle.emission_forms.specs.LinearCode.{linear_code}
+use Rattle.emission_forms.specs.Routine.{op_word}
+use Rattle.code_simulation.specs.Numbers.{IsInt, extended}
+use Rattle.code_simulation.specs.Standing.{Ground, PiecesAt}
+use Rattle.code_simulation.specs.Turning.{Turns, after_byte, after_step}
+use Rattle.code_simulation.specs.Laws.{PlacesAreWritten, CallsAreTurns}
+use Rattle.code_simulation.proofs.Fetching.{pieces_split}
+use Rattle.code_simulation.proofs.Registers.{set_length, read_same, read_other}
+use Rattle.code_simulation.proofs.Framing.{not_zero}
+use Rattle.code_simulation.proofs.Turning.{turns_then, executes_turns}
+use Rattle.operation_simulation.specs.Plan.{Plan, function, shape, slot_kinds, routine, first_word, setting}
+use Rattle.operation_simulation.specs.Calls.{stored_in}
+use Rattle.operation_simulation.specs.Matches.{MemoryMatches, Matches, SameOutside}
+use Rattle.operation_simulation.specs.Operations.{Matched}
+use Rattle.operation_simulation.specs.Returns.{WantedStands}
+use Rattle.operation_simulation.specs.Bytes.{Reads, AreBytes, BytesRun}
+use Rattle.operation_simulation.proofs.Words.{OperationAt, operation_at}
+use Rattle.operation_simulation.proofs.Matching.{Stands, stands_by, Arrives, outside_stays}
+use Rattle.operation_simulation.proofs.Quiet.{moved, step_is, plain_is}
+use Rattle.operation_simulation.proofs.Returning.{receives, outside_finished}
+use Rattle.operation_simulation.proofs.Lines.{matches_alike}
+
+-- ---- the step
+
+-- the world from which a byte is taken
+abbrev pub taken : World → World
+taken v = record v { input = bytes_after v.input }
+
+pub record ReadOp (p : Plan) (n : ℕ) (wants : Option Place) (st : LinearState) (o : LinearOp) : Type 0 where
+  pub pieces : linear_code (shape p n) o ≡ runtime_call 2 ++ stored_in (shape p n) wants
+  pub steps : (next : LinearState) → step (code_of p.unit) st ≡ goes_to next →
+      performed (code_of p.unit) (finished (slot_kinds p n) wants (byte_of st.world.input) st.top.frame (taken st.world)) st.top st.frames st.world ≡ goes_to next
+
+read_by : (p : Plan) (n : ℕ) (wants : Option Place) (st : LinearState) (o : LinearOp) (own : Option Place) (c : Op) → st.top.function ≡ compiled n → slice_get (function p n).ops st.top.place ≡ Some o → wants ≡ own → o ≡ plain c →
+    linear_code (shape p n) (plain c) ≡ runtime_call 2 ++ stored_in (shape p n) own →
+    performed (code_of p.unit) (finished (slot_kinds p n) own (byte_of st.world.input) st.top.frame (taken st.world)) st.top st.frames st.world
+    ≡ performed (code_of p.unit) (effect (slot_kinds p n) c st.top.frame st.world) st.top st.frames st.world → ReadOp p n wants st o
+read_by p n wants st o own c runs there same is code does = record {
+  pieces = ap (linear_code (shape p n)) is ∙ code ∙ ap (λ q. runtime_call 2 ++ stored_in (shape p n) q) (sym same);
+  steps = λ next e.
+      ap (λ q. performed (code_of p.unit) (finished (slot_kinds p n) q (byte_of st.world.input) st.top.frame (taken st.world)) st.top st.frames st.world) same
+      ∙ does ∙ sym (plain_is p n st c runs) ∙ sym (step_is p n st (plain c) runs (there ∙ ap Some is)) ∙ e;
+}
+
+pub read_op : (p : Plan) (n : ℕ) (wants : Option Place) (st : LinearState) (o : LinearOp) → st.top.function ≡ compiled n → slice_get (function p n).ops st.top.place ≡ Some o → Reads wants o → ReadOp p n wants st o
+read_op p n wants st o runs there h = by h.is
+  where
+    by : ((q : Place) × (wants ≡ Some q) × (o ≡ plain (store q (call_value (builtin ReadByte) no_arguments)))) ⊎
+        ((wants ≡ None) × (o ≡ plain (evaluate (call_value (builtin ReadByte) no_arguments)))) ⊎ ((wants ≡ None) × (o ≡ plain (call (builtin ReadByte) no_arguments))) → ReadOp p n wants st o
+    by (inl s) = read_by p n wants st o (Some s.0) (store s.0 (call_value (builtin ReadByte) no_arguments)) runs there s.1 s.2 refl refl
+    by (inr (inl s)) = read_by p n wants st o None (evaluate (call_value (builtin ReadByte) no_arguments)) runs there s.0 s.1 refl refl
+    by (inr (inr s)) = read_by p n wants st o None (call (builtin ReadByte) no_arguments) runs there s.0 s.1 refl refl
+
+-- a value that is stored or dropped
+pub record FinishedStep (kinds : Kinds) (wants : Option Place) (z : ℤ) (v : World) (st next : LinearState) : Type 0 where
+  pub frame : Frame
+  pub world : World
+  pub stored : finished kinds wants z st.top.frame v ≡ goes frame world
+  pub next_is : moved st (st.top.place + 1) frame world ≡ next
+
+pub finished_step : (code : Code) (kinds : Kinds) (wants : Option Place) (z : ℤ) (v : World) (st next : LinearState) → performed code (finished kinds wants z st.top.frame v) st.top st.frames st.world ≡ goes_to next →
+    FinishedStep kinds wants z v st next
+finished_step code kinds None z v st next e = record { frame = st.top.frame; world = v; stored = refl; next_is = cc e }
+finished_step code kinds (Some q) z v st next e = by (locate kinds st.top.frame q) refl e
+  where
+    put : (l : Location) → locate kinds st.top.frame q ≡ Some l → performed code (stored_at l z st.top.frame v) st.top st.frames st.world ≡ goes_to next → FinishedStep kinds (Some q) z v st next
+    put (in_memory a) is got = record {
+      frame = st.top.frame;
+      world = written a z v;
+      stored = ap (λ o. if_some o (λ l. stored_at l z st.top.frame v)) is;
+      next_is = cc got;
+    }
+    put (in_frame s) is got = record {
+      frame = with_slot s (number_word z) st.top.frame;
+      world = v;
+      stored = ap (λ o. if_some o (λ l. stored_at l z st.top.frame v)) is;
+      next_is = cc got;
+    }
+
+    by : (o : Option Location) → locate kinds st.top.frame q ≡ o → performed code (if_some o (λ l. stored_at l z st.top.frame v)) st.top st.frames st.world ≡ goes_to next → FinishedStep kinds (Some q) z v st next
+    by None is got = absurd (cc got)
+    by (Some l) is got = put l is got
+
+-- ---- the runtime call
+
+-- one turn puts what is read in a0
+record ReadTurn (image : Image) (u : abi.World) (behind : State) (v : World) : Type 0 where
+  int : IsInt (byte_of v.input)
+  after : abi.World
+  turn : Turns image 1 u after []
+  hart : after.hart ≡ state behind.pc (with_reg behind.regs a0 (extended (byte_of v.input))) behind.memory
+  outside : SameOutside (taken v) after
+
+byte_int : (b : ℕ) → b < 256 → IsInt (pos b)
+byte_int b small = grind (arith, nat_tests, small)
+
+byte_bits : (b : ℕ) → b < 256 → extended (pos b) ≡ b
+byte_bits b small = omega (arith, small)
+
+read_turn : CallsAreTurns → (image : Image) (u : abi.World) (behind : State) (v : World) → step_of u.hart ≡ (Ecall, behind) → x behind a7 ≡ 2 → AreBytes v.input → SameOutside v u → ReadTurn image u behind v
+read_turn turns image u behind v e number bytes h = by v.input refl bytes
+  where
+    by : (input : List ℕ) → v.input ≡ input → AreBytes input → ReadTurn image u behind v
+    by [] is ok =
+        let none : byte_of v.input ≡ negsuc 0 = ap byte_of is in
+        let last : abi.World = abi.gives a0 (extended (negsuc 0)) (after_step behind u) in
+        record {
+          int = subst IsInt (sym none) refl;
+          after = last;
+          turn = turns.no_byte image u behind e number (h.input ∙ is);
+          hart = ap (λ z. state behind.pc (with_reg behind.regs a0 (extended z)) behind.memory) (sym none);
+          outside = record { input = h.input ∙ is ∙ ap bytes_after (sym is); replies = h.replies; last_number = h.last_number; terminating = h.terminating };
+        }
+    by (b ∷ rest) is ok =
+        let some : byte_of v.input ≡ pos b = ap byte_of is in
+        record {
+          int = subst IsInt (sym some) (byte_int b ok.0);
+          after = after_byte b rest behind u;
+          turn = turns.byte image u behind b rest e number (h.input ∙ is);
+          hart = ap (λ k. state behind.pc (with_reg behind.regs a0 k) behind.memory) (sym (byte_bits b ok.0)) ∙ ap (λ z. state behind.pc (with_reg behind.regs a0 (extended z)) behind.memory) (sym some);
+          outside = record { input = ap bytes_after (sym is); replies = h.replies; last_number = h.last_number; terminating = h.terminating };
+        }
+
+-- ---- a byte
+
+read_runs : PlacesAreWritten → CallsAreTurns → (image : Image) (p : Plan) (n : ℕ) (st next : LinearState) (w : abi.World) (back : ℕ) (o : LinearOp) (wants : Option Place) → Stands p n st w back →
+    slice_get (function p n).ops st.top.place ≡ Some o → ReadOp p n wants st o → AreBytes st.world.input → WantedStands p n st.top.frame wants →
+    FinishedStep (slot_kinds p n) wants (byte_of st.world.input) (taken st.world) st next → Matched image (length (linear_code (shape p n) o)) w [] (λ u. Matches p next u)
+read_runs places turns image p n st next w back o wants h there read bytes stands went =
+    let g : Ground = (setting p n).ground in
+    let here : ℕ = first_word p n + op_word (routine p n) st.top.place in
+    let s : State = w.hart in
+    let rear : List Piece = stored_in (shape p n) wants in
+    let stood = operation_at p s.memory n st.top.place o h.memory.unit h.memory.top.known there in
+    let own : OperationAt p s.memory n st.top.place (runtime_call 2 ++ rear) = subst (OperationAt p s.memory n st.top.place) read.pieces stood in
+    let total : length (linear_code (shape p n) o) ≡ 2 + length rear = ap length read.pieces ∙ omega arith in
+    let parts = pieces_split s.memory g here (runtime_call 2) rear own.code in
+    let at = turns.call g here 2 s (omega arith) parts.0 h.pc h.registers in
+    let ran = executes_turns image 1 w s at.called refl at.first in
+    let u : abi.World = ran.after in
+    let stepped : step_of u.hart ≡ (Ecall, at.behind) = ap step_of ran.hart ∙ at.calls in
+    let outside : SameOutside st.world u = record {
+      input = ran.runtime.input ∙ h.outside.input;
+      replies = ran.runtime.replies ∙ h.outside.replies;
+      last_number = ran.runtime.last_number ∙ h.outside.last_number;
+      terminating = ran.runtime.terminating ∙ h.outside.terminating;
+    } in
+    let turn = read_turn turns image u at.behind st.world stepped at.is bytes outside in
+    let value : ℕ = extended (byte_of st.world.input) in
+    let t : State = state at.behind.pc (with_reg at.behind.regs a0 value) at.behind.memory in
+    let stack : x t sp ≡ x s sp = read_other at.behind.regs a0 sp value (λ e. absurd (omega (arith, e))) ∙ at.kept sp (λ e. absurd (omega (arith, e))) in
+    let held = matches_alike p n st.top.frame st.frames st.world (taken st.world) s.memory (x s sp) back refl refl h.memory in
+    let held_t : MemoryMatches p n st.top.frame st.frames (taken st.world) t.memory (x t sp) back
+    = subst (λ ps. MemoryMatches p n st.top.frame st.frames (taken st.world) ps (x t sp) back) (sym at.memory) (subst (λ a. MemoryMatches p n st.top.frame st.frames (taken st.world) s.memory a back) (sym stack) held) in
+    let code_t : PiecesAt t.memory g (here + 2) rear = subst (λ ps. PiecesAt ps g (here + 2) rear) (sym at.memory) parts.1 in
+    let got = receives places p n (here + 2) st.top.frame went.frame st.frames (taken st.world) went.world back wants (byte_of st.world.input) t held_t (set_length at.behind.regs a0 value ∙ at.registers) at.pc code_t turn.int
+    (read_same at.behind.regs a0 value (not_zero a0 (omega arith)) (omega (arith, at.registers))) stands went.stored in
+    let last = executes_turns image got.steps turn.after t got.after turn.hart got.runs in
+    let end : abi.World = last.after in
+    let to : LinearState = moved st (st.top.place + 1) went.frame went.world in
+    let there_end : Arrives p n to back end.hart = subst (Arrives p n to back) (sym last.hart) (record {
+      runs = h.runs;
+      registers = got.registers;
+      pc = got.pc ∙ omega (arith, stood.next, total);
+      memory = got.memory;
+    }) in
+    let outside_end : SameOutside went.world end
+    = outside_finished (slot_kinds p n) wants (byte_of st.world.input) st.top.frame went.frame (taken st.world) went.world end went.stored (outside_stays (taken st.world) turn.after end last.runtime turn.outside) in
+    subst (λ (y : LinearState). Matched image (length (linear_code (shape p n) o)) w [] (λ b. Matches p y b)) went.next_is (record {
+      turns = 1 + 1 + got.steps;
+      few = omega (arith, got.most, total);
+      some = λ words. omega arith;
+      after = end;
+      runs = turns_then image (1 + 1) got.steps w turn.after end [] [] (turns_then image 1 1 w u turn.after [] [] ran.turns turn.turn) last.turns;
+      holds = record { number = n; back = back; runs = there_end.runs; registers = there_end.registers; pc = there_end.pc; memory = there_end.memory; outside = outside_end };
+    })
+
+pub bytes_run : PlacesAreWritten → CallsAreTurns → BytesRun
+bytes_run places turns image p n st next w o wants h runs there reads bytes stands e =
+    let read = read_op p n wants st o runs there reads in
+    read_runs places turns image p n st next w h.back o wants (stands_by p n st w h runs) there read bytes stands
+    (finished_step (code_of p.unit) (slot_kinds p n) wants (byte_of st.world.input) (taken st.world) st next (read.steps next e))
