@@ -28,3 +28,4 @@ pub mod Jumping
 pub mod Beginning
 pub mod Items
 pub mod Whole
+pub mod Frames

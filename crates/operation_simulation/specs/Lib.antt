@@ -13,4 +13,5 @@ pub mod Fields
 pub mod Units
 pub mod Beginning
 pub mod Whole
+pub mod Frames
 pub mod Laws

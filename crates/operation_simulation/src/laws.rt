@@ -4,6 +4,7 @@ ghost use Rattle.operation_simulation.specs.Bytes.{BytesRun};
 ghost use Rattle.operation_simulation.specs.Ending.{MainsEnd};
 ghost use Rattle.operation_simulation.specs.Entering.{CallsRun};
 ghost use Rattle.operation_simulation.specs.Fields.{PiecesFit};
+ghost use Rattle.operation_simulation.specs.Frames.{FramesAreLaidOut};
 ghost use Rattle.operation_simulation.specs.Laws.{OperationsRun, StoresStayApart};
 ghost use Rattle.operation_simulation.specs.Lines.{LinesRun};
 ghost use Rattle.operation_simulation.specs.Returns.{ReturnsRun};
@@ -98,3 +99,8 @@ pub fn programs_run_plainly()
     addresses_are_computed();
     calls_are_turns();
 }
+
+/// Frames of no more than 2,032 bytes, as every checked program has them, are as the simulation asks.
+pub fn frames_are_laid_out()
+    ensures { FramesAreLaidOut }
+{}
