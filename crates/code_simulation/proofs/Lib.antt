@@ -19,7 +19,7 @@ mod Writing
 mod Addressing
 mod Initial
 mod Placing
-mod Fitting
+pub mod Fitting
 mod Imaged
 mod Starting
-mod Lowering
+pub mod Lowering
