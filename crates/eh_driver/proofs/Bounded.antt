@@ -1,5 +1,5 @@
 -- A command asks for no more than 2^40 turns or steps.
-use Rattle.std.proofs.Common.{◌≡◌, ◌≤◌, ◌^◌, ◌==◌, ℕ, Bool, true, false, List, [], ◌∷◌, Option, Some, None, refl, ap, sym, subst, arith, if◌then◌else◌}
+use Rattle.std.proofs.Common.{◌≡◌, ◌≤◌, ◌^◌, ◌==◌, ℕ, Bool, true, false, List, [], ◌∷◌, Option, Some, None, refl, ap, subst, arith, if◌then◌else◌}
 use Rattle.std.specs.Prelude.{nat_le, option_map}
 use Rattle.std.specs.Option.{option_and_then}
 use Rattle.std.specs.Str.Parse.{digits_value}
@@ -7,8 +7,8 @@ use Rattle.std.proofs.lemmas.Bool.Decides.{nat_tests}
 use Rattle.eh_outer.specs.declared.module.Reply.{Reply}
 use Rattle.command_line.specs.declared.command.Verb.{Verb}
 use Rattle.command_line.specs.declared.setting.Setting.{Setting}
-use Rattle.command_line.specs.Number.{is_decimal, up_to, number_of, not_zero, count_up_to}
-use Rattle.command_line.specs.Pieces.{Piece, pieces_of}
+use Rattle.command_line.specs.Number.{is_decimal, up_to, number_of, not_zero}
+use Rattle.command_line.specs.Pieces.{pieces_of}
 use Rattle.eh_driver.proofs.Sources.{some_same}
 use Rattle.command_line.specs.Command.{CommandView, FoundView, command_from, command_taking, command_of, at_most_one, exactly, found_in, max_of, scripts_of, switch_of, operand_count, settings_of, verb_of}
 

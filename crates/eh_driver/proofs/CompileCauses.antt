@@ -1,17 +1,15 @@
 -- From what the parts of `compile` say to the cause of a status.
-use Rattle.std.proofs.Common.{◌≡◌, ◌≤◌, ◌∙◌, ℕ, List, length, Option, Some, None, IfSome, Ok, Err, refl, ap, sym, subst}
+use Rattle.std.proofs.Common.{◌≡◌, ◌≤◌, ◌∙◌, ℕ, List, length, Option, Some, IfSome, Ok, Err, refl, ap, subst}
 use Rattle.std.specs.FinMap.{get, insert}
 use Rattle.cxx_ast.specs.declared.program.Checked.{Checked as CheckedValue}
-use Rattle.cxx_ast.specs.Plain.{Program}
-use Rattle.cxx_ast.specs.Checked.{IsChecked, Resolves, checked}
+use Rattle.cxx_ast.specs.Checked.{IsChecked}
 use Rattle.cxx_ast.specs.View.{checked_of}
-use Rattle.cxx_front.specs.Fate.{HasOnly, refused, valid}
+use Rattle.cxx_front.specs.Fate.{HasOnly, refused}
 use Rattle.cxx_front.specs.Answer.{Answers as FrontAnswers}
 use Rattle.cxx_front.specs.declared.error.SourceError.{SourceError}
 use Rattle.cxx_front.specs.declared.error.SourceError.TheVariants as errors
 use Rattle.cxx_image.specs.Image.{image_for}
-use Rattle.eh_outer.specs.Store.{Files, StoreView, Refuses, Stores}
-use Rattle.eh_outer.specs.declared.store.RefusalKind.{RefusalKind}
+use Rattle.eh_outer.specs.Store.{Files, StoreView}
 use Rattle.eh_driver.specs.declared.status.Status.{Status}
 use Rattle.eh_driver.specs.declared.status.Status.TheVariants.{Done, Usage, SourceRefused, ImageRefused, ReadFault, TooLong, WriteFault, NoMemory, Aborted, Budget, Stack, MachineFault, Undefined}
 use Rattle.eh_driver.specs.Answer.{status_of_refusal}

@@ -1,7 +1,7 @@
 -- What the causes of `compile` promise.
-use Rattle.std.proofs.Common.{◌≡◌, ◌⊎◌, ◌∙◌, inl, inr, ℕ, List, Option, Some, None, IfSome, refl, sym, ap, subst}
+use Rattle.std.proofs.Common.{◌≡◌, ◌⊎◌, ◌∙◌, inl, inr, ℕ, List, Some, IfSome, refl, ap, subst}
 use Rattle.std.specs.FinMap.{insert}
-use Rattle.eh_outer.specs.Store.{Files, StoreView}
+use Rattle.eh_outer.specs.Store.{StoreView}
 use Rattle.eh_outer.specs.Sink.{SinkView}
 use Rattle.cxx_ast.specs.Plain.{Program}
 use Rattle.cxx_ast.specs.Broken.{Valid}

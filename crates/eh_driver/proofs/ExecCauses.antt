@@ -1,6 +1,6 @@
 -- From what the parts of `exec` say to the cause of a status.
-use Rattle.std.proofs.Common.{◌≡◌, ◌≤◌, ◌<◌, ◌+◌, ◌++◌, ◌∷◌, ◌∙◌, ℕ, zero, suc, Bool, List, [], length, Option, Some, None, IfSome, Ok, Err, inl, inr, refl, sym, ap, subst, arith, append_assoc, append-nil}
-use Rattle.std.specs.Prelude.{Result, IsOkAnd, IsErrAnd}
+use Rattle.std.proofs.Common.{◌≡◌, ◌≤◌, ◌+◌, ◌++◌, ◌∙◌, ℕ, zero, suc, Bool, List, [], length, Some, IfSome, Ok, Err, inl, inr, refl, sym, ap, subst, arith, append_assoc, append-nil}
+use Rattle.std.specs.Prelude.{Result, IsErrAnd}
 use Rattle.std.specs.FinMap.{get}
 use Rattle.eh_outer.specs.Module.{ModuleView}
 use Rattle.eh_outer.specs.Store.{StoreView}
@@ -33,7 +33,7 @@ use Rattle.eh_driver.specs.File.{Unread}
 use Rattle.eh_driver.specs.Image.{image_limit, status_of}
 use Rattle.eh_driver.specs.Mean.{Asked, ToldInput, UnreadInput, input_limit}
 use Rattle.eh_driver.specs.RunEnd.{LastEnds, Ends, last_lines, run_lines, status_of_run}
-use Rattle.eh_driver.specs.Exec.{RunsThis, ToldRuns, RefusesToRun, RunEnds, ProgramRuns, ImageRuns, RunsWithInput, ExecCause}
+use Rattle.eh_driver.specs.Exec.{RunsThis, ToldRuns, RefusesToRun, ProgramRuns, ImageRuns, RunsWithInput, ExecCause}
 use Rattle.eh_driver.proofs.Causes.{told_from}
 use Rattle.eh_driver.proofs.Meanings.{lines_more}
 use Rattle.eh_driver.proofs.MeanCauses.{InputFrom, told_input, fault_since, length_since, told_since}

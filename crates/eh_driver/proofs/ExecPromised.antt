@@ -1,5 +1,5 @@
 -- What the causes of `exec` promise.
-use Rattle.std.proofs.Common.{◌≡◌, ◌⊎◌, ◌∙◌, inl, inr, ℕ, List, Option, Ok, Err, refl, sym, subst}
+use Rattle.std.proofs.Common.{◌≡◌, ◌⊎◌, ◌∙◌, inl, inr, ℕ, List, Ok, Err, refl, sym, subst}
 use Rattle.std.specs.Prelude.{Result, IsErrAnd}
 use Rattle.eh_outer.specs.Store.{StoreView}
 use Rattle.eh_outer.specs.Sink.{SinkView}

@@ -1,9 +1,11 @@
 -- From what the parts of `check` and `dump` say to the cause of a status.
-use Rattle.std.proofs.Common.{◌≡◌, ◌≤◌, ℕ, List, length, [], ◌∷◌, Some, IfSome, Ok, subst}
+use Rattle.std.proofs.Common.{Err, ◌≡◌, ◌≤◌, ℕ, List, length, [], ◌∷◌, Some, IfSome, Ok, subst}
 use Rattle.std.specs.Prelude.{IsErrAnd}
 use Rattle.std.specs.FinMap.{get}
 use Rattle.eh_outer.specs.Store.{StoreView}
-use Rattle.eh_outer.specs.Sink.{SinkView, Fails}
+use Rattle.eh_outer.specs.Sink.{SinkView, Fails, Puts}
+use Rattle.eh_outer.specs.declared.sink.SinkError.{SinkError}
+use Rattle.eh_outer.specs.declared.sink.SinkError.TheVariants.{Failed}
 use Rattle.table_check.specs.Checks.{ChecksImage}
 use Rattle.table_check.specs.declared.summary.Summary.{Summary}
 use Rattle.elf_image.specs.Clean.{CleanImage, clean}
@@ -15,6 +17,10 @@ use Rattle.eh_driver.specs.Image.{ImageEnds, ImageCause, check_lines, image_limi
 use Rattle.run_items.specs.Output.{FailsAmong}
 use Rattle.run_items.proofs.Puts.{fails_first}
 use Rattle.eh_driver.proofs.Causes.{told_from}
+
+-- a sink has one error
+pub failed_put : (piece : List ℕ) (old new : SinkView) (e : SinkError) → Puts piece old new (Err e) → Fails piece old new
+failed_put piece old new Failed h = h
 
 pub image_caused : (lines : CleanImage → List (List ℕ)) (name file : List ℕ) (old new : StoreView) (out out' : SinkView) (status : Status) → length file ≤ image_limit →
     IfSome old.files (λ m. get m name ≡ Some file) → ImageEnds lines file out out' status → ImageCause lines name old new out out' status

@@ -1,13 +1,6 @@
-pub mod Loop
-pub mod Few
 pub mod Words
 pub mod FirstLine
 pub mod Hexadecimal
-pub mod Coding
-pub mod Fetching
-pub mod Blocks
-pub mod Turns
-pub mod Main
 pub mod Causes
 pub mod ImageCauses
 pub mod Reports
@@ -23,5 +16,6 @@ pub mod ExecPromised
 pub mod CompileCauses
 pub mod CompilePromised
 pub mod RunCauses
+pub mod LiteralsShown
 pub mod RunPromised
 pub mod Promised

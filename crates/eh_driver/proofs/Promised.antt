@@ -1,5 +1,5 @@
 -- What the causes promise.
-use Rattle.std.proofs.Common.{◌≡◌, ◌⊎◌, inl, inr, ℕ, List, Option, Some, None, Result, Ok, Err, refl, sym, ap, subst, ◌∙◌}
+use Rattle.std.proofs.Common.{◌≡◌, inl, inr, ℕ, List, Option, Some, None, Result, Ok, Err, refl, sym, subst}
 use Rattle.std.specs.Prelude.{IsErrAnd}
 use Rattle.eh_outer.specs.Store.{StoreView}
 use Rattle.eh_outer.specs.Sink.{SinkView}
@@ -22,6 +22,7 @@ use Rattle.eh_driver.proofs.RunPromised.{run_promised}
 use Rattle.eh_driver.specs.Image.{ImageCause, ImagePromise, Judged, check_lines, dump_lines, image_limit, status_of}
 use Rattle.eh_driver.specs.Answer.{CommandCause, Cause}
 use Rattle.eh_driver.specs.Promise.{CommandPromise, Promise}
+use Rattle.literal_mains.specs.Laws.{LiteralMainsRun}
 
 -- a refusal that was answered is the one of the file
 refused_judged : (lines : CleanImage → List (List ℕ)) (read : Result CleanImage Fault) (out out' : SinkView) (status : Status) → IsErrAnd read (λ fault. status ≡ status_of (reported fault)) → out' ≡ out → Judged lines read out out' status
@@ -47,14 +48,14 @@ image_kept lines name old new out out' Stack h files file is there short store s
 image_kept lines name old new out out' (MachineFault kind place) h files file is there short store sink = absurd h
 image_kept lines name old new out out' Undefined h files file is there short store sink = absurd h
 
-command_promised : (verb : Verb) (a : Asked) (old new : StoreView) (out out' : SinkView) (status : Status) → CommandCause verb a old new out out' status → CommandPromise verb a old new out out' status
-command_promised Compile a old new out out' status cause = compile_promised a old new out out' status cause.0
-command_promised Run a old new out out' status cause = run_promised a old new out out' status cause
-command_promised Exec a old new out out' status cause = exec_promised a old new out out' status cause
-command_promised Mean a old new out out' status cause = mean_promised a old new out out' status cause
-command_promised Check a old new out out' status cause = image_kept check_lines a.source old new out out' status cause
-command_promised Dump a old new out out' status cause = image_kept dump_lines a.source old new out out' status cause
+command_promised : LiteralMainsRun → (verb : Verb) (a : Asked) (old new : StoreView) (out out' : SinkView) (status : Status) → CommandCause verb a old new out out' status → CommandPromise verb a old new out out' status
+command_promised law Compile a old new out out' status cause = compile_promised a old new out out' status cause.0
+command_promised law Run a old new out out' status cause = run_promised law a old new out out' status cause
+command_promised law Exec a old new out out' status cause = exec_promised a old new out out' status cause
+command_promised law Mean a old new out out' status cause = mean_promised a old new out out' status cause
+command_promised law Check a old new out out' status cause = image_kept check_lines a.source old new out out' status cause
+command_promised law Dump a old new out out' status cause = image_kept dump_lines a.source old new out out' status cause
 
-pub promised : (modules : List ModuleView) (command : Option CommandView) (old new : StoreView) (out out' : SinkView) (status : Status) → Cause modules command old new out out' status → Promise modules command old new out out' status
-promised modules None old new out out' status cause = tt
-promised modules (Some command) old new out out' status cause = command_promised command.verb (asked modules command) old new out out' status cause
+pub promised : LiteralMainsRun → (modules : List ModuleView) (command : Option CommandView) (old new : StoreView) (out out' : SinkView) (status : Status) → Cause modules command old new out out' status → Promise modules command old new out out' status
+promised law modules None old new out out' status cause = tt
+promised law modules (Some command) old new out out' status cause = command_promised law command.verb (asked modules command) old new out out' status cause

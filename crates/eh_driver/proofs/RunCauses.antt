@@ -1,10 +1,9 @@
 -- From what the parts of `run` say to the cause of a status.
-use Rattle.std.proofs.Common.{◌≡◌, ◌≤◌, ℕ, pos, Bool, true, false, List, length, Option, Some, None, IfSome, Ok, Err, inl, inr, refl, sym, subst, if◌then◌else◌}
+use Rattle.std.proofs.Common.{◌≡◌, ◌≤◌, ℕ, List, length, Some, IfSome, Ok, Err, inl, inr, refl, sym, subst}
 use Rattle.std.specs.FinMap.{get}
 use Rattle.std.specs.Prelude.{Result, IsOkAnd, IsErrAnd}
 use Rattle.eh_outer.specs.Store.{StoreView}
 use Rattle.eh_outer.specs.Sink.{SinkView}
-use Rattle.run_items.specs.Output.{TakesAll, FailsAmong}
 use Rattle.cxx_ast.specs.Plain.{Program, Checked}
 use Rattle.cxx_ast.specs.Checked.{checked}
 use Rattle.cxx_front.specs.Answer.{Answers as FrontAnswers}
@@ -12,6 +11,7 @@ use Rattle.cxx_front.specs.Fate.{HasOnly, refused, valid}
 use Rattle.cxx_front.specs.declared.error.SourceError.{SourceError}
 use Rattle.cxx_front.specs.declared.error.SourceError.TheVariants as errors
 use Rattle.cxx_image.specs.Image.{image_for}
+use Rattle.source_bounds.specs.Compiled.{emitted_for}
 use Rattle.eh_bytes.specs.Listed.{ListedUnit}
 use Rattle.table_forms.specs.Fault.{Fault}
 use Rattle.elf_image.specs.declared.error.ImageError.TheVariants as image_errors
@@ -26,30 +26,15 @@ use Rattle.eh_run.specs.Loads.{Loads}
 use Rattle.eh_run.specs.Program.{Program as ReadyProgram}
 use Rattle.eh_driver.specs.declared.status.Status.{Status}
 use Rattle.eh_driver.specs.declared.status.Status.TheVariants.{Done, Usage, SourceRefused, ImageRefused, ReadFault, TooLong, WriteFault, NoMemory, Aborted, Budget, Stack, MachineFault, Undefined}
-use Rattle.eh_driver.specs.Answer.{MainEnds, status_of_refusal}
+use Rattle.eh_driver.specs.Answer.{status_of_refusal}
 use Rattle.eh_driver.specs.Exec.{ProgramRuns}
 use Rattle.eh_driver.specs.File.{NamesRefusal, Unread, source_limit}
 use Rattle.eh_driver.specs.Mean.{Asked, ToldInput, UnreadInput, input_limit}
-use Rattle.eh_driver.specs.Output.{exit_pieces}
 use Rattle.eh_driver.specs.RunEnd.{run_lines, status_of_run}
-use Rattle.eh_driver.specs.RunSource.{Prints, SourcePrints, ToldPrints, ProgramPrints, SourceRuns, SourceRunsWithInput, RunCause, literal_main}
-use Rattle.eh_driver.specs.Source.{small_main}
+use Rattle.eh_driver.specs.RunSource.{SourcePrints, ToldPrints, ProgramPrints, SourceRuns, SourceRunsWithInput, RunCause}
 use Rattle.eh_driver.proofs.Causes.{told_from}
 use Rattle.eh_driver.proofs.ExecCauses.{no_memory, no_run_fault, no_run_length, runs_this}
 use Rattle.eh_driver.proofs.MeanCauses.{InputFrom, fault_since, length_since, told_input, told_since}
-
--- the main of literals is the program's
-pub literal_small : (a : Asked) (p : Checked) (main : List ℕ × ℕ) → literal_main a p ≡ Some main → small_main p ≡ Some main
-literal_small a p main is = go _ is
-  where
-    go : (test : Bool) → (if test then small_main p else None) ≡ Some main → small_main p ≡ Some main
-    go true is = is
-    go false is = absurd (cc is)
-
--- what is printed ends as a run does
-ended : (a : Asked) (main : Option (List ℕ × ℕ)) (image input : List ℕ) (lines : List (List ℕ)) (status : Status) → Prints a main image input lines status → (end : End) × (status ≡ status_of_run end)
-ended a (Some main) image input lines status (same, is) = (ends.Exit (pos 0), is)
-ended a None image input lines status (r, this, same, is) = (r.end, is)
 
 no_run_refusal : (end : End) (number place : ℕ) → SourceRefused number place ≡ status_of_run end → ⊥
 no_run_refusal (ends.Exit n) number place e = cc
@@ -58,23 +43,6 @@ no_run_refusal ends.Budget number place e = cc
 no_run_refusal ends.Stack number place e = cc
 no_run_refusal (ends.Fault kind at) number place e = cc
 no_run_refusal ends.WriteFault number place e = cc
-
--- a main of literals
-pub main_prints : (a : Asked) (lines : List ℕ) (answer : ℕ) (image input : List ℕ) (old new : SinkView) (status : Status) → MainEnds lines answer old new status →
-    ProgramPrints a (Some (lines, answer)) image input old new status
-main_prints a lines answer image input old new Done h = (exit_pieces lines answer, (refl, refl), h)
-main_prints a lines answer image input old new Usage h = absurd h
-main_prints a lines answer image input old new (SourceRefused number place) h = absurd h
-main_prints a lines answer image input old new (ImageRefused number place location other) h = absurd h
-main_prints a lines answer image input old new ReadFault h = absurd h
-main_prints a lines answer image input old new TooLong h = absurd h
-main_prints a lines answer image input old new WriteFault h = (exit_pieces lines answer, Done, (refl, refl), h)
-main_prints a lines answer image input old new NoMemory h = h
-main_prints a lines answer image input old new Aborted h = absurd h
-main_prints a lines answer image input old new Budget h = absurd h
-main_prints a lines answer image input old new Stack h = absurd h
-main_prints a lines answer image input old new (MachineFault kind place) h = absurd h
-main_prints a lines answer image input old new Undefined h = absurd h
 
 -- an image that can be run is not refused
 pub not_refused : (u : ListedUnit) (image : List ℕ) (number place location other : ℕ) → RunsUnit u image → IsReported (image_errors.Refused number place location other) (runnable image) → ⊥
@@ -85,21 +53,21 @@ not_refused u image number place location other runs is = go (runnable image) ru
     go (Err fault) never is = never
 
 -- a program that is ready, from its image
-pub image_prints : (a : Asked) (image input : List ℕ) (program : ReadyProgram) (old new : SinkView) → Loads (Ok program) (runnable image) → (status : Status) → ProgramRuns a program input old new status →
-    ProgramPrints a None image input old new status
-image_prints a image input program old new loads Done (r, is, h) = (run_lines a.trace a.count r, (r, runs_this a image input program old new loads r is, refl, h.0), h.1)
-image_prints a image input program old new loads Usage (r, is, h) = (run_lines a.trace a.count r, (r, runs_this a image input program old new loads r is, refl, h.0), h.1)
-image_prints a image input program old new loads (SourceRefused number place) (r, is, h) = (run_lines a.trace a.count r, (r, runs_this a image input program old new loads r is, refl, h.0), h.1)
-image_prints a image input program old new loads (ImageRefused number place location other) (r, is, h) = (run_lines a.trace a.count r, (r, runs_this a image input program old new loads r is, refl, h.0), h.1)
-image_prints a image input program old new loads ReadFault (r, is, h) = (run_lines a.trace a.count r, (r, runs_this a image input program old new loads r is, refl, h.0), h.1)
-image_prints a image input program old new loads TooLong (r, is, h) = (run_lines a.trace a.count r, (r, runs_this a image input program old new loads r is, refl, h.0), h.1)
-image_prints a image input program old new loads WriteFault (r, is, h) = (run_lines a.trace a.count r, status_of_run r.end, (r, runs_this a image input program old new loads r is, refl, refl), h)
-image_prints a image input program old new loads NoMemory (r, is, h) = absurd (no_memory r.end h.0)
-image_prints a image input program old new loads Aborted (r, is, h) = (run_lines a.trace a.count r, (r, runs_this a image input program old new loads r is, refl, h.0), h.1)
-image_prints a image input program old new loads Budget (r, is, h) = (run_lines a.trace a.count r, (r, runs_this a image input program old new loads r is, refl, h.0), h.1)
-image_prints a image input program old new loads Stack (r, is, h) = (run_lines a.trace a.count r, (r, runs_this a image input program old new loads r is, refl, h.0), h.1)
-image_prints a image input program old new loads (MachineFault kind place) (r, is, h) = (run_lines a.trace a.count r, (r, runs_this a image input program old new loads r is, refl, h.0), h.1)
-image_prints a image input program old new loads Undefined (r, is, h) = (run_lines a.trace a.count r, (r, runs_this a image input program old new loads r is, refl, h.0), h.1)
+pub program_prints : (a : Asked) (p : Checked) (input : List ℕ) (program : ReadyProgram) (old new : SinkView) → RunsUnit (emitted_for p) (image_for p) → Loads (Ok program) (runnable (image_for p)) → (status : Status) →
+    ProgramRuns a program input old new status → ProgramPrints a p input old new status
+program_prints a p input program old new stands loads Done (r, is, h) = (run_lines a.trace a.count r, (r, stands, runs_this a (image_for p) input program old new loads r is, refl, h.0), h.1)
+program_prints a p input program old new stands loads Usage (r, is, h) = (run_lines a.trace a.count r, (r, stands, runs_this a (image_for p) input program old new loads r is, refl, h.0), h.1)
+program_prints a p input program old new stands loads (SourceRefused number place) (r, is, h) = (run_lines a.trace a.count r, (r, stands, runs_this a (image_for p) input program old new loads r is, refl, h.0), h.1)
+program_prints a p input program old new stands loads (ImageRefused number place location other) (r, is, h) = (run_lines a.trace a.count r, (r, stands, runs_this a (image_for p) input program old new loads r is, refl, h.0), h.1)
+program_prints a p input program old new stands loads ReadFault (r, is, h) = (run_lines a.trace a.count r, (r, stands, runs_this a (image_for p) input program old new loads r is, refl, h.0), h.1)
+program_prints a p input program old new stands loads TooLong (r, is, h) = (run_lines a.trace a.count r, (r, stands, runs_this a (image_for p) input program old new loads r is, refl, h.0), h.1)
+program_prints a p input program old new stands loads WriteFault (r, is, h) = (run_lines a.trace a.count r, status_of_run r.end, (r, stands, runs_this a (image_for p) input program old new loads r is, refl, refl), h)
+program_prints a p input program old new stands loads NoMemory (r, is, h) = absurd (no_memory r.end h.0)
+program_prints a p input program old new stands loads Aborted (r, is, h) = (run_lines a.trace a.count r, (r, stands, runs_this a (image_for p) input program old new loads r is, refl, h.0), h.1)
+program_prints a p input program old new stands loads Budget (r, is, h) = (run_lines a.trace a.count r, (r, stands, runs_this a (image_for p) input program old new loads r is, refl, h.0), h.1)
+program_prints a p input program old new stands loads Stack (r, is, h) = (run_lines a.trace a.count r, (r, stands, runs_this a (image_for p) input program old new loads r is, refl, h.0), h.1)
+program_prints a p input program old new stands loads (MachineFault kind place) (r, is, h) = (run_lines a.trace a.count r, (r, stands, runs_this a (image_for p) input program old new loads r is, refl, h.0), h.1)
+program_prints a p input program old new stands loads Undefined (r, is, h) = (run_lines a.trace a.count r, (r, stands, runs_this a (image_for p) input program old new loads r is, refl, h.0), h.1)
 
 -- what the front end answers decides what becomes of the source
 pub refused_source : (a : Asked) (source input : List ℕ) (old : SinkView) (e : SourceError) → FrontAnswers source (Err e) → SourceRuns a source input old old (status_of_refusal e)
@@ -107,12 +75,12 @@ refused_source a source input old (errors.Refused number place) h = (h, refl)
 refused_source a source input old errors.NoMemory h = refl
 
 module _ (a : Asked) (source input : List ℕ) (p : Program) (only : HasOnly source (valid p)) (old new : SinkView) where
-  pub source_prints : (status : Status) → ProgramPrints a (literal_main a (checked p)) (image_for (checked p)) input old new status → SourceRuns a source input old new status
+  pub source_prints : (status : Status) → ProgramPrints a (checked p) input old new status → SourceRuns a source input old new status
   source_prints Done (lines, prints, took) = (lines, (p, only, prints), took)
   source_prints Usage (lines, prints, took) = (lines, (p, only, prints), took)
   source_prints (SourceRefused number place) (lines, prints, took) =
-      let (end, is) = ended a (literal_main a (checked p)) (image_for (checked p)) input lines (SourceRefused number place) prints in
-      absurd (no_run_refusal end number place is)
+      let (r, stands, this, same, is) = prints in
+      absurd (no_run_refusal r.end number place is)
   source_prints (ImageRefused number place location other) (lines, prints, took) = (lines, (p, only, prints), took)
   source_prints ReadFault (lines, prints, took) = (lines, (p, only, prints), took)
   source_prints TooLong (lines, prints, took) = (lines, (p, only, prints), took)
@@ -126,7 +94,7 @@ module _ (a : Asked) (source input : List ℕ) (p : Program) (only : HasOnly sou
 
 -- what is printed of a source ends as a run does
 source_ended : (a : Asked) (source input : List ℕ) (lines : List (List ℕ)) (status : Status) → SourcePrints a lines status source input → (end : End) × (status ≡ status_of_run end)
-source_ended a source input lines status (p, only, prints) = ended a (literal_main a (checked p)) (image_for (checked p)) input lines status prints
+source_ended a source input lines status (p, only, (r, stands, this, same, is)) = (r.end, is)
 
 -- a source with the input that was read
 pub input_prints : (a : Asked) (source input : List ℕ) (old new : StoreView) (out out' : SinkView) (status : Status) → InputFrom a.input old input →

@@ -1,5 +1,5 @@
 -- The last lines of a run, put one after another.
-use Rattle.std.proofs.Common.{◌≡◌, List, [], ◌∷◌, ℕ}
+use Rattle.std.proofs.Common.{List, [], ◌∷◌, ℕ}
 use Rattle.std.specs.Prelude.{Result, Ok, Err}
 use Rattle.eh_outer.specs.Sink.{SinkView, Puts}
 use Rattle.eh_outer.specs.declared.sink.SinkError.{SinkError}

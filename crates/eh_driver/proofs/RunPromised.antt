@@ -1,5 +1,5 @@
 -- What the causes of `run` promise.
-use Rattle.std.proofs.Common.{◌≡◌, ◌⊎◌, ◌∙◌, inl, inr, ℕ, List, Option, Some, None, refl, sym, ap, subst}
+use Rattle.std.proofs.Common.{◌≡◌, ◌⊎◌, inl, inr, ℕ, List, refl, subst}
 use Rattle.eh_outer.specs.Store.{StoreView}
 use Rattle.eh_outer.specs.Sink.{SinkView, Gains}
 use Rattle.cxx_ast.specs.Plain.{Program}
@@ -7,15 +7,15 @@ use Rattle.cxx_ast.specs.Broken.{Valid}
 use Rattle.cxx_ast.specs.Checked.{checked}
 use Rattle.cxx_front.specs.Source.{IsProgram, IsRefused}
 use Rattle.cxx_front.specs.Fate.{HasOnly, refused, valid}
-use Rattle.cxx_image.specs.Image.{image_for}
 use Rattle.run_items.specs.Output.{TakesAll, bytes_of}
 use Rattle.eh_driver.specs.declared.status.Status.{Status}
 use Rattle.eh_driver.specs.declared.status.Status.TheVariants.{Done, Usage, SourceRefused, ImageRefused, ReadFault, TooLong, WriteFault, NoMemory, Aborted, Budget, Stack, MachineFault, Undefined}
 use Rattle.eh_driver.specs.File.{source_limit}
 use Rattle.eh_driver.specs.Mean.{Asked, ToldInput, UnreadEither}
-use Rattle.eh_driver.specs.Output.{exit_pieces}
-use Rattle.eh_driver.specs.RunSource.{Prints, SourcePrints, ToldPrints, RunCause, literal_main}
-use Rattle.eh_driver.specs.Promise.{MeanUndisturbed, Means, ShowsImage, RunPromise}
+use Rattle.eh_driver.specs.RunSource.{Prints, SourcePrints, ToldPrints, RunCause}
+use Rattle.eh_driver.specs.Promise.{MeanUndisturbed, ShowsImage, ShowsLiterals, RunPromise}
+use Rattle.literal_mains.specs.Laws.{LiteralMainsRun}
+use Rattle.eh_driver.proofs.LiteralsShown.{literals_shown}
 use Rattle.eh_driver.proofs.Sources.{told_of, valid_same, not_refused, same_refusal}
 use Rattle.eh_driver.proofs.MeanPromised.{input_of, not_unread, not_long}
 
@@ -39,18 +39,18 @@ module _ (a : Asked) (source input : List ℕ) (old new : StoreView) (out out' :
 
   module _ (p : Program) (program : IsProgram source p) (holds : Valid p) where
     -- it is what is printed of the valid program
-    program_so : (lines : List (List ℕ)) (status : Status) → ToldPrints a lines status old → Prints a (literal_main a (checked p)) (image_for (checked p)) input lines status
+    program_so : (lines : List (List ℕ)) (status : Status) → ToldPrints a lines status old → Prints a (checked p) input lines status
     program_so lines status told = go (prints_so lines status told)
       where
-        go : SourcePrints a lines status source input → Prints a (literal_main a (checked p)) (image_for (checked p)) input lines status
-        go (q, only, prints) = subst (λ x. Prints a (literal_main a (checked x)) (image_for (checked x)) input lines status) (valid_same (only.only (valid p) (program, holds))) prints
+        go : SourcePrints a lines status source input → Prints a (checked p) input lines status
+        go (q, only, prints) = subst (λ x. Prints a (checked x) input lines status) (valid_same (only.only (valid p) (program, holds))) prints
 
     -- a valid source is not refused
     not_refused_so : (number place : ℕ) → RunCause a old new out out' (SourceRefused number place) → ⊥
     not_refused_so number place h = let same : refused number place ≡ valid p = (refused_so number place h).only (valid p) (program, holds) in cc
 
     -- what was printed, whatever that means
-    module _ (P : Status → Type 0) (shown : (lines : List (List ℕ)) (status : Status) → Prints a (literal_main a (checked p)) (image_for (checked p)) input lines status → TakesAll lines out out' → P status) where
+    module _ (P : Status → Type 0) (shown : (lines : List (List ℕ)) (status : Status) → Prints a (checked p) input lines status → TakesAll lines out out' → P status) where
       taken : (status : Status) (lines : List (List ℕ)) → ToldPrints a lines status old → TakesAll lines out out' → (status ≡ NoMemory) ⊎ P status
       taken status lines told took = inr (shown lines status (program_so lines status told) took)
 
@@ -92,28 +92,18 @@ module _ (a : Asked) (source input : List ℕ) (old new : StoreView) (out out' :
     refuses_so (MachineFault kind at) (lines, told, took) = absurd (valid_not number place lines (MachineFault kind at) told is)
     refuses_so Undefined (lines, told, took) = absurd (valid_not number place lines Undefined told is)
 
--- a main of literals
-literals_shown : (a : Asked) (lines : List ℕ) (answer : ℕ) (image input : List ℕ) (out out' : SinkView) (main : Option (List ℕ × ℕ)) → main ≡ Some (lines, answer) → (pieces : List (List ℕ)) (status : Status) →
-    Prints a main image input pieces status → TakesAll pieces out out' → (status ≡ Done) × Gains (bytes_of (exit_pieces lines answer)) out out'
-literals_shown a lines answer image input out out' (Some main) is pieces status (same, done) took =
-    let one : main ≡ (lines, answer) = cc is in
-    (done, subst (λ t. Gains (bytes_of t) out out') (same ∙ ap (λ m. exit_pieces m.0 m.1) one) took.gains)
-literals_shown a lines answer image input out out' None is pieces status prints took = absurd (cc is)
+-- what is printed of a program's image
+image_shown : (a : Asked) (p : Program) (input : List ℕ) (out out' : SinkView) (pieces : List (List ℕ)) (status : Status) →
+    Prints a (checked p) input pieces status → TakesAll pieces out out' → ShowsImage a p input out out' status
+image_shown a p input out out' pieces status (r, stands, this, same, end) took = (r, this, end, subst (λ t. Gains (bytes_of t) out out') same took.gains)
 
--- any other program
-image_shown : (a : Asked) (p : Program) (input : List ℕ) (out out' : SinkView) (main : Option (List ℕ × ℕ)) → main ≡ None → (pieces : List (List ℕ)) (status : Status) →
-    Prints a main (image_for (checked p)) input pieces status → TakesAll pieces out out' → ShowsImage a p input out out' status
-image_shown a p input out out' (Some main) is pieces status prints took = absurd (cc is)
-image_shown a p input out out' None is pieces status (r, this, same, end) took = (r, this, end, subst (λ t. Gains (bytes_of t) out out') same took.gains)
-
-pub run_promised : (a : Asked) (old new : StoreView) (out out' : SinkView) (status : Status) → RunCause a old new out out' status → RunPromise a old new out out' status
-run_promised a old new out out' status cause = record {
-  literals = λ source input lines answer u means.
-      let (p, program, holds, is) = means in
-      printed_so a source input old new out out' u p program holds (λ s. (s ≡ Done) × Gains (bytes_of (exit_pieces lines answer)) out out')
-      (literals_shown a lines answer (image_for (checked p)) input out out' (literal_main a (checked p)) is) status cause;
-  shows = λ source input p u program holds is.
-      printed_so a source input old new out out' u p program holds (ShowsImage a p input out out')
-      (image_shown a p input out out' (literal_main a (checked p)) is) status cause;
+pub run_promised : LiteralMainsRun → (a : Asked) (old new : StoreView) (out out' : SinkView) (status : Status) → RunCause a old new out out' status → RunPromise a old new out out' status
+run_promised law a old new out out' status cause = record {
+  shows = λ source input p u program holds.
+      printed_so a source input old new out out' u p program holds (ShowsImage a p input out out') (image_shown a p input out out') status cause;
+  literals = λ source input lines answer u means enough.
+      let (p, program, holds, main) = means in
+      printed_so a source input old new out out' u p program holds (ShowsLiterals a lines answer out out')
+      (literals_shown law a source p program holds lines answer main enough input out out') status cause;
   refuses = λ source input number place u is. refuses_so a source input old new out out' u number place is status cause;
 }

@@ -1,9 +1,9 @@
 -- When each status comes, and what it leaves.
-use Rattle.std.specs.Prelude.{◌≡◌, ◌⊎◌, ◌≤◌, ⊤, ℕ, List, length, Option, Some, None}
+use Rattle.std.specs.Prelude.{◌≡◌, ◌⊎◌, ⊤, ℕ, List, Option, Some, None}
 use Rattle.eh_outer.specs.Store.{StoreView, Rose}
 use Rattle.eh_outer.specs.Sink.{SinkView, Gains}
 use Rattle.eh_driver.specs.declared.status.Status.{Status}
-use Rattle.eh_driver.specs.declared.status.Status.TheVariants.{Done, Usage, SourceRefused, WriteFault, NoMemory}
+use Rattle.eh_driver.specs.declared.status.Status.TheVariants.{Done, Usage, SourceRefused, NoMemory}
 use Rattle.command_line.specs.declared.command.Verb.{Verb}
 use Rattle.command_line.specs.declared.command.Verb.TheVariants.{Compile, Run, Exec, Mean, Check, Dump}
 use Rattle.command_line.specs.declared.error.WordsError.{WordsError}
@@ -15,29 +15,14 @@ use Rattle.eh_driver.specs.Mean.{Asked, MeanCause}
 use Rattle.eh_driver.specs.Exec.{ExecCause}
 use Rattle.eh_driver.specs.Compile.{CompileCause}
 use Rattle.eh_driver.specs.RunSource.{RunCause}
-use Rattle.cxx_ast.specs.Limits.{most_tokens}
 use Rattle.cxx_front.specs.declared.error.SourceError.{SourceError}
 use Rattle.cxx_front.specs.declared.error.SourceError.TheVariants as errors
 use Rattle.eh_driver.specs.Image.{ImageCause, check_lines, dump_lines}
-use Rattle.run_items.specs.Output.{TakesAll, FailsAmong}
-use Rattle.eh_driver.specs.Output.{exit_pieces}
 
 -- the status of a source that the front end refuses
 abbrev pub status_of_refusal : SourceError → Status
 status_of_refusal (errors.Refused number place) = SourceRefused number place
 status_of_refusal errors.NoMemory = NoMemory
-
--- when the run of a main gives each status, and what it leaves of the sink
-abbrev pub MainEnds : List ℕ → ℕ → SinkView → SinkView → Status → Type 0
-MainEnds lines answer old new Done = TakesAll (exit_pieces lines answer) old new
-MainEnds lines answer old new WriteFault = FailsAmong (exit_pieces lines answer) old new
-MainEnds lines answer old new NoMemory = new ≡ old
-MainEnds lines answer old new status = ⊥
-
--- a main has no more lines than a source has tokens
-abbrev pub AreFew : Option (List ℕ × ℕ) → Type 0
-AreFew (Some main) = length main.0 ≤ most_tokens
-AreFew None = Unit {0}
 
 -- when each command gives each status
 abbrev pub CommandCause : Verb → Asked → StoreView → StoreView → SinkView → SinkView → Status → Type 0

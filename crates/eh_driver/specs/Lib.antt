@@ -1,8 +1,4 @@
-pub mod Seen
-pub mod Source
-pub mod Code
 pub mod Output
-pub mod Run
 pub mod Status
 pub mod Lines
 pub mod File

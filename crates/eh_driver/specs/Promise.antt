@@ -1,5 +1,5 @@
 -- What the commands promise where nothing fails.
-use Rattle.std.specs.Prelude.{◌≡◌, ◌≤◌, ◌⊎◌, ⊤, ℕ, Bool, List, [], length, Option, Some, None, Ok, Err}
+use Rattle.std.specs.Prelude.{◌≡◌, ◌≤◌, ◌⊎◌, ◌++◌, ⊤, ℕ, Bool, List, [], length, Option, Some, None, Ok, Err}
 use Rattle.std.specs.FinMap.{get, insert}
 use Rattle.eh_outer.specs.Store.{Files, StoreView, Rose}
 use Rattle.eh_outer.specs.Sink.{SinkView, Gains}
@@ -19,7 +19,8 @@ use Rattle.cxx_ast.specs.Checked.{checked}
 use Rattle.cxx_front.specs.Source.{IsProgram, IsRefused}
 use Rattle.cxx_image.specs.Image.{image_for}
 use Rattle.eh_driver.specs.Exec.{RunsThis}
-use Rattle.eh_driver.specs.RunSource.{literal_main}
+use Rattle.literal_mains.specs.Main.{small_main}
+use Rattle.literal_mains.specs.Laws.{enough_steps}
 use Rattle.run_items.specs.Output.{bytes_of}
 use Rattle.eh_driver.specs.Output.{exit_pieces}
 use Rattle.eh_driver.specs.File.{source_limit}
@@ -31,7 +32,7 @@ use Rattle.cxa_runtime.specs.Run.{Ran}
 use Rattle.eh_run.specs.Program.{program_of}
 use Rattle.eh_run.specs.Runs.{IsRun}
 use Rattle.eh_driver.specs.Image.{ImagePromise, check_lines, dump_lines, image_limit, status_of}
-use Rattle.eh_driver.specs.RunEnd.{run_lines, status_of_run}
+use Rattle.eh_driver.specs.RunEnd.{count_lines, run_lines, status_of_run}
 
 -- a told file of a name within a limit, where neither the store nor the sink fails
 pub record Undisturbed (limit : ℕ) (name source : List ℕ) (old new : StoreView) (out out' : SinkView) : Type 0 where
@@ -60,23 +61,27 @@ pub record MeanUndisturbed (a : Asked) (source input : List ℕ) (old new : Stor
   pub calm : Undisturbed source_limit a.source source old new out out'
   pub given : InputIs a.input calm.files input
 
--- the source is a valid program, whose main is of these literals, or of no such form
-abbrev pub Means : Asked → List ℕ → Option (List ℕ × ℕ) → Type 0
-Means a source main = (p : Program) × IsProgram source p × Valid p × (literal_main a (checked p) ≡ main)
-
 -- the lines of a run of the program's image went out, and the status is that of its end
 abbrev pub ShowsImage : Asked → Program → List ℕ → SinkView → SinkView → Status → Type 0
 ShowsImage a p input out out' status =
     (r : Ran) × RunsThis a r (image_for (checked p)) input × (status ≡ status_of_run r.end) × Gains (bytes_of (run_lines a.trace a.count r)) out out'
 
--- Where nothing disturbs: of a main of literals, where steps are neither counted nor bounded by an option, the lines of its literals and the
--- end line go out, and the status is Done; of any other valid source the lines of a run of its image, and the status is that of its end;
--- one that is refused is refused by its number and place. Or memory ran out.
+-- the source is a valid program, a main that writes these literals and returns one
+abbrev pub Means : List ℕ → List ℕ → ℕ → Type 0
+Means source lines answer = (p : Program) × IsProgram source p × Valid p × (small_main (checked p) ≡ Some (lines, answer))
+
+-- the lines of literals went out, with the end line and, if asked, a count, and the status is Done
+abbrev pub ShowsLiterals : Asked → List ℕ → ℕ → SinkView → SinkView → Status → Type 0
+ShowsLiterals a lines answer out out' status = (steps : ℕ) × (status ≡ Done) × Gains (bytes_of (exit_pieces lines answer ++ count_lines a.count steps)) out out'
+
+-- Where nothing disturbs: of a valid source the lines of a run of its image go out, and the status is that of its end. Of one that is a main
+-- of literals, where at least 2^20 steps are allowed, these are its literals, and the status is Done. One that is refused is refused by its
+-- number and place. Or memory ran out.
 pub record RunPromise (a : Asked) (old new : StoreView) (out out' : SinkView) (status : Status) : Type 0 where
-  pub literals : (source input lines : List ℕ) (answer : ℕ) → MeanUndisturbed a source input old new out out' → Means a source (Some (lines, answer)) →
-      (status ≡ NoMemory) ⊎ ((status ≡ Done) × Gains (bytes_of (exit_pieces lines answer)) out out')
-  pub shows : (source input : List ℕ) (p : Program) → MeanUndisturbed a source input old new out out' → IsProgram source p → Valid p → literal_main a (checked p) ≡ None →
+  pub shows : (source input : List ℕ) (p : Program) → MeanUndisturbed a source input old new out out' → IsProgram source p → Valid p →
       (status ≡ NoMemory) ⊎ ShowsImage a p input out out' status
+  pub literals : (source input lines : List ℕ) (answer : ℕ) → MeanUndisturbed a source input old new out out' → Means source lines answer → enough_steps ≤ a.turns →
+      (status ≡ NoMemory) ⊎ ShowsLiterals a lines answer out out' status
   pub refuses : (source input : List ℕ) (number place : ℕ) → MeanUndisturbed a source input old new out out' → IsRefused source number place →
       (status ≡ NoMemory) ⊎ (status ≡ SourceRefused number place)
 

@@ -1,51 +1,41 @@
 -- When `run FILE` gives each status, and what it prints.
-use Rattle.std.specs.Prelude.{◌≡◌, ℕ, ◌==◌, ◌&&◌, not, List, Option, Some, None, if◌then◌else◌}
+use Rattle.std.specs.Prelude.{◌≡◌, ℕ, List}
 use Rattle.cxx_ast.specs.Plain.{Program, Checked}
 use Rattle.cxx_ast.specs.Checked.{checked}
 use Rattle.cxx_front.specs.Fate.{HasOnly, refused, valid}
 use Rattle.cxx_image.specs.Image.{image_for}
+use Rattle.source_bounds.specs.Compiled.{emitted_for}
+use Rattle.image_link.specs.Runs.{RunsUnit}
 use Rattle.eh_outer.specs.Store.{StoreView}
 use Rattle.eh_outer.specs.Sink.{SinkView}
 use Rattle.run_items.specs.Output.{TakesAll, FailsAmong}
 use Rattle.cxa_runtime.specs.Run.{Ran}
 use Rattle.eh_driver.specs.declared.status.Status.{Status}
-use Rattle.eh_driver.specs.declared.status.Status.TheVariants.{Done, SourceRefused, ReadFault, TooLong, WriteFault, NoMemory}
+use Rattle.eh_driver.specs.declared.status.Status.TheVariants.{SourceRefused, ReadFault, TooLong, WriteFault, NoMemory}
 use Rattle.eh_driver.specs.Exec.{RunsThis}
 use Rattle.eh_driver.specs.File.{Told, source_limit}
 use Rattle.eh_driver.specs.Mean.{Asked, ToldInput, UnreadEither, UnreadInput}
-use Rattle.eh_driver.specs.Output.{exit_pieces}
 use Rattle.eh_driver.specs.RunEnd.{run_lines, status_of_run}
-use Rattle.eh_driver.specs.Source.{small_main}
 
--- the most steps where no option says so
-abbrev pub usual_steps : ℕ
-usual_steps = 10000000
-
--- the lines and the answer of a main of literals, where steps are neither counted nor bounded by an option
-abbrev pub literal_main : Asked → Checked → Option (List ℕ × ℕ)
-literal_main a p = if not a.count && a.turns == usual_steps then small_main p else None
-
--- What is printed of a program, with the status: of such a main its literals, and else the lines of a run of the program's image, whose
--- end decides.
-abbrev pub Prints : Asked → Option (List ℕ × ℕ) → (image input : List ℕ) → List (List ℕ) → Status → Type 0
-Prints a (Some main) image input lines status = (lines ≡ exit_pieces main.0 main.1) × (status ≡ Done)
-Prints a None image input lines status =
-    (r : Ran) × RunsThis a r image input × (lines ≡ run_lines a.trace a.count r) × (status ≡ status_of_run r.end)
+-- What is printed of a checked program with an input, with the status: the lines of a run of its image, whose end decides. The image is one
+-- to run, and stands for what is emitted for the program.
+abbrev pub Prints : Asked → Checked → (input : List ℕ) → List (List ℕ) → Status → Type 0
+Prints a p input lines status =
+    (r : Ran) × RunsUnit (emitted_for p) (image_for p) × RunsThis a r (image_for p) input × (lines ≡ run_lines a.trace a.count r) × (status ≡ status_of_run r.end)
 
 -- so of a source, which is a valid program
 abbrev pub SourcePrints : Asked → List (List ℕ) → Status → (source input : List ℕ) → Type 0
-SourcePrints a lines status source input =
-    (p : Program) × HasOnly source (valid p) × Prints a (literal_main a (checked p)) (image_for (checked p)) input lines status
+SourcePrints a lines status source input = (p : Program) × HasOnly source (valid p) × Prints a (checked p) input lines status
 
 -- so of the told source with the told input
 abbrev pub ToldPrints : Asked → List (List ℕ) → Status → StoreView → Type 0
 ToldPrints a lines status store = Told source_limit store a.source (λ source. ToldInput store a.input (SourcePrints a lines status source))
 
--- what becomes of a program with an input: the lines go out, and the status is theirs; or a line fails; or memory ran out
-abbrev pub ProgramPrints : Asked → Option (List ℕ × ℕ) → (image input : List ℕ) → SinkView → SinkView → Status → Type 0
-ProgramPrints a main image input old new NoMemory = new ≡ old
-ProgramPrints a main image input old new WriteFault = (lines : List (List ℕ)) × (end : Status) × Prints a main image input lines end × FailsAmong lines old new
-ProgramPrints a main image input old new status = (lines : List (List ℕ)) × Prints a main image input lines status × TakesAll lines old new
+-- what becomes of a checked program with an input: the lines go out, and the status is theirs; or a line fails; or memory ran out
+abbrev pub ProgramPrints : Asked → Checked → (input : List ℕ) → SinkView → SinkView → Status → Type 0
+ProgramPrints a p input old new NoMemory = new ≡ old
+ProgramPrints a p input old new WriteFault = (lines : List (List ℕ)) × (end : Status) × Prints a p input lines end × FailsAmong lines old new
+ProgramPrints a p input old new status = (lines : List (List ℕ)) × Prints a p input lines status × TakesAll lines old new
 
 -- what becomes of a source with an input
 abbrev pub SourceRuns : Asked → (source input : List ℕ) → SinkView → SinkView → Status → Type 0

@@ -19,6 +19,7 @@ use crate::run_source::run_file;
 use crate::status::Status;
 use command_line::{Command, Verb, read_words};
 use eh_outer::{Module, Sink, Store};
+use literal_mains::laws::literal_mains_run;
 use std::alloc::Global;
 
 // The first of some names.
@@ -133,7 +134,7 @@ pub fn ehc<St: Store, Out: Sink, Er: Sink>(
     err: &mut Er,
     modules: Vec<Box<dyn Module>>,
 ) -> Status
-    // What a source that is built, a meaning, and an image come to where nothing fails.
+    // What a source, its meaning and an image come to where nothing fails.
     ensures promise { Promise (map (λ b. (Module-box b).view b.value) modules.items) (command_of (texts words.now.items)) (St.view store.old) (St.view store.new) (Out.view out.old) (Out.view out.new) result }
 
     // When each status comes, and what it leaves of the store's refusals and of `out`.
@@ -141,5 +142,6 @@ pub fn ehc<St: Store, Out: Sink, Er: Sink>(
     ensures files { KeepsFiles (command_of (texts words.now.items)) (St.view store.old) (St.view store.new) result }
     ensures report { Reports (text_of_status (refused_name (St.view store.new)) result) (Er.view err.old) (Er.view err.new) }
 {
+    literal_mains_run();
     answer(alloc, words, store, out, err, modules)
 }

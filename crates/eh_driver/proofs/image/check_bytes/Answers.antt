@@ -1,6 +1,5 @@
 use Rattle.eh_driver.specs.Image.{summary_line}
-use Rattle.eh_driver.proofs.Main.{failed_put}
-use Rattle.eh_driver.proofs.ImageCauses.{summary_failed}
+use Rattle.eh_driver.proofs.ImageCauses.{failed_put, summary_failed}
 use Rattle.eh_driver.proofs.image.check_bytes.Goals as goal
 
 pub returns-in-Err-Failed : goal.returns-in-Err-Failed

@@ -1,11 +1,7 @@
 use Rattle.std.proofs.Common.{map, subst, sym}
-use Rattle.cxx_image.specs.Image.{image_for}
-use Rattle.eh_driver.specs.Answer.{AreFew}
 use Rattle.eh_driver.specs.Question.{asked_by}
-use Rattle.eh_driver.specs.RunSource.{ProgramPrints, SourceRuns, literal_main}
-use Rattle.eh_driver.specs.Source.{small_main}
+use Rattle.eh_driver.specs.RunSource.{ProgramPrints, SourceRuns}
 use Rattle.eh_driver.proofs.CompileCauses.{is_checked}
-use Rattle.eh_driver.proofs.Few.{few}
 use Rattle.eh_driver.proofs.RunCauses.{refused_source, source_prints}
 use Rattle.eh_driver.proofs.run_source.run_source.Goals as goal
 
@@ -17,16 +13,11 @@ returns-in-Err g c =
 
 pub run_program-requires : goal.run_program-requires
 run_program-requires g c =
-    let (p, only, resolved) = c.in-Ok.ensures in
-    record {
-      turns = c.requires.turns;
-      program = is_checked c.args.source.now c.in-Ok.program c.in-Ok.ensures;
-      few = subst (λ x. AreFew (small_main x)) (sym resolved) (few c.args.source.now p only.is.0);
-    }
+    record { turns = c.requires.turns; program = is_checked c.args.source.now c.in-Ok.program c.in-Ok.ensures }
 
 pub returns-in-Ok : goal.returns-in-Ok
 returns-in-Ok g c =
     let a = asked_by c.args.question.now (map g.M.Module.view c.args.modules.items) in
     let (p, only, resolved) = c.in-Ok.ensures in
     source_prints a c.args.source.now c.args.input.now p only (g.Out.Sink.view c.args.out.now) (g.Out.Sink.view c.run_program.new.out) c.run_program.result
-    (subst (λ x. ProgramPrints a (literal_main a x) (image_for x) c.args.input.now (g.Out.Sink.view c.args.out.now) (g.Out.Sink.view c.run_program.new.out) c.run_program.result) resolved c.run_program.ensures)
+    (subst (λ x. ProgramPrints a x c.args.input.now (g.Out.Sink.view c.args.out.now) (g.Out.Sink.view c.run_program.new.out) c.run_program.result) resolved c.run_program.ensures)
