@@ -42,7 +42,7 @@ use Rattle.region_simulation.proofs.Expressions.{types_all, expressions_pass}
 use Rattle.statement_simulation.specs.Sequences.{GoesOn}
 use Rattle.statement_simulation.specs.Statements.{SourceCalls}
 use Rattle.statement_simulation.specs.Members.{CanDefault, CanCopyFrom}
-use Rattle.statement_simulation.proofs.OwnParts.{Leads, AlwaysLeads, store_goes, construct_goes}
+use Rattle.statement_simulation.proofs.OwnParts.{Leads, construct_here, AlwaysLeads, store_goes, construct_goes}
 
 shaped_type : (p : Checked) (t : ObjectType) (a : Part) → Shaped p t a → part_type a ≡ t
 shaped_type p int_type (cell v) h = refl
@@ -67,11 +67,13 @@ module _ (l : Lowering) (own : Option ℕ) (call : SourceCalls) (b : Running) (v
           ap (λ t. derives l.program t (class_type k)) (shaped_type l.program (lvalue_type l names) (part_of w (lvalue l.program w v names)) (refers_shaped w stands.memory refers))
 
   -- an object is built from arguments
-  pub arguments_construct : (place : Place) (r : Reference) (j : ℕ) (es : Expressions) → AlwaysLeads l own b v c place r (class_type j) → CanConstruct l own v.variables j es
-      → GoesOn l own b v c (source_construct (source_running l call) v j es r c)
-      (constructed (number_of l.program (constructor j (constructor_chosen l j es))) place
-      (lower_arguments l es (constructor_types l.program j (constructor_chosen l j es)) (first_temporary l)))
-  arguments_construct place r j es leads can at w s stands reach =
+  pub arguments_here : (place : Place) (r : Reference) (j : ℕ) (es : Expressions) → CanConstruct l own v.variables j es
+      → (at : Places) (w : SourceWorld) (s : State) → Stands l.layout l.program at c w s → Reaches l own at v s.frame
+      → Leads l.layout l.program at (first_temporary l) b.kinds s.frame place r (class_type j)
+      → Alike l.layout l.program at (first_temporary l) c w s (λ u flow w2 at2 s2. flow ≡ normal) (source_construct (source_running l call) v j es r c w)
+      (regions b (regions_from (constructed (number_of l.program (constructor j (constructor_chosen l j es))) place
+      (lower_arguments l es (constructor_types l.program j (constructor_chosen l j es)) (first_temporary l)))) (context_of w.open_calls c) s)
+  arguments_here place r j es can at w s stands reach leads =
       let which = constructor_chosen l j es in
       let types = constructor_types l.program j which in
       let y = lower_arguments l es types (first_temporary l) in
@@ -82,7 +84,13 @@ module _ (l : Lowering) (own : Option ℕ) (call : SourceCalls) (b : Running) (v
       ((arguments (source_running l call) v es (constructor_types l.program j q) c >>= (λ given. call (constructor j q) r given c >>= (λ n. source_pure (tt {0})))) w)
       (regions b (regions_from (constructed (number_of l.program (constructor j which)) place y)) (context_of w.open_calls c) s))
       (sym (chosen_same j es can at w s stands reach))
-      (construct_goes l own b v c call same place r j leads which can.callable (arguments (source_running l call) v es types c) y passes at w s stands reach)
+      (construct_here l own b v c call same place r j which can.callable (arguments (source_running l call) v es types c) y passes at w s stands reach leads)
+
+  pub arguments_construct : (place : Place) (r : Reference) (j : ℕ) (es : Expressions) → AlwaysLeads l own b v c place r (class_type j) → CanConstruct l own v.variables j es
+      → GoesOn l own b v c (source_construct (source_running l call) v j es r c)
+      (constructed (number_of l.program (constructor j (constructor_chosen l j es))) place
+      (lower_arguments l es (constructor_types l.program j (constructor_chosen l j es)) (first_temporary l)))
+  arguments_construct place r j es leads can at w s stands reach = arguments_here place r j es can at w s stands reach (leads at w s stands reach)
 
   -- an object is built by default
   pub default_constructs : (place : Place) (r : Reference) (j : ℕ) → AlwaysLeads l own b v c place r (class_type j) → CanDefault l.program j

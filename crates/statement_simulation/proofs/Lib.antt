@@ -23,4 +23,5 @@ pub mod Main
 pub mod Finding
 pub mod Whole
 pub mod Jumps
+pub mod Objects
 pub mod Statements

@@ -25,13 +25,13 @@ use Rattle.region_forms.specs.LowerProgram.{part_place}
 use Rattle.region_forms.specs.LowerStatement.{with_value}
 use Rattle.region_simulation.specs.Places.{Places, Refers}
 use Rattle.region_simulation.specs.Reach.{Reaches}
-use Rattle.region_simulation.specs.Stands.{context_of}
+use Rattle.region_simulation.specs.Stands.{Stands, context_of}
 use Rattle.region_simulation.specs.Alike.{Keeps, Follows, Alike}
 use Rattle.region_simulation.specs.Calls.{IsCallable, SameCalls}
 use Rattle.region_simulation.specs.Evaluates.{IsComputed, Everywhere, Evaluates}
 use Rattle.region_simulation.specs.Expressions.{source_running}
 use Rattle.region_simulation.specs.Passes.{IsGiven, Passes}
-use Rattle.region_simulation.proofs.Following.{Agreement, keeps_all, follows_now, alike_then, reaches_kept}
+use Rattle.region_simulation.proofs.Following.{Agreement, refers_kept, keeps_all, follows_now, alike_then, reaches_kept}
 use Rattle.region_simulation.proofs.Joining.{joined}
 use Rattle.region_simulation.proofs.Members.{refers_on}
 use Rattle.region_simulation.proofs.Storing.{valued_as}
@@ -107,11 +107,15 @@ module _ (l : Lowering) (own : Option ℕ) (b : Running) (v : SourceFrame) (c : 
       )))
 
   -- an object is built where a place leads
-  pub construct_goes : (call : SourceCalls) → SameCalls l.layout (source_running l call) b → (place : Place) (r : Reference) (j : ℕ) → AlwaysLeads place r (class_type j)
+  pub construct_here : (call : SourceCalls) → SameCalls l.layout (source_running l call) b → (place : Place) (r : Reference) (j : ℕ)
       → (which : Constructor) → IsCallable l.program (constructor j which) → (act : SourceAction (List SourceArgument)) (y : LoweredArguments)
       → Passes l own b v c (first_temporary l) (constructor_types l.program j which) act y
-      → GoesOn l own b v c (act >>= (λ given. call (constructor j which) r given c >> source_pure (tt {0}))) (constructed (number_of l.program (constructor j which)) place y)
-  construct_goes call same place r j leads which there act y passes at w s stands reach =
+      → (at : Places) (w : SourceWorld) (s : State) → Stands l.layout l.program at c w s → Reaches l own at v s.frame
+      → Leads l.layout l.program at (first_temporary l) b.kinds s.frame place r (class_type j)
+      → Alike l.layout l.program at (first_temporary l) c w s (λ u flow w2 at2 s2. flow ≡ normal)
+      ((act >>= (λ given. call (constructor j which) r given c >> source_pure (tt {0}))) w)
+      (regions b (regions_from (constructed (number_of l.program (constructor j which)) place y)) (context_of w.open_calls c) s)
+  construct_here call same place r j which there act y passes at w s stands reach leads =
       let k = first_temporary l in
       let ctx = context_of w.open_calls c in
       let m = number_of l.program (constructor j which) in
@@ -122,19 +126,19 @@ module _ (l : Lowering) (own : Option ℕ) (b : Running) (v : SourceFrame) (c : 
       (alike_then l.layout l.program (IsGiven l.layout l.program b.kinds (constructor_types l.program j which) y.arguments) next at k c w s (act w)
       (regions b (regions_from y.before) ctx s) f (followed (regions b (regions_from (op o ∷ [])) ctx)) (passes at w s stands reach)
       (λ given flow w2 s2 h (fl, (words, i, ok)).
-      let to = leads h.places w2 s2 h.stands (reaches_kept l own v at k w s c c w2 s2 stands h (omega arith) reach) in
-      let address = ap (λ q. with_some q location_address) (to.located s2.frame (keeps_all k s2.frame)) in
-      let made : Alike l.layout l.program h.places k c w2 s2 (λ a z w3 at3 s3. a ≡ z) (call (constructor j which) r given c w2) (b.call m (address_word to.address ∷ words) ctx s2) =
+      let refers = refers_kept l.layout l.program at k w s c c w2 s2 stands h r (class_type j) leads.address leads.refers in
+      let address = ap (λ q. with_some q location_address) (leads.located s2.frame h.keeps) in
+      let made : Alike l.layout l.program h.places k c w2 s2 (λ a z w3 at3 s3. a ≡ z) (call (constructor j which) r given c w2) (b.call m (address_word leads.address ∷ words) ctx s2) =
       subst (λ n. Alike l.layout l.program h.places k c w2 s2 (λ a z w3 at3 s3. a ≡ z) (call (constructor j which) r given c w2)
-      (b.call m (address_word to.address ∷ words) (context_of n c) s2)) h.open_calls
-      (same h.places (constructor j which) r given (address_word to.address ∷ words) k c w2 s2 there h.stands (to.address, to.refers, refl, ok)) in
+      (b.call m (address_word leads.address ∷ words) (context_of n c) s2)) h.open_calls
+      (same h.places (constructor j which) r given (address_word leads.address ∷ words) k c w2 s2 there h.stands (leads.address, refers, refl, ok)) in
       subst (λ q. Alike l.layout l.program h.places k c w2 s2 next (f given w2) (followed (regions b (regions_from (op o ∷ [])) ctx) q s2)) (sym fl)
       (subst (λ q. Alike l.layout l.program h.places k c w2 s2 next (f given w2)
       (continued (continued (perform b (if_some q (λ a. if_some (words_in b.kinds s2.frame s2.world (arguments_from y.arguments)) (λ ws. calls None m (address_word a ∷ ws)))) ctx s2)
       (λ u. pure normal)) (followed (pure normal)))) (sym address)
       (subst (λ q. Alike l.layout l.program h.places k c w2 s2 next (f given w2)
-      (continued (continued (perform b (if_some q (λ ws. calls None m (address_word to.address ∷ ws))) ctx s2) (λ u. pure normal)) (followed (pure normal)))) (sym i)
-      (built_alike h.places k w2 s2 (call (constructor j which) r given c w2) (b.call m (address_word to.address ∷ words) ctx s2) made)))))
+      (continued (continued (perform b (if_some q (λ ws. calls None m (address_word leads.address ∷ ws))) ctx s2) (λ u. pure normal)) (followed (pure normal)))) (sym i)
+      (built_alike h.places k w2 s2 (call (constructor j which) r given c w2) (b.call m (address_word leads.address ∷ words) ctx s2) made)))))
     where
       built_alike : (at : Places) (k : ℕ) (w : SourceWorld) (s : State) (x : SourceResult ℤ) (y : Result ℤ) → Alike l.layout l.program at k c w s (λ a z w3 at3 s3. a ≡ z) x y
           → Alike l.layout l.program at k c w s (λ u flow w2 at2 s2. flow ≡ normal) (source_continued x (λ a. source_pure (tt {0})))
@@ -156,3 +160,11 @@ module _ (l : Lowering) (own : Option ℕ) (b : Running) (v : SourceFrame) (c : 
           (s2, ap (λ q. continued (continued (continued q (λ n t. settled (finished b.kinds None n t.frame t.world) t)) (λ u. pure normal)) (followed (pure normal))) is, h)
       built_alike at k w s (source_stopped deep w2) y (s2, is, h) =
           (s2, ap (λ q. continued (continued (continued q (λ n t. settled (finished b.kinds None n t.frame t.world) t)) (λ u. pure normal)) (followed (pure normal))) is, h)
+
+  -- wherever it does
+  pub construct_goes : (call : SourceCalls) → SameCalls l.layout (source_running l call) b → (place : Place) (r : Reference) (j : ℕ) → AlwaysLeads place r (class_type j)
+      → (which : Constructor) → IsCallable l.program (constructor j which) → (act : SourceAction (List SourceArgument)) (y : LoweredArguments)
+      → Passes l own b v c (first_temporary l) (constructor_types l.program j which) act y
+      → GoesOn l own b v c (act >>= (λ given. call (constructor j which) r given c >> source_pure (tt {0}))) (constructed (number_of l.program (constructor j which)) place y)
+  construct_goes call same place r j leads which there act y passes at w s stands reach =
+      construct_here call same place r j which there act y passes at w s stands reach (leads at w s stands reach)

@@ -1,11 +1,12 @@
 -- What stands where a variable is declared: an int at its slot, set or not, or a reference by the address in its slot.
-use Rattle.std.proofs.Common.{◌≡◌, ℕ, ◌+◌, ◌<◌, ◌≤◌, ℤ, Bool, true, false, List, [], ◌∷◌, Option, Some, None, refl, sym, ap, ◌∙◌, subst, arith, length}
-use Rattle.std.specs.Prelude.{◌==◌, if◌then◌else◌}
+use Rattle.std.proofs.Common.{◌≡◌, ℕ, zero, suc, ◌+◌, ◌<◌, ◌≤◌, ℤ, Bool, true, false, List, [], ◌∷◌, Option, Some, None, refl, sym, ap, ◌∙◌, subst, arith, length}
+use Rattle.std.specs.Prelude.{◌==◌, map, if◌then◌else◌}
 use Rattle.cxx_ast.specs.Plain.{Checked}
+use Rattle.cxx_ast.specs.declared.name.Name.{Name}
 use Rattle.cxx_ast.specs.declared.types.Ty.{Ty}
 use Rattle.cxx_ast.specs.declared.types.Ty.TheVariants.{Int, Void, Object, IntRef, ObjectRef}
-use Rattle.scope_rules.specs.Class.{int_type, object_type}
-use Rattle.scope_rules.specs.Part.{cell, part_at}
+use Rattle.scope_rules.specs.Class.{ObjectType, int_type, class_type, class_named, object_type, parts_of}
+use Rattle.scope_rules.specs.Part.{cell, object, Parts, nth_part, part_at, parts_from, unset_within, unset}
 use Rattle.scope_rules.specs.World.{World as SourceWorld, Reference, whole}
 use Rattle.scope_rules.specs.Context.{Context as SourceContext}
 use Rattle.scope_rules.specs.Frame.{Frame as SourceFrame, variable_in}
@@ -14,6 +15,7 @@ use Rattle.region_forms.specs.World.{Frame, Address, of_variable, Word, address_
 use Rattle.region_forms.specs.Outcome.{State}
 use Rattle.region_forms.specs.LowerExpression.{Lowering, variable_type}
 use Rattle.region_forms.specs.LowerStatement.{variable_slot}
+use Rattle.region_simulation.specs.Typed.{Shaped}
 use Rattle.region_simulation.specs.Places.{Places, Stood, address_along, Refers}
 use Rattle.region_simulation.specs.Reach.{slot_address, IsReachedBy, VariableStands}
 use Rattle.region_simulation.specs.Stands.{Stands}
@@ -30,11 +32,30 @@ unset_path : (path : List ℕ) → part_at (cell None) path ≡ cell None
 unset_path [] = refl
 unset_path (i ∷ path) = unset_path path
 
+object_not_set : (k : ℕ) (parts : Parts) (x : ℤ) → object k parts ≡ cell (Some x) → ⊥
+object_not_set k parts x e = cc e
+
 pub unset_nowhere : (path : List ℕ) (x : ℤ) → part_at (cell None) path ≡ cell (Some x) → ⊥
 unset_nowhere path x e = let f = sym (unset_path path) ∙ e in cc f
 
 pub same_cell : (x y : ℤ) → cell (Some x) ≡ cell (Some y) → x ≡ y
 same_cell x y e = cc e
+
+-- no int is set in an object that is not
+none_among : (p : Checked) (n : ℕ) (types : List ObjectType) (i : ℕ) (path : List ℕ) (x : ℤ) → ((t : ObjectType) → part_at (unset_within n p t) path ≡ cell (Some x) → ⊥)
+    → part_at (nth_part (parts_from (map (unset_within n p) types)) i) path ≡ cell (Some x) → ⊥
+none_among p n [] i path x each e = unset_nowhere path x e
+none_among p n (t ∷ types) zero path x each e = each t e
+none_among p n (t ∷ types) (suc i) path x each e = none_among p n types i path x each e
+
+none_set : (p : Checked) (n : ℕ) (t : ObjectType) (path : List ℕ) (x : ℤ) → part_at (unset_within n p t) path ≡ cell (Some x) → ⊥
+none_set p zero t path x e = unset_nowhere path x e
+none_set p (suc n) int_type path x e = unset_nowhere path x e
+none_set p (suc n) (class_type k) [] x e = object_not_set k (parts_from (map (unset_within n p) (parts_of p k))) x e
+none_set p (suc n) (class_type k) (i ∷ path) x e = none_among p n (parts_of p k) i path x (λ t. none_set p n t path x) e
+
+unset_is_not_set : (p : Checked) (t : ObjectType) (path : List ℕ) (x : ℤ) → part_at (unset p t) path ≡ cell (Some x) → ⊥
+unset_is_not_set p t path x e = none_set p (suc (length p.classes)) t path x e
 
 -- a slot that is no variable is set
 abbrev pub follows_slot : (l : Layout) (p : Checked) (at : Places) (k : ℕ) (c : SourceContext) (w : SourceWorld) (s : State) (t : ℕ) (x : Word) → k ≤ t
@@ -147,6 +168,36 @@ module _ (l : Lowering) (own : Option ℕ) (v : SourceFrame) (c : SourceContext)
       int_declared is_int (Some z) (λ q. if same_address (slot_address s.frame.call (variable_slot l n)) q then Some z else s.world.memory q)
       (λ q ne. written_apart (slot_address s.frame.call (variable_slot l n)) z s.world.memory q ne)
       (λ path y e. written_int l.layout l.program s.frame.call (variable_slot l n) z s.world.memory path y e)
+
+  -- an object of a class, in which no int is set
+  pub object_declared : (k : Name) → variable_type l n ≡ Object k → Shaped l.program (class_type (class_named k)) (unset l.program (class_type (class_named k)))
+      → (d : Declared l own v n at c w s (whole (length w.objects)) (with_object (unset l.program (class_type (class_named k))) w) s)
+      × (d.follows.places (length w.objects) ≡ Some (record { base = of_variable s.frame.call (variable_slot l n); type = class_type (class_named k) }))
+  object_declared k is_object shaped =
+      let m = variable_slot l n in
+      let o = length w.objects in
+      let a = unset l.program (class_type (class_named k)) in
+      let base = of_variable s.frame.call m in
+      let t = class_type (class_named k) in
+      let g = follows_new l.layout l.program at c w s stands base t a s.world.memory (variable_empty l own v n at s scope) scope.running shaped (λ q ne. refl)
+      (λ path x e. absurd (unset_is_not_set l.program t path x e)) m in
+      let newly : VariableStands l g.places (declaring n (whole o) v) s.frame n = record {
+        there = there;
+        address = slot_address s.frame.call m;
+        refers = subst (λ r. Refers l.layout l.program g.places r (object_type (variable_type l n)) (slot_address s.frame.call m))
+            (sym (ap (λ z. if z then whole o else variable_in v.variables n) (number_itself n)))
+            (record { stood = record { base = base; type = t }; stands = placed_new at o (record { base = base; type = t }); typed = ap (λ u. Some (object_type u)) (sym is_object); address = refl });
+        reached = subst (λ u. IsReachedBy u m s.frame (slot_address s.frame.call m)) (sym is_object) refl;
+      } in
+      let free : (q j : ℕ) (y : Stood) → g.places q ≡ Some y → y.base ≡ of_variable s.frame.call (variable_slot l j) → j < n + 1 =
+      (λ q j y is it. free_placed l own v n at s scope o q j (record { base = base; type = t }) y refl is it) in (
+        record {
+          follows = g;
+          named = scope_declared l own v n at w s c c (with_object a w) s stands g scope (whole o) newly free;
+          unnamed = scope_unnamed (with_object a w) s g free;
+        },
+        placed_new at o (record { base = base; type = t }),
+      )
 
   -- a reference to what stands at an address
   pub reference_declared : IsReference (variable_type l n) → (r : Reference) (a : Address) → Refers l.layout l.program at r (object_type (variable_type l n)) a

@@ -10,3 +10,4 @@ pub mod Members
 pub mod Main
 pub mod Whole
 pub mod Jumps
+pub mod Objects

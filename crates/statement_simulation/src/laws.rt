@@ -5,6 +5,7 @@ ghost use Rattle.statement_simulation.specs.Fueled.{FuelLasts};
 ghost use Rattle.statement_simulation.specs.Jumps.{JumpsStayInLoops};
 ghost use Rattle.statement_simulation.specs.Main.{MainRunsAlike};
 ghost use Rattle.statement_simulation.specs.Members.{ConstructorsRunAlike, CopyConstructorsRunAlike, DefaultConstructorsRunAlike, DestructorsRunAlike, ImplicitDestructorsRunAlike};
+ghost use Rattle.statement_simulation.specs.Objects.{ObjectsDoAlike};
 ghost use Rattle.statement_simulation.specs.Parts.{PartsBuildAlike, PartsDestroyAlike};
 ghost use Rattle.statement_simulation.specs.Programs.{CallsDoAlike, ProgramsMeanTheSame};
 ghost use Rattle.statement_simulation.specs.Sequences.{BlocksAreHeld, BranchesDecide, BreaksLeave, ContinuesLeave, DroppedValuesGoOn, EffectsGoOn, LoopsTurn, ReturnsLeave, SequencesFollow, ValuesReturn};
@@ -169,4 +170,10 @@ pub fn jumps_stay_in_loops()
 /// Calls of a source with fuel above the turns that are left are what they are where nothing is said once fuel runs out: it does not.
 pub fn fuel_lasts()
     ensures { FuelLasts }
+{}
+
+/// A local object of a class is built in its slot by the constructor that its arguments select, and what follows is done in its scope, where what
+/// is done in such a scope does the same.
+pub fn objects_do_alike()
+    ensures { ObjectsDoAlike }
 {}
