@@ -146,7 +146,7 @@ module _ (l : Lowering) (own : Option ℕ) (b : Running) (v : SourceFrame) (c : 
       ap (λ z. continued (continued (perform b z ctx s) (λ u. pure normal)) (followed (pure normal))) (valued_as b.kinds x.value (Some (thrown_place l)) s.frame s.world n value) ∙
       ap (λ z. continued (continued (perform b (if_some (location_behind 0 (address_in z)) (λ q. stored_at q n s.frame s.world)) ctx s) (λ u. pure normal)) (followed (pure normal))) slot
 
-  pub int_built : (act : SourceAction ℤ) (x : Lowered) → Evaluates l own b v c (first_temporary l) act x → LeavesUnbuilt act
+  pub int_built : (act : SourceAction ℤ) (x : Lowered) → Evaluates l own b v c (first_temporary l) act x → LeavesUnbuilt c act
       → BuildsAlike l own b v c int_type (act >>= (λ n. new_object (cell (Some n)))) (x.before ++ op (store (thrown_place l) x.value) ∷ [])
   int_built act x evaluates leaves at w s e stands reach slot made unbuilt empty =
       let ctx = context_of w.open_calls c in
@@ -166,11 +166,11 @@ module _ (l : Lowering) (own : Option ℕ) (b : Running) (v : SourceFrame) (c : 
           (continued y (followed (stored_last x (context_of w.open_calls c))))
       go (source_done n w2) is y (flow, s2, same, (h, (fl, value))) =
           let there = h.keeps.slots (exception_slot l) (omega arith) ∙ slot in
-          let g = follows_sparing l.layout l.program e at (first_temporary l) w s c w2 s2 empty (leaves w w2 n is e made unbuilt).1 h in
+          let g = follows_sparing l.layout l.program e at (first_temporary l) w s c w2 s2 empty (leaves w w2 n stands.sound is e made unbuilt).1 h in
           let o = length w2.objects in
           let s3 = record s2 { world = written (object_address e) n s2.world } in
           let empty2 : (q : ℕ) (z : Stood) → g.places q ≡ Some z → z.base ≡ of_exception e → ⊥ = λ q z f. (spared_is e (h.places q) z f).1 in
-          let (last, gone) = leaves w w2 n is e made unbuilt in
+          let (last, gone) = leaves w w2 n stands.sound is e made unbuilt in
           let k = follows_new l.layout l.program g.places c w2 s2 g.stands (of_exception e) int_type (cell (Some n)) s3.world.memory empty2 (omega (arith, made, last)) tt
           (λ q other. elsewhere e n q (s2.world.memory q) other) (λ path m f. holds n s2.world.memory path m f) (first_temporary l) in (
             normal,

@@ -32,3 +32,5 @@ pub mod Faring
 pub mod FaringThrows
 pub mod FaringHandlers
 pub mod FaringSpecifications
+pub mod FaringTrees
+pub mod Exceptions

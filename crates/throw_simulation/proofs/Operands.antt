@@ -54,7 +54,7 @@ class_there p k implicit_copy h = h
 
 module _ (laws : CaughtListFollows) (l : Lowering) (own : Option ℕ) (gives : Bool) (calls : Callee → Reference → List SourceArgument → SourceContext → SourceAction ℤ) (b : Running)
     (v : SourceFrame) (c : SourceContext) (same : RunAlike l.layout (source_running l calls) b) (stays : StaysSound c) (fit : KindsFit l b.kinds)
-    (bar : CallsAreBarred (source_running l calls)) (leaves : (e : Expression) → LeavesUnbuilt (value_of (source_running l calls) v e c)) (n i d : ℕ) where
+    (bar : CallsAreBarred (source_running l calls)) (leaves : (e : Expression) → LeavesUnbuilt c (value_of (source_running l calls) v e c)) (n i d : ℕ) where
   abbrev a : SourceRunning
   a = source_running l calls
 

@@ -4,6 +4,7 @@ use Rattle.cxx_ast.specs.Plain.{Checked}
 use Rattle.scope_rules.specs.Class.{contains}
 use Rattle.scope_rules.specs.World.{World, Live, Reference, type_at, exception_at}
 use Rattle.scope_rules.specs.Context.{Context}
+use Rattle.scope_rules.specs.Call.{running}
 use Rattle.scope_rules.specs.Guard.{is_doomed}
 use Rattle.scope_rules.specs.Outcome.{Action, Result, done, stopped, thrown, cancelled}
 use Rattle.scope_rules.specs.Running.{Running, Argument, Callee}
@@ -55,3 +56,7 @@ CallsFare r = (callee : Callee) (this : Reference) (given : List Argument) → A
 -- behind barriers no exception comes out of calls that fare so
 abbrev pub FaringCallsAreBarred : Type 0
 FaringCallsAreBarred = (r : Running) → CallsFare r → CallsAreBarred r
+
+-- so calls with any fuel do
+abbrev pub AllCallsFare : Type 0
+AllCallsFare = (p : Checked) (limit fuel : ℕ) → CallsFare (running p limit fuel)

@@ -11,3 +11,4 @@ pub mod Operands
 pub mod Tries
 pub mod Catches
 pub mod Fares
+pub mod Exceptions

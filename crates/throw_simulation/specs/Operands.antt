@@ -2,6 +2,8 @@
 use Rattle.std.specs.Prelude.{◌≡◌, ℕ, ◌≤◌, ℤ, Option}
 use Rattle.cxx_ast.specs.Plain.{Expression}
 use Rattle.scope_rules.specs.World.{World}
+use Rattle.scope_rules.specs.Context.{Context}
+use Rattle.region_simulation.specs.Stands.{IsSound}
 use Rattle.scope_rules.specs.Outcome.{Action, done}
 use Rattle.scope_rules.specs.Expression.{value_of}
 use Rattle.scope_rules.specs.Statement.{throwing as source_throwing}
@@ -14,13 +16,13 @@ use Rattle.throw_simulation.specs.Barred.{CallsAreBarred}
 use Rattle.throw_simulation.specs.Throws.{IsUnbuilt, InEachContext}
 
 -- while a value is computed, no number is used again, and no exception that is being built is kept as built
-abbrev pub LeavesUnbuilt : Action ℤ → Type 0
-LeavesUnbuilt act =
-    (w w2 : World) (n : ℤ) → act w ≡ done n w2 → (e : ℕ) → e ≤ w.last_number → IsUnbuilt e w → (w.last_number ≤ w2.last_number) × IsUnbuilt e w2
+abbrev pub LeavesUnbuilt : Context → Action ℤ → Type 0
+LeavesUnbuilt c act =
+    (w w2 : World) (n : ℤ) → IsSound c w.last_number w.live → act w ≡ done n w2 → (e : ℕ) → e ≤ w.last_number → IsUnbuilt e w → (w.last_number ≤ w2.last_number) × IsUnbuilt e w2
 
 -- what is thrown is an int, an object that is built from arguments, or a copy of what names stand for
 abbrev pub OperandsThrowAlike : Type 0
 OperandsThrowAlike = InEachContext (λ l own gives call b v c.
-    KindsFit l b.kinds → CallsAreBarred (source_running l call) → ((e : Expression) → LeavesUnbuilt (value_of (source_running l call) v e c))
+    KindsFit l b.kinds → CallsAreBarred (source_running l call) → ((e : Expression) → LeavesUnbuilt c (value_of (source_running l call) v e c))
     → (n i d : ℕ) (e : Option Expression) → CanThrow l own v.variables e
     → DoesAlike l own gives b v c n i d (source_throwing (source_running l call) v e c) (throwing l e))

@@ -3,7 +3,8 @@ ghost use Rattle.throw_simulation.specs.Catches.{HandlersCatchAlike, TryBlocksDo
 ghost use Rattle.throw_simulation.specs.Copies.{CopiesAlike};
 ghost use Rattle.throw_simulation.specs.Doomed.{CheckedClassesAreOrdered, DoomedAlike};
 ghost use Rattle.throw_simulation.specs.Ends.{TerminatesAlike};
-ghost use Rattle.throw_simulation.specs.Fares.{FaringCallsAreBarred};
+ghost use Rattle.throw_simulation.specs.Exceptions.{AllThrowsDoAlike, AllTriesDoAlike};
+ghost use Rattle.throw_simulation.specs.Fares.{AllCallsFare, FaringCallsAreBarred};
 ghost use Rattle.throw_simulation.specs.Handlers.{EntersAlike, HandlersEndAlike};
 ghost use Rattle.throw_simulation.specs.Operands.{OperandsThrowAlike};
 ghost use Rattle.throw_simulation.specs.Raises.{AllExpressionsEvaluate, EntriesStaySound, ModulesAnswerAlike, RaisesAlike};
@@ -147,3 +148,23 @@ pub fn try_blocks_do_alike()
 pub fn faring_calls_are_barred()
     ensures { FaringCallsAreBarred }
 {}
+
+/// What calls of a source keep, with any fuel, whatever its program is: no number of an exception is used again, what travels stays what it is,
+/// and an exception that comes out travelled not before, has no handler beneath others, and is not doomed.
+pub fn all_calls_fare()
+    ensures { AllCallsFare }
+{}
+
+/// So every throw does the same, where calls do, with nothing asked of the source.
+pub fn all_throws_do_alike()
+    ensures { AllThrowsDoAlike }
+{
+    caught_list_follows();
+}
+
+/// So does every try block whose statements and handlers do.
+pub fn all_tries_do_alike()
+    ensures { AllTriesDoAlike }
+{
+    caught_list_follows();
+}

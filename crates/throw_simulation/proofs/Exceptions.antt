@@ -1,0 +1,49 @@
+-- Throws and try blocks do the same, by what calls of the source keep.
+use Rattle.std.proofs.Common.{◌≡◌, ℕ, ◌+◌, ◌<◌, ◌≤◌, ℤ, Bool, true, false, List, refl, sym, ap, ◌∙◌, subst, arith, length}
+use Rattle.cxx_ast.specs.Plain.{Checked, Expression, Statements}
+use Rattle.scope_rules.specs.Class.{contains}
+use Rattle.scope_rules.specs.Call.{running}
+use Rattle.scope_rules.specs.Context.{Context, try_block, guarded_by}
+use Rattle.scope_rules.specs.Expression.{value_of}
+use Rattle.scope_rules.specs.Frame.{Frame}
+use Rattle.scope_rules.specs.Handler.{clauses_of}
+use Rattle.scope_rules.specs.Outcome.{Action, Result, done, stopped, thrown}
+use Rattle.scope_rules.specs.Running.{Running}
+use Rattle.scope_rules.specs.Statement.{statements}
+use Rattle.scope_rules.specs.World.{World}
+use Rattle.region_forms.specs.Laws.{CaughtListFollows}
+use Rattle.region_simulation.specs.Stands.{IsSound}
+use Rattle.throw_simulation.specs.Fares.{Fares, FaresIn, CallsFare, AllCallsFare}
+use Rattle.throw_simulation.specs.Operands.{LeavesUnbuilt}
+use Rattle.throw_simulation.specs.Tries.{RestsBefore}
+use Rattle.throw_simulation.specs.Exceptions.{AllThrowsDoAlike, AllTriesDoAlike}
+use Rattle.throw_simulation.proofs.Faring.{orderly_sound, faring_calls_are_barred}
+use Rattle.throw_simulation.proofs.FaringTrees.{value_of_fares, statements_fares, calls_fare}
+use Rattle.throw_simulation.proofs.Operands.{throwing_case}
+use Rattle.throw_simulation.proofs.Clauses.{try_blocks_do_alike}
+
+pub all_calls_fare : AllCallsFare
+all_calls_fare p limit fuel = calls_fare p limit fuel
+
+leaves : (p : Checked) (c : Context) (act : Action ℤ) → FaresIn p c act → LeavesUnbuilt c act
+leaves p c act fares w w2 n sound is e made unbuilt =
+    let h = subst (Fares p 0 c w) is (fares 0 w (omega arith) (orderly_sound c w sound)) in
+    (h.later, h.unbuilt e made unbuilt)
+
+rests : {A : Type 0} (p : Checked) (c : Context) (act : Action A) → FaresIn p c act → RestsBefore c act
+rests p c act fares w w2 e sound is =
+    let h = subst (Fares p 0 c w) is (fares 0 w (omega arith) (orderly_sound c w sound)) in h.1.raised.rests
+
+pub all_throws_do_alike : CaughtListFollows → AllThrowsDoAlike
+all_throws_do_alike laws l own gives limit fuel b v c same stays fit n i d e can =
+    let r = running l.program limit fuel in
+    let fare = calls_fare l.program limit fuel in
+    throwing_case laws l own gives r.call b v c same stays fit (faring_calls_are_barred r fare) (λ x. leaves l.program c (value_of r v x c) (value_of_fares r v x c fare).at) n i d e can
+
+pub all_tries_do_alike : CaughtListFollows → AllTriesDoAlike
+all_tries_do_alike laws l own gives limit fuel b v c same stays fit empty missing n i d ss hs lt block blocks typed handlers =
+    let r = running l.program limit fuel in
+    let fare = calls_fare l.program limit fuel in
+    let inside = guarded_by (try_block (clauses_of hs)) c in
+    try_blocks_do_alike laws l own gives r.call b v c same stays fit (faring_calls_are_barred r fare) empty missing n i d ss hs lt block blocks typed handlers
+    (rests l.program inside (statements r ss v inside) (statements_fares r ss v inside fare).at)
