@@ -1,24 +1,20 @@
 -- Throws and try blocks do the same, by what calls of the source keep.
-use Rattle.std.proofs.Common.{◌≡◌, ℕ, ◌+◌, ◌<◌, ◌≤◌, ℤ, Bool, true, false, List, refl, sym, ap, ◌∙◌, subst, arith, length}
-use Rattle.cxx_ast.specs.Plain.{Checked, Expression, Statements}
-use Rattle.scope_rules.specs.Class.{contains}
+use Rattle.std.proofs.Common.{ℤ, subst, arith}
+use Rattle.cxx_ast.specs.Plain.{Checked}
 use Rattle.scope_rules.specs.Call.{running}
 use Rattle.scope_rules.specs.Context.{Context, try_block, guarded_by}
 use Rattle.scope_rules.specs.Expression.{value_of}
-use Rattle.scope_rules.specs.Frame.{Frame}
 use Rattle.scope_rules.specs.Handler.{clauses_of}
-use Rattle.scope_rules.specs.Outcome.{Action, Result, done, stopped, thrown}
-use Rattle.scope_rules.specs.Running.{Running}
+use Rattle.scope_rules.specs.Outcome.{Action}
 use Rattle.scope_rules.specs.Statement.{statements}
-use Rattle.scope_rules.specs.World.{World}
 use Rattle.region_forms.specs.Laws.{CaughtListFollows}
-use Rattle.region_simulation.specs.Stands.{IsSound}
-use Rattle.throw_simulation.specs.Fares.{Fares, FaresIn, CallsFare, AllCallsFare}
+use Rattle.throw_simulation.specs.Fares.{Fares, FaresIn, AllCallsFare}
 use Rattle.throw_simulation.specs.Operands.{LeavesUnbuilt}
 use Rattle.throw_simulation.specs.Tries.{RestsBefore}
 use Rattle.throw_simulation.specs.Exceptions.{AllThrowsDoAlike, AllTriesDoAlike}
 use Rattle.throw_simulation.proofs.Faring.{orderly_sound, faring_calls_are_barred}
-use Rattle.throw_simulation.proofs.FaringTrees.{value_of_fares, statements_fares, calls_fare}
+use Rattle.throw_simulation.proofs.FaringTrees.{value_of_fares, statements_fares}
+use Rattle.throw_simulation.proofs.FaringCalls.{calls_fare}
 use Rattle.throw_simulation.proofs.Operands.{throwing_case}
 use Rattle.throw_simulation.proofs.Clauses.{try_blocks_do_alike}
 

@@ -1,6 +1,6 @@
 -- What handlers keep.
-use Rattle.std.proofs.Common.{◌≡◌, ℕ, zero, suc, ◌+◌, ◌<◌, ◌≤◌, ◌⊎◌, inl, inr, Bool, true, false, List, [], ◌∷◌, ◌++◌, Option, Some, None, refl, sym, ap, ◌∙◌, subst, arith, length}
-use Rattle.std.specs.Prelude.{◌==◌, ◌&&◌, ◌||◌, not, find, cond, if◌then◌else◌}
+use Rattle.std.proofs.Common.{◌≡◌, ℕ, ◌<◌, ◌≤◌, ◌⊎◌, inl, inr, Bool, true, false, [], ◌∷◌, ◌++◌, Option, Some, None, refl, sym, ap, ◌∙◌, subst, arith, length}
+use Rattle.std.specs.Prelude.{◌==◌, ◌&&◌, ◌||◌, not, if◌then◌else◌}
 use Rattle.std.proofs.lemmas.Bool.Decides.{nat_tests}
 use Rattle.cxx_ast.specs.declared.name.Name.{Name}
 use Rattle.cxx_ast.specs.declared.types.Ty.{Ty}
@@ -8,25 +8,24 @@ use Rattle.cxx_ast.specs.declared.types.Ty.TheVariants.{Int, Void, Object, IntRe
 use Rattle.cxx_ast.specs.Plain.{Checked}
 use Rattle.run_items.specs.declared.item.Item.TheVariants.{Enter, Leave, Destroy, Free, Clean}
 use Rattle.scope_rules.specs.Class.{ObjectType, int_type, class_type, class_named, some_of, contains}
-use Rattle.scope_rules.specs.Part.{Part, Parts, cell, object, unset}
-use Rattle.scope_rules.specs.World.{World, Exception, building, native, foreign, Reference, whole, nowhere, as_class, part_of, exception_at, exception_type, type_at, without_exception}
+use Rattle.scope_rules.specs.Part.{Part, cell, object, unset}
+use Rattle.scope_rules.specs.World.{World, Exception, building, native, foreign, Reference, whole, as_class, part_of, exception_at, exception_type, without_exception}
 use Rattle.scope_rules.specs.Context.{Context, barrier, guarded_by, handling, with_travelling}
 use Rattle.scope_rules.specs.Guard.{is_doomed}
 use Rattle.scope_rules.specs.Outcome.{Result, done, stopped, thrown, cancelled, ended, undefined, out_of_turns, deep, Action, pure, stop, continued, emit, new_object, read, read_part, ◌>>=◌, ◌>>◌}
 use Rattle.scope_rules.specs.Running.{Running, by_reference, constructor, destructor}
 use Rattle.scope_rules.specs.Construct.{copy_constructor, copy_object, destroy}
-use Rattle.scope_rules.specs.Frame.{Frame, with_parameter, bound_as}
-use Rattle.scope_rules.specs.Scope.{unwound, after_scope, scope}
+use Rattle.scope_rules.specs.Frame.{Frame, with_parameter}
+use Rattle.scope_rules.specs.Scope.{scope}
 use Rattle.scope_rules.specs.Terminate.{terminate, after_barrier, behind_barrier}
-use Rattle.scope_rules.specs.Throw.{free}
-use Rattle.scope_rules.specs.Handler.{is_foreign, enter, after_destructor, give_back, goes_on as stays_on, let_go, after_handler, while_handled, new_copy, catch_parameter, destroy_parameter, exception_object, handle}
+use Rattle.scope_rules.specs.Handler.{is_foreign, enter, after_destructor, give_back, let_go, after_handler, while_handled, new_copy, catch_parameter, destroy_parameter, exception_object, handle}
 use Rattle.region_forms.specs.Caught.{only_front}
 use Rattle.throw_simulation.specs.Raises.{CanBeRaised}
-use Rattle.throw_simulation.specs.Barred.{NotThrown}
 use Rattle.throw_simulation.specs.Fares.{IsOrderly, GoesOn, ComesOut, Fares, FaresIn, AlwaysFares, CallsFare}
 use Rattle.throw_simulation.proofs.Caught.{front_out}
 use Rattle.throw_simulation.proofs.Standing.{held}
-use Rattle.throw_simulation.proofs.Faring.{goes_same, goes_on, goes_live, goes_resting, goes_as, orderly_on, orderly_as, orderly_travelling, orderly_handling, fares_on, fares_then, fares_seq, fares_pure, terminate_fares, barrier_fares, not_thrown_behind, thrown_fares, behind_not_thrown, scope_fares, contains_first, contains_more}
+use Rattle.throw_simulation.proofs.Faring.{goes_same, goes_on, goes_live, orderly_on, orderly_as, orderly_travelling, orderly_handling, fares_on, fares_then, fares_seq, fares_pure, terminate_fares, barrier_fares, not_thrown_behind}
+use Rattle.throw_simulation.proofs.FaringScopes.{goes_resting, thrown_fares, behind_not_thrown, scope_fares}
 use Rattle.throw_simulation.proofs.FaringThrows.{other_number, not_number, taken, goes_without}
 
 -- a destructor, or nothing

@@ -1,29 +1,26 @@
 -- What specifications and try blocks keep.
-use Rattle.std.proofs.Common.{◌≡◌, ℕ, zero, suc, ◌+◌, ◌<◌, ◌≤◌, ◌⊎◌, inl, inr, ℤ, Bool, true, false, List, [], ◌∷◌, ◌++◌, Option, Some, None, refl, sym, ap, ◌∙◌, subst, arith, length}
-use Rattle.std.specs.Prelude.{◌==◌, ◌||◌, not, find, cond, map, if◌then◌else◌}
+use Rattle.std.proofs.Common.{◌≡◌, ℕ, ◌<◌, ◌≤◌, ◌⊎◌, inl, ℤ, Bool, true, false, List, [], ◌∷◌, ◌++◌, Option, Some, None, refl, sym, ap, ◌∙◌, arith, length}
+use Rattle.std.specs.Prelude.{not, find, cond, map, if◌then◌else◌}
 use Rattle.cxx_ast.specs.declared.types.Ty.{Ty}
-use Rattle.cxx_ast.specs.Plain.{Checked, Handlers, no_handlers, handler_then}
 use Rattle.scope_rules.specs.Class.{ObjectType, class_type, some_of, contains, object_type}
 use Rattle.scope_rules.specs.Part.{unset}
-use Rattle.scope_rules.specs.World.{World, Installed, Exception, Reference, whole, nowhere, exception_at, type_at}
-use Rattle.scope_rules.specs.Context.{Context, Clause, catch_all, Guard, try_block, specification, guarded_by, handling}
-use Rattle.scope_rules.specs.Guard.{matches, allows, stops, dooms, is_doomed}
-use Rattle.scope_rules.specs.Outcome.{Result, done, stopped, thrown, cancelled, ended, undefined, out_of_turns, deep, Action, pure, stop, continued, Flow}
-use Rattle.scope_rules.specs.Running.{Running, Argument, function, constructor}
+use Rattle.scope_rules.specs.World.{World, Installed, Reference, whole, nowhere, exception_at, type_at}
+use Rattle.scope_rules.specs.Context.{Context, catch_all, try_block, specification, guarded_by, handling}
+use Rattle.scope_rules.specs.Guard.{allows, stops, dooms}
+use Rattle.scope_rules.specs.Outcome.{Result, done, stopped, thrown, cancelled, ended, undefined, out_of_turns, deep, Action, pure, stop, continued}
+use Rattle.scope_rules.specs.Running.{Running, function, constructor}
 use Rattle.scope_rules.specs.Construct.{constructor_for, default_object}
 use Rattle.scope_rules.specs.Terminate.{terminate_with}
 use Rattle.scope_rules.specs.Throw.{throw_new, raise_exception}
-use Rattle.scope_rules.specs.Handler.{clause_of, clauses_of, enter, while_handled, handle}
-use Rattle.scope_rules.specs.Frame.{Frame}
+use Rattle.scope_rules.specs.Handler.{enter, while_handled}
 use Rattle.scope_rules.specs.Specification.{kept_with, is_bad_exception, new_bad_exception, pass_on, after_unexpected, run_unexpected_handler, unexpected, after_extent, under_specification}
-use Rattle.scope_rules.specs.Statement.{after_try, statements, caught}
-use Rattle.region_forms.specs.Caught.{only_front}
 use Rattle.throw_simulation.specs.Raises.{CanBeRaised}
-use Rattle.throw_simulation.specs.Fares.{IsOrderly, GoesOn, ComesOut, Fares, FaresIn, AlwaysFares, CallsFare}
+use Rattle.throw_simulation.specs.Fares.{IsOrderly, GoesOn, Fares, FaresIn, AlwaysFares, CallsFare}
 use Rattle.throw_simulation.proofs.Caught.{front_newest}
-use Rattle.throw_simulation.proofs.Faring.{goes_same, goes_live, goes_as, orderly_on, orderly_as, fares_on, fares_then, fares_seq, fares_pure, terminates_with_fares, raise_fares, contains_first}
+use Rattle.throw_simulation.proofs.Faring.{goes_same, goes_live, goes_as, orderly_on, orderly_as, fares_on, fares_then, fares_seq, fares_pure, terminates_with_fares, raise_fares}
+use Rattle.throw_simulation.proofs.FaringScopes.{contains_first}
 use Rattle.throw_simulation.proofs.FaringThrows.{throw_fares}
-use Rattle.throw_simulation.proofs.FaringHandlers.{entry_fares, while_handled_fares, entered_fares, handle_fares}
+use Rattle.throw_simulation.proofs.FaringHandlers.{entry_fares, while_handled_fares, entered_fares}
 
 module _ (r : Running) (fare : CallsFare r) where
   pub default_fares : (k : ℕ) (target : Reference) → AlwaysFares r.program (default_object r k target)
@@ -100,11 +97,14 @@ module _ (r : Running) (fare : CallsFare r) where
       g = goes_as c (specification types ∷ c.guards) w w2 h.0
 
       go : (z : Bool) → allows r.program types (type_at w2 e) ≡ z → Fares {A = A} r.program n c w2 ((if z then stop (thrown e) else unexpected r types e c) w2)
-      go true is = (goes_same c w2 (orderly_on c w w2 order g), record {
-        raised = record { made = h.1.raised.made; rests = h.1.raised.rests; front = h.1.raised.front };
-        known = h.1.known;
-        safe = ap (λ z. dooms (type_at w2 e) (cond (not z) (Some (specification types)) (find (stops r.program (type_at w2 e)) c.guards))) (sym is) ∙ h.1.safe;
-      })
+      go true is = (
+        goes_same c w2 (orderly_on c w w2 order g),
+        record {
+          raised = record { made = h.1.raised.made; rests = h.1.raised.rests; front = h.1.raised.front };
+          known = h.1.known;
+          safe = ap (λ z. dooms (type_at w2 e) (cond (not z) (Some (specification types)) (find (stops r.program (type_at w2 e)) c.guards))) (sym is) ∙ h.1.safe;
+        },
+      )
       go false is =
           let later = g.later in
           unexpected_fares A types n c w2 (omega (arith, few, later)) (orderly_on c w w2 order g) e

@@ -1,8 +1,7 @@
 -- What throws and modules keep.
-use Rattle.std.proofs.Common.{◌≡◌, ℕ, zero, suc, ◌+◌, ◌<◌, ◌≤◌, ◌⊎◌, inl, inr, ℤ, pos, negsuc, Bool, true, false, List, [], ◌∷◌, ◌++◌, Option, Some, None, refl, sym, ap, ◌∙◌, subst, arith, length}
-use Rattle.std.specs.Prelude.{◌==◌, ◌||◌, not, cond, map, filter, slice_get, slice_set, if◌then◌else◌}
+use Rattle.std.proofs.Common.{◌≡◌, ℕ, ◌+◌, ◌<◌, ◌≤◌, ◌⊎◌, inl, inr, ℤ, pos, negsuc, Bool, true, false, List, [], ◌∷◌, ◌++◌, Option, Some, None, refl, sym, ap, ◌∙◌, subst, arith}
+use Rattle.std.specs.Prelude.{◌==◌, not, cond, map, filter, slice_get, slice_set, if◌then◌else◌}
 use Rattle.std.proofs.lemmas.Bool.Decides.{nat_tests}
-use Rattle.cxx_ast.specs.Plain.{Checked}
 use Rattle.eh_outer.specs.declared.module.Reply.{Reply}
 use Rattle.eh_outer.specs.declared.module.Reply.TheVariants.{Value, Raise}
 use Rattle.run_items.specs.declared.item.Item.{Item}
@@ -15,18 +14,19 @@ use Rattle.scope_rules.specs.Guard.{is_doomed}
 use Rattle.scope_rules.specs.Outcome.{Result, done, stopped, thrown, cancelled, ended, undefined, out_of_turns, deep, Action, continued, ◌>>=◌, ◌>>◌}
 use Rattle.scope_rules.specs.Running.{Running}
 use Rattle.scope_rules.specs.Terminate.{terminate}
-use Rattle.scope_rules.specs.Throw.{is_full, new_exception, free, after_building, keep, raise_exception, throw_new, rethrow_newest, rethrow, raise_foreign, answered, take_reply, call_module}
+use Rattle.scope_rules.specs.Throw.{is_full, new_exception, after_building, keep, raise_exception, throw_new, rethrow_newest, rethrow, raise_foreign, answered, take_reply, call_module}
 use Rattle.region_forms.specs.Caught.{only_front}
 use Rattle.region_simulation.specs.Stands.{AreTogether}
 use Rattle.throw_simulation.specs.Raises.{CanBeRaised}
 use Rattle.throw_simulation.specs.Throws.{IsUnbuilt}
-use Rattle.throw_simulation.specs.Fares.{IsOrderly, GoesOn, ComesOut, Fares, FaresIn}
+use Rattle.throw_simulation.specs.Fares.{IsOrderly, GoesOn, Fares, FaresIn}
 use Rattle.throw_simulation.proofs.Caught.{front_unhandled, front_newest}
 use Rattle.throw_simulation.proofs.Raises.{native_in}
 use Rattle.throw_simulation.proofs.New.{IsPlain, newly, new_unbuilt, last_or_before, new_number, plain_only}
 use Rattle.throw_simulation.proofs.Giving.{left_before}
 use Rattle.throw_simulation.proofs.Kept.{Replaces, is_new, is_old, replaces}
-use Rattle.throw_simulation.proofs.Faring.{goes_same, goes_on, goes_live, orderly_on, fares_on, fares_then, fares_pure, terminate_fares, raise_fares, contains_first}
+use Rattle.throw_simulation.proofs.Faring.{goes_same, goes_on, goes_live, orderly_on, fares_on, terminate_fares, raise_fares}
+use Rattle.throw_simulation.proofs.FaringScopes.{contains_first}
 
 pub not_number : (e f : ℕ) → e < f → (f == e) ≡ false
 not_number e f lt = grind (arith, nat_tests, lt)

@@ -29,8 +29,11 @@ pub mod IntHandlers
 pub mod ObjectHandlers
 pub mod Clauses
 pub mod Faring
+pub mod FaringScopes
 pub mod FaringThrows
 pub mod FaringHandlers
 pub mod FaringSpecifications
+pub mod FaringActions
 pub mod FaringTrees
+pub mod FaringCalls
 pub mod Exceptions

@@ -1,5 +1,5 @@
 -- That throws and try blocks do the same where calls of the source are those of its program with any fuel.
-use Rattle.std.specs.Prelude.{ℕ, ◌+◌, ◌<◌, Bool, List, [], ◌∷◌, length, Option}
+use Rattle.std.specs.Prelude.{ℕ, ◌+◌, ◌<◌, Bool, [], ◌∷◌, length, Option}
 use Rattle.cxx_ast.specs.Plain.{Expression, Statements, Handlers}
 use Rattle.scope_rules.specs.Call.{running}
 use Rattle.scope_rules.specs.Context.{Context as SourceContext, try_block, guarded_by}
