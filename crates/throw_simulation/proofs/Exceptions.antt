@@ -1,7 +1,8 @@
 -- Throws and try blocks do the same, by what calls of the source keep.
 use Rattle.std.proofs.Common.{ℤ, subst, arith}
 use Rattle.cxx_ast.specs.Plain.{Checked}
-use Rattle.scope_rules.specs.Call.{running}
+use Rattle.scope_rules.specs.Call.{run_callee}
+use Rattle.region_simulation.specs.Expressions.{source_running}
 use Rattle.scope_rules.specs.Context.{Context, try_block, guarded_by}
 use Rattle.scope_rules.specs.Expression.{value_of}
 use Rattle.scope_rules.specs.Handler.{clauses_of}
@@ -14,12 +15,15 @@ use Rattle.throw_simulation.specs.Tries.{RestsBefore}
 use Rattle.throw_simulation.specs.Exceptions.{AllThrowsDoAlike, AllTriesDoAlike}
 use Rattle.throw_simulation.proofs.Faring.{orderly_sound, faring_calls_are_barred}
 use Rattle.throw_simulation.proofs.FaringTrees.{value_of_fares, statements_fares}
-use Rattle.throw_simulation.proofs.FaringCalls.{calls_fare}
+use Rattle.throw_simulation.proofs.FaringCalls.{open_fares, run_callee_fares, calls_fare}
 use Rattle.throw_simulation.proofs.Operands.{throwing_case}
 use Rattle.throw_simulation.proofs.Clauses.{try_blocks_do_alike}
 
 pub all_calls_fare : AllCallsFare
-all_calls_fare p limit fuel = calls_fare p limit fuel
+all_calls_fare = record {
+  inside = λ r fare limit callee this given c. (open_fares limit (run_callee r callee this given c) (run_callee_fares r callee this given c fare)).at;
+  fueled = calls_fare;
+}
 
 leaves : (p : Checked) (c : Context) (act : Action ℤ) → FaresIn p c act → LeavesUnbuilt c act
 leaves p c act fares w w2 n sound is e made unbuilt =
@@ -31,15 +35,13 @@ rests p c act fares w w2 e sound is =
     let h = subst (Fares p 0 c w) is (fares 0 w (omega arith) (orderly_sound c w sound)) in h.1.raised.rests
 
 pub all_throws_do_alike : CaughtListFollows → AllThrowsDoAlike
-all_throws_do_alike laws l own gives limit fuel b v c same stays fit n i d e can =
-    let r = running l.program limit fuel in
-    let fare = calls_fare l.program limit fuel in
-    throwing_case laws l own gives r.call b v c same stays fit (faring_calls_are_barred r fare) (λ x. leaves l.program c (value_of r v x c) (value_of_fares r v x c fare).at) n i d e can
+all_throws_do_alike laws l own gives call b v c same stays fit fare n i d e can =
+    let r = source_running l call in
+    throwing_case laws l own gives call b v c same stays fit (faring_calls_are_barred r fare) (λ x. leaves l.program c (value_of r v x c) (value_of_fares r v x c fare).at) n i d e can
 
 pub all_tries_do_alike : CaughtListFollows → AllTriesDoAlike
-all_tries_do_alike laws l own gives limit fuel b v c same stays fit empty missing n i d ss hs lt block blocks typed handlers =
-    let r = running l.program limit fuel in
-    let fare = calls_fare l.program limit fuel in
+all_tries_do_alike laws l own gives call b v c same stays fit fare empty missing n i d ss hs lt block blocks typed handlers =
+    let r = source_running l call in
     let inside = guarded_by (try_block (clauses_of hs)) c in
-    try_blocks_do_alike laws l own gives r.call b v c same stays fit (faring_calls_are_barred r fare) empty missing n i d ss hs lt block blocks typed handlers
+    try_blocks_do_alike laws l own gives call b v c same stays fit (faring_calls_are_barred r fare) empty missing n i d ss hs lt block blocks typed handlers
     (rests l.program inside (statements r ss v inside) (statements_fares r ss v inside fare).at)

@@ -102,7 +102,7 @@ closed_fares p n c w (stopped (ended x) w2) h = tt
 closed_fares p n c w (stopped out_of_turns w2) h = tt
 closed_fares p n c w (stopped deep w2) h = tt
 
-open_fares : {p : Checked} {c : Context} (limit : ℕ) (act : Action ℤ) → KeepsIn p c ℤ act → KeepsIn p c ℤ (open_call limit act)
+pub open_fares : {p : Checked} {c : Context} (limit : ℕ) (act : Action ℤ) → KeepsIn p c ℤ act → KeepsIn p c ℤ (open_call limit act)
 open_fares {p} {c} limit act k =
     let called : KeepsIn p c ℤ (λ w. after_call (act w)) = record { at = λ n w few order. closed_fares p n c w (act w) (k.at n w few order) } in
     let opening : KeepsIn p c ℤ (change opened >> (λ v. after_call (act v))) = bind_fares (change opened) (λ u w. after_call (act w)) (change_fares opened (λ w. refl) (λ w. refl)) (λ u. called) in

@@ -37,3 +37,4 @@ pub mod FaringActions
 pub mod FaringTrees
 pub mod FaringCalls
 pub mod Exceptions
+pub mod ScopesDo

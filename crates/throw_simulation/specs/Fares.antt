@@ -4,7 +4,7 @@ use Rattle.cxx_ast.specs.Plain.{Checked}
 use Rattle.scope_rules.specs.Class.{contains}
 use Rattle.scope_rules.specs.World.{World, Live, Reference, type_at, exception_at}
 use Rattle.scope_rules.specs.Context.{Context}
-use Rattle.scope_rules.specs.Call.{running}
+use Rattle.scope_rules.specs.Call.{run_callee, open_call, running}
 use Rattle.scope_rules.specs.Guard.{is_doomed}
 use Rattle.scope_rules.specs.Outcome.{Action, Result, done, stopped, thrown, cancelled}
 use Rattle.scope_rules.specs.Running.{Running, Argument, Callee}
@@ -57,6 +57,8 @@ CallsFare r = (callee : Callee) (this : Reference) (given : List Argument) → A
 abbrev pub FaringCallsAreBarred : Type 0
 FaringCallsAreBarred = (r : Running) → CallsFare r → CallsAreBarred r
 
--- so calls with any fuel do
-abbrev pub AllCallsFare : Type 0
-AllCallsFare = (p : Checked) (limit fuel : ℕ) → CallsFare (running p limit fuel)
+-- a call inside which calls fare so does, whatever is called, up to whatever limit of open calls; so calls with any fuel do
+pub record AllCallsFare : Type 0 where
+  pub inside : (r : Running) → CallsFare r → (limit : ℕ) (callee : Callee) (this : Reference) (given : List Argument)
+      → AlwaysFares r.program (λ c. open_call limit (run_callee r callee this given c))
+  pub fueled : (p : Checked) (limit fuel : ℕ) → CallsFare (running p limit fuel)

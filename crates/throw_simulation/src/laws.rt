@@ -3,7 +3,7 @@ ghost use Rattle.throw_simulation.specs.Catches.{HandlersCatchAlike, TryBlocksDo
 ghost use Rattle.throw_simulation.specs.Copies.{CopiesAlike};
 ghost use Rattle.throw_simulation.specs.Doomed.{CheckedClassesAreOrdered, DoomedAlike};
 ghost use Rattle.throw_simulation.specs.Ends.{TerminatesAlike};
-ghost use Rattle.throw_simulation.specs.Exceptions.{AllThrowsDoAlike, AllTriesDoAlike};
+ghost use Rattle.throw_simulation.specs.Exceptions.{AllThrowsDoAlike, AllTriesDoAlike, ScopesDoAlike};
 ghost use Rattle.throw_simulation.specs.Fares.{AllCallsFare, FaringCallsAreBarred};
 ghost use Rattle.throw_simulation.specs.Handlers.{EntersAlike, HandlersEndAlike};
 ghost use Rattle.throw_simulation.specs.Operands.{OperandsThrowAlike};
@@ -155,7 +155,7 @@ pub fn all_calls_fare()
     ensures { AllCallsFare }
 {}
 
-/// So every throw does the same, where calls do, with nothing asked of the source.
+/// So every throw does the same, where calls of the source keep that.
 pub fn all_throws_do_alike()
     ensures { AllThrowsDoAlike }
 {
@@ -168,3 +168,9 @@ pub fn all_tries_do_alike()
 {
     caught_list_follows();
 }
+
+/// What is done in the scope of an object, or until a part is part of a complete object, does the same in a region that its destruction protects,
+/// where a place leads to the object.
+pub fn scopes_do_alike()
+    ensures { ScopesDoAlike }
+{}
