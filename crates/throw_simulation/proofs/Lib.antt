@@ -38,3 +38,4 @@ pub mod FaringTrees
 pub mod FaringCalls
 pub mod Exceptions
 pub mod ScopesDo
+pub mod Leading

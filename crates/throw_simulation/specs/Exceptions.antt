@@ -1,23 +1,26 @@
 -- That throws, try blocks and scopes do the same, where calls of the source keep what is known of exceptions.
-use Rattle.std.specs.Prelude.{List, ℕ, ◌+◌, ◌<◌, [], ◌∷◌, length, Option}
+use Rattle.std.specs.Prelude.{◌≡◌, List, ℕ, ◌+◌, ◌<◌, Bool, true, [], ◌∷◌, length, Option, Some, slice_get}
 use Rattle.cxx_ast.specs.Plain.{Expression, Statements, Handlers}
-use Rattle.scope_rules.specs.Class.{class_type}
-use Rattle.scope_rules.specs.World.{World as SourceWorld, Reference}
+use Rattle.cxx_ast.specs.declared.name.Name.{Name}
+use Rattle.cxx_ast.specs.declared.types.Ty.TheVariants.{Object}
+use Rattle.scope_rules.specs.Class.{class_type, class_named, parts_of}
+use Rattle.scope_rules.specs.World.{World as SourceWorld, Reference, part}
 use Rattle.scope_rules.specs.Outcome.{Action as SourceAction, Flow as SourceFlow}
 use Rattle.scope_rules.specs.Running.{destructor}
 use Rattle.scope_rules.specs.Construct.{destroy as source_destroy}
 use Rattle.scope_rules.specs.Scope.{scope, until_complete}
 use Rattle.scope_rules.specs.Context.{Context as SourceContext, try_block, guarded_by}
-use Rattle.scope_rules.specs.Frame.{Frame as SourceFrame}
+use Rattle.scope_rules.specs.Frame.{Frame as SourceFrame, variable_in}
 use Rattle.scope_rules.specs.Handler.{clauses_of}
 use Rattle.scope_rules.specs.Statement.{throwing as source_throwing, after_try, statements as source_statements, caught}
 use Rattle.region_forms.specs.Form.{Place, destroy_scope, destroy_part, Region, protect, catch, in_order}
 use Rattle.region_forms.specs.Outcome.{State}
 use Rattle.region_forms.specs.Ending.{Running}
-use Rattle.region_forms.specs.LowerExpression.{Lowering}
+use Rattle.region_forms.specs.LowerExpression.{Lowering, variable_type, slot_place}
+use Rattle.region_forms.specs.LowerProgram.{part_place}
 use Rattle.region_forms.specs.LowerStatement.{variable_slot, throwing, statements, clauses}
 use Rattle.region_forms.specs.Numbering.{number_of, all_declared_in}
-use Rattle.region_simulation.specs.Reach.{KindsFit}
+use Rattle.region_simulation.specs.Reach.{KindsFit, is_in_reach}
 use Rattle.region_simulation.specs.Flows.{InScope, DoesAlike}
 use Rattle.region_simulation.specs.Places.{Places}
 use Rattle.region_simulation.specs.Stands.{Stands}
@@ -60,3 +63,14 @@ ScopesDoAlike = InEachContext (λ l own gives call b v c.
     (protect (in_order rs) (destroy_scope place (number_of l.program (destructor j))) ∷ []) ×
     DoesAlike l own gives b v c n i d (until_complete (source_running l call) c (source_destroy (source_running l call) (class_type j) target) act)
     (protect (in_order rs) (destroy_part place (number_of l.program (destructor j))) ∷ []))
+
+-- the slot of a variable in reach leads to its object, and a part's place to the part of the own object
+pub record PlacesLead (l : Lowering) (own : Option ℕ) (b : Running) (v : SourceFrame) (c : SourceContext) : Type 0 where
+  pub variables : (n m : ℕ) (q : Name) → is_in_reach v.variables m ≡ true → variable_type l m ≡ Object q → class_named q < length l.program.classes
+      → PlaceLeads l own b v c n (slot_place (variable_slot l m)) (variable_in v.variables m) (class_named q)
+  pub parts : (n k i j : ℕ) → own ≡ Some k → slice_get (parts_of l.program k) i ≡ Some (class_type j) → j < length l.program.classes
+      → PlaceLeads l own b v c n (part_place l.layout l.program k 0 i) (part i v.this) j
+
+-- so it is in any call
+abbrev pub AllPlacesLead : Type 0
+AllPlacesLead = (l : Lowering) (own : Option ℕ) (b : Running) (v : SourceFrame) (c : SourceContext) → KindsFit l b.kinds → PlacesLead l own b v c

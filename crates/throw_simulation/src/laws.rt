@@ -3,7 +3,7 @@ ghost use Rattle.throw_simulation.specs.Catches.{HandlersCatchAlike, TryBlocksDo
 ghost use Rattle.throw_simulation.specs.Copies.{CopiesAlike};
 ghost use Rattle.throw_simulation.specs.Doomed.{CheckedClassesAreOrdered, DoomedAlike};
 ghost use Rattle.throw_simulation.specs.Ends.{TerminatesAlike};
-ghost use Rattle.throw_simulation.specs.Exceptions.{AllThrowsDoAlike, AllTriesDoAlike, ScopesDoAlike};
+ghost use Rattle.throw_simulation.specs.Exceptions.{AllPlacesLead, AllThrowsDoAlike, AllTriesDoAlike, ScopesDoAlike};
 ghost use Rattle.throw_simulation.specs.Fares.{AllCallsFare, FaringCallsAreBarred};
 ghost use Rattle.throw_simulation.specs.Handlers.{EntersAlike, HandlersEndAlike};
 ghost use Rattle.throw_simulation.specs.Operands.{OperandsThrowAlike};
@@ -173,4 +173,9 @@ pub fn all_tries_do_alike()
 /// where a place leads to the object.
 pub fn scopes_do_alike()
     ensures { ScopesDoAlike }
+{}
+
+/// In any call the slot of a variable in reach leads to its object, and the place of a part to that part of the own object.
+pub fn all_places_lead()
+    ensures { AllPlacesLead }
 {}
