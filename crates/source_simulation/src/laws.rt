@@ -1,0 +1,12 @@
+// Laws of lowering: calls of no effect, whose contracts state what holds of every program.
+ghost use Rattle.source_simulation.specs.Scopes.{ObjectScopesAreSame, PartsAreSame};
+
+/// Scopes of parts of objects, and what is done until an object is complete, are the same, with calls that do the same.
+pub fn parts_are_same()
+    ensures { PartsAreSame }
+{}
+
+/// So are scopes of local objects.
+pub fn object_scopes_are_same()
+    ensures { ObjectScopesAreSame }
+{}
