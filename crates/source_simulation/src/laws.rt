@@ -1,4 +1,5 @@
 // Laws of lowering: calls of no effect, whose contracts state what holds of every program.
+ghost use Rattle.source_simulation.specs.Destructors.{EmptyDestructorsAreSame};
 ghost use Rattle.source_simulation.specs.Scopes.{ObjectScopesAreSame, PartsAreSame};
 
 /// Scopes of parts of objects, and what is done until an object is complete, are the same, with calls that do the same.
@@ -9,4 +10,9 @@ pub fn parts_are_same()
 /// So are scopes of local objects.
 pub fn object_scopes_are_same()
     ensures { ObjectScopesAreSame }
+{}
+
+/// So is the destruction of a `std::bad_exception`, with any fuel: a call that does nothing but open and close.
+pub fn empty_destructors_are_same()
+    ensures { EmptyDestructorsAreSame }
 {}
