@@ -87,7 +87,7 @@ pub record Begins (p : Plan) (n m : ℕ) (v : World) (memory : List Part) (stack
   pub frame : low + (shape p m).size ≡ stack
   pub room : 0x7000_1000 ≤ low
   pub passed : PassedAt (setting p n) memory stack 0 given
-  pub begun : (j : ℕ) (word : Word) (b : Address) → slice_get given j ≡ Some word → address_in word ≡ Some b → IsBegun v b.base
+  pub lives : (j : ℕ) (word : Word) (b : Address) → slice_get given j ≡ Some word → address_in word ≡ Some b → p.live b.base ≡ true
   pub few : length given ≤ length (shape p m).slots
   pub fits : WordsFit (slot_kinds p m) 0 given
   pub saved : AddressAt memory (low + return_offset) back

@@ -32,6 +32,7 @@ use Rattle.operation_simulation.specs.Calls.{CallOf, call_of, stored_behind, sta
 use Rattle.operation_simulation.specs.Matches.{SameOutside, FrameIs, MemoryMatches, Matches}
 use Rattle.operation_simulation.specs.Operations.{Matched}
 use Rattle.operation_simulation.specs.Entering.{opened, frame_for, ObjectStands, ArgumentsStand, with_object, given_to, CallFits, CallsRun}
+use Rattle.operation_simulation.proofs.Asked.{object_stands, arguments_stand}
 use Rattle.operation_simulation.proofs.Words.{OperationAt, operation_at, word_below}
 use Rattle.operation_simulation.proofs.Matching.{Stands, stands_by, Arrives, matched}
 use Rattle.operation_simulation.proofs.Passing.{address_passed, Passes, word_passed, passes_then, arguments_pass}
@@ -144,7 +145,6 @@ call_arrives p n st w o c given back to stood there is fits code room h to_is re
     let new_memory : List Part = with_value m1.memory (low + return_offset) 8 (address (setting p n).ground here) in
     let d : ℕ = depth_of (st.top ∷ st.frames) + 1 in
     let frame_is : FrameIs (function p m) = under.unit.frames m fits.known in
-    let more : (new_world (slot_kinds p m) given d st.world).calls ≡ st.world.calls + 1 = ap (λ k. k + 1) (same_beside (slot_kinds p m) st.world.calls 0 given st.world).calls in
     let all = opened_matches p n m st.world new_memory stack low (address (setting p n).ground here) given begun.1 d (st.top ∷ st.frames) (λ ints. (
       under.newest,
       n,
@@ -158,11 +158,11 @@ call_arrives p n st w o c given back to stood there is fits code room h to_is re
         front = front;
         is = pieces;
         returns = omega (arith, length-append (passing (shape p n) c) (function_called (compiled m)));
-        stands = call_opened p m st.world.calls low n st.top.frame st.world (new_world (slot_kinds p m) given d st.world) new_memory stack back frame_is under.newest (omega arith) (omega (arith, more)) (omega (arith, room)) ints
+        stands = call_opened p m st.world.calls low n st.top.frame st.world (new_world (slot_kinds p m) given d st.world) new_memory stack back frame_is under.newest (omega (arith, room)) ints
             under.top;
       },
-      waits_opened p m st.world.calls low st.frames st.world (new_world (slot_kinds p m) given d st.world) new_memory (stack + (shape p n).size) back st.top.frame.call frame_is (omega (arith, under.newest)) (omega arith)
-          (omega (arith, more)) (omega (arith, room)) ints under.waiting,
+      waits_opened p m st.world.calls low st.frames st.world (new_world (slot_kinds p m) given d st.world) new_memory (stack + (shape p n).size) back st.top.frame.call frame_is (omega (arith, under.newest))
+          (omega (arith, room)) ints under.waiting,
     )) in
     let six : op_word (routine p m) 0 ≡ 6 = refl in
     let memory : u.memory ≡ with_value m1.memory (low + return_offset) 8 (address (setting p n).ground here) = h.enters.memory ∙ ap (λ a. with_value m1.memory (a - (shape p m).size + return_offset) 8 (address (setting p n).ground here)) h.passes.stack in
@@ -203,7 +203,8 @@ call_runs addresses image p n st next w o c given back h there is given_is fits 
     let most = given_less p m given frame_is fits.passed fits.words in
     let short : length front < 2 ^ 18 = omega (arith, own.inside, sum, h.memory.unit.short n h.memory.top.known) in
     let ret_below : address g (here + length front + 2) < 2 ^ 64 = omega (arith, word_below p s.memory n st.top.place (front ++ (call ++ behind)) h.memory.unit h.memory.top.known own, sum) in
-    let passes = all_pass addresses p n st.top.frame st.frames st.world back here c.object c.arguments given s h.memory h.registers h.pc parts.0 short fits.object fits.arguments code.fits given_is
+    let passes = all_pass addresses p n st.top.frame st.frames st.world back here c.object c.arguments given s h.memory h.registers h.pc parts.0 short
+    (object_stands p n st.top.frame st.world s.memory (x s sp) back h.memory.top c.object fits.object) (arguments_stand p n st.top.frame st.world s.memory (x s sp) back h.memory.top c.arguments fits.arguments) code.fits given_is
     (omega (arith, most, frame_is.small)) (omega (arith, most, room)) in
     let next_is : enters_to p m given st ≡ next = same_next (enters_to p m given st) next (call_step p n st next o c given h.runs there is given_is e) in
     both passes calls.0 room low_is code next_is ret_below total

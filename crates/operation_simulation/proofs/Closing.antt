@@ -3,12 +3,12 @@ use Rattle.std.proofs.Common.{◌≡◌, refl, ap₂, arith, ℕ, ◌+◌, ◌<�
 use Rattle.std.specs.Prelude.{◌&&◌, not, Bool, true, false}
 use Rattle.std.proofs.lemmas.Bool.Decides.{nat_tests}
 use Rattle.rv64_isa.specs.State.{Part}
-use Rattle.region_forms.specs.World.{Base, Word, nothing, number_word, address_word, flying, unwinding, Frame, World}
+use Rattle.region_forms.specs.World.{Base, of_global, of_variable, of_exception, Word, nothing, number_word, address_word, flying, unwinding, Frame, World}
 use Rattle.linear_forms.specs.Activation.{Activation}
 use Rattle.code_simulation.specs.Frames.{WordHolds}
 use Rattle.operation_simulation.specs.Plan.{Plan, shape, setting}
 use Rattle.operation_simulation.specs.Extents.{newer}
-use Rattle.operation_simulation.specs.Calls.{CallStands, CallsWait}
+use Rattle.operation_simulation.specs.Calls.{HeldBy, CallStands, CallsWait}
 use Rattle.operation_simulation.specs.Matches.{UnitStands, MemoryMatches}
 use Rattle.operation_simulation.specs.Returns.{closed}
 
@@ -23,6 +23,12 @@ live_before p c b e = both_are (p.live b) (newer c b) e
 
 pub live_after : (p : Plan) (c : ℕ) (b : Base) → p.live b ≡ true → newer c b ≡ false → (closed p c).live b ≡ true
 live_after p c b e f = ap₂ (λ x y. x && not y) e f
+
+-- what a call holds still is live where newer calls than that one, or a later one, are over
+held_closed : (p : Plan) (c d : ℕ) (b : Base) → d ≤ c → HeldBy p d b → HeldBy (closed p c) d b
+held_closed p c d (of_global g) le h = live_after p c (of_global g) h refl
+held_closed p c d (of_variable e s) le h = (live_after p c (of_variable e s) h.0 (grind (arith, nat_tests, le, h.1)), h.1)
+held_closed p c d (of_exception e) le h = tt
 
 word_closed : (p : Plan) (c n : ℕ) (memory : List Part) (a : ℕ) (word : Word) → WordHolds (setting p n) memory a word → WordHolds (setting (closed p c) n) memory a word
 word_closed p c n memory a nothing h = tt
@@ -47,7 +53,7 @@ call_closed p c n frame v memory stack back old st = record {
     all_globals = λ g inside. live_after p c _ (st.holds.all_globals g inside) refl;
   };
   slots = record { variables = st.slots.variables; whole = st.slots.whole; aligned = st.slots.aligned; ints = st.slots.ints };
-  begun = st.begun;
+  held = λ s b inside is. held_closed p c frame.call b.base old (st.held s b inside is);
   saved = st.saved;
   alone = λ b live. st.alone b (live_before p c b live).0;
   clear = λ b live not_newer. st.clear b (live_before p c b live).0 not_newer;

@@ -23,7 +23,6 @@ use Rattle.operation_simulation.specs.Plan.{Plan, function, shape, slot_kinds, r
 use Rattle.operation_simulation.specs.Matches.{UnitStands, FrameIs, MemoryMatches}
 use Rattle.operation_simulation.specs.Entering.{WordsFit}
 use Rattle.operation_simulation.proofs.Words.{even_base}
-use Rattle.operation_simulation.proofs.Holding.{live_begun}
 use Rattle.operation_simulation.proofs.Freeing.{free_matches}
 use Rattle.operation_simulation.proofs.Passing.{PassedAt, passed_still}
 use Rattle.operation_simulation.proofs.Slots.{given_bytes, bytes_most}
@@ -115,7 +114,7 @@ call_begins p n m here frame fs v back given memory stack h known room passed li
         room = omega (arith, room);
         passed = passed_still (setting p n) memory new stack 0 given (λ b k z high holds. holds_apart memory (low + return_offset) 8 ret b k z (λ i j hi hj e. omega (arith, high, hi, most, room, e)) holds)
             (omega (arith, most, room)) passed;
-        begun = λ j word b got found. live_begun v b.base frame.call h.newest (h.last b.base (lives j word b got found));
+        lives = lives;
         few = few;
         fits = fits;
         saved = record {

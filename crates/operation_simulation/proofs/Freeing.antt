@@ -49,7 +49,7 @@ free_call p n frame v memory stack back a k value live free ints st = record {
     all_globals = st.holds.all_globals;
   };
   slots = st.slots;
-  begun = st.begun;
+  held = st.held;
   saved = address_stays memory a k value (stack + return_offset) back (above_apart stack a k (stack + return_offset) 8 free (inr (omega arith))) st.saved;
   alone = st.alone;
   clear = st.clear;

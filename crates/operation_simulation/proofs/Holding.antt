@@ -20,7 +20,7 @@ use Rattle.code_simulation.proofs.Storing.{four_stored, eight_stored, may_still}
 use Rattle.code_simulation.proofs.Fetching.{pieces_still}
 use Rattle.operation_simulation.specs.Plan.{Plan, shape, slot_kinds, setting, routine, first_word}
 use Rattle.operation_simulation.specs.Extents.{newer, IntsInside, LocationStands}
-use Rattle.operation_simulation.specs.Calls.{IsBegun, CallStands}
+use Rattle.operation_simulation.specs.Calls.{HeldBy, IsBegun, CallStands}
 use Rattle.operation_simulation.specs.Matches.{UnitStands, StackMay, StillFresh, MemoryMatches}
 use Rattle.operation_simulation.specs.Laws.{StoresStayApart}
 use Rattle.operation_simulation.proofs.Bases.{true_is_not, address_is}
@@ -64,10 +64,10 @@ int_matches p n frame fs v memory stack back a z h int live ints fits aligned =
     let w : Written memory new = store_written p memory c ok in
     let all : IntsHold p u new = ints_written p memory a z v ok h.inside int aligned h.top.holds.ints in
     record {
-      top = call_stays p n frame v u memory stack back c ok (other_by_ints p n frame c h.top.slots ints) all (omega arith) h.top;
+      top = call_stays p n frame v u memory stack back c ok (other_by_ints p n frame c h.top.slots ints) all h.top;
       newest = h.newest;
       waiting = waits_stay p fs v u memory new (stack + (shape p n).size) back frame.call
-          (λ m g s b less st. call_stays p m g v u memory s b c ok (other_by_ints p m g c st.slots ints) all (omega arith) st) h.waiting;
+          (λ m g s b less st. call_stays p m g v u memory s b c ok (other_by_ints p m g c st.slots ints) all st) h.waiting;
       apart = apart_stays p memory c ok;
       inside = inside_written p a z v h.inside ints fits;
       may = stack_stays memory new w h.may;
@@ -84,9 +84,9 @@ slot_store p frame s size value = record { base = of_variable frame.call s; offs
 
 pub slot_set : (p : Plan) (n : ℕ) (frame : Frame) (v : World) (memory : List Part) (stack back s size value : ℕ) (word : Word) → CallStands p n frame v memory stack back → IntsInside p v →
     s < length (shape p n).slots → is_variable (slot_kinds p n s) ≡ false → StoreFits p memory (slot_store p frame s size value) →
-    WordHolds (setting p n) (after p (slot_store p frame s size value) memory) (stack + slot_offset (shape p n) s) word → ((b : Address) → address_in word ≡ Some b → IsBegun v b.base) →
+    WordHolds (setting p n) (after p (slot_store p frame s size value) memory) (stack + slot_offset (shape p n) s) word → ((b : Address) → address_in word ≡ Some b → HeldBy p frame.call b.base) →
     CallStands p n (with_slot s word frame) v (after p (slot_store p frame s size value) memory) stack back
-slot_set p n frame v memory stack back s size value word st inside there plain ok new_word new_begun = record {
+slot_set p n frame v memory stack back s size value word st inside there plain ok new_word new_held = record {
   known = st.known;
   small = st.small;
   above = st.above;
@@ -106,7 +106,7 @@ slot_set p n frame v memory stack back s size value word st inside there plain o
     aligned = st.slots.aligned;
     ints = st.slots.ints;
   };
-  begun = λ t b in_range is. begun_at t b in_range (s == t) is;
+  held = λ t b in_range is. held_at t b in_range (s == t) is;
   saved = address_stays memory (place_of p c) size value (stack + return_offset) back
       (λ i j hi hj e. st.alone c.base ok.live (0 + i) j (omega (arith, ok.inside, hi)) hj (omega (arith, e))) st.saved;
   alone = st.alone;
@@ -134,9 +134,9 @@ slot_set p n frame v memory stack back s size value word st inside there plain o
         absurd (true_is_not (is_variable (slot_kinds p n t)) variable (ap (λ k. is_variable (slot_kinds p n k)) (sym eq) ∙ plain))
     variable_at t in_range variable false e = st.slots.variables t in_range variable
 
-    begun_at : (t : ℕ) (b : Address) → t < length (shape p n).slots → (e : Bool) → address_in (if e then word else frame.slots t) ≡ Some b → IsBegun v b.base
-    begun_at t b in_range true is = new_begun b is
-    begun_at t b in_range false is = st.begun t b in_range is
+    held_at : (t : ℕ) (b : Address) → t < length (shape p n).slots → (e : Bool) → address_in (if e then word else frame.slots t) ≡ Some b → HeldBy p frame.call b.base
+    held_at t b in_range true is = new_held b is
+    held_at t b in_range false is = st.held t b in_range is
 
 -- an older call has another number
 older : (c d s t : ℕ) → c < d → of_variable d s ≡ of_variable c t → ⊥
@@ -145,8 +145,8 @@ older c d s t less e = let same : d ≡ c = cc e in omega (arith, less, same)
 pub slot_matches : (p : Plan) (n : ℕ) (frame : Frame) (fs : List Activation) (v : World) (memory : List Part) (stack back s size value : ℕ) (word : Word) → MemoryMatches p n frame fs v memory stack back →
     s < length (shape p n).slots → is_variable (slot_kinds p n s) ≡ false → size ≤ 8 →
     WordHolds (setting p n) (with_value memory (stack + slot_offset (shape p n) s) size value) (stack + slot_offset (shape p n) s) word →
-    ((b : Address) → address_in word ≡ Some b → IsBegun v b.base) → MemoryMatches p n (with_slot s word frame) fs v (with_value memory (stack + slot_offset (shape p n) s) size value) stack back
-slot_matches p n frame fs v memory stack back s size value word h there plain few new_word new_begun =
+    ((b : Address) → address_in word ≡ Some b → HeldBy p frame.call b.base) → MemoryMatches p n (with_slot s word frame) fs v (with_value memory (stack + slot_offset (shape p n) s) size value) stack back
+slot_matches p n frame fs v memory stack back s size value word h there plain few new_word new_held =
     let c : Store = slot_store p frame s size value in
     let place : p.at (of_variable frame.call s) + 0 ≡ stack + slot_offset (shape p n) s = omega (arith, h.top.holds.variables s there) in
     let to : List Part = with_value memory (stack + slot_offset (shape p n) s) size value in
@@ -158,10 +158,10 @@ slot_matches p n frame fs v memory stack back s size value word h there plain fe
     let all : IntsHold p v new = ints_stay p memory c v ok h.inside none h.top.holds.ints in
     let word_there = subst (λ ps. WordHolds (setting p n) ps (stack + slot_offset (shape p n) s) word) (sym same) new_word in
     subst (λ ps. MemoryMatches p n (with_slot s word frame) fs v ps stack back) same (record {
-      top = slot_set p n frame v memory stack back s size value word h.top h.inside there plain ok word_there new_begun;
+      top = slot_set p n frame v memory stack back s size value word h.top h.inside there plain ok word_there new_held;
       newest = h.newest;
       waiting = waits_stay p fs v v memory new (stack + (shape p n).size) back frame.call
-          (λ m g k b less st. call_stays p m g v v memory k b c ok (λ t inside e. absurd (older g.call frame.call s t less e)) all (omega arith) st) h.waiting;
+          (λ m g k b less st. call_stays p m g v v memory k b c ok (λ t inside e. absurd (older g.call frame.call s t less e)) all st) h.waiting;
       apart = apart_stays p memory c ok;
       inside = h.inside;
       may = stack_stays memory new w h.may;
@@ -234,6 +234,12 @@ live_begun v (of_global g) top begun old = tt
 live_begun v (of_variable c s) top begun old = grind (arith, nat_tests, begun, old)
 live_begun v (of_exception e) top begun old = tt
 
+-- and what is live in no newer call may be held
+pub held_by_live : (p : Plan) (c : ℕ) (b : Base) → p.live b ≡ true → newer c b ≡ false → HeldBy p c b
+held_by_live p c (of_global g) live old = live
+held_by_live p c (of_variable d s) live old = (live, grind (arith, nat_tests, old))
+held_by_live p c (of_exception e) live old = tt
+
 -- an address is put in a slot
 pub address_matches : (p : Plan) (n : ℕ) (frame : Frame) (fs : List Activation) (v : World) (memory : List Part) (stack back s : ℕ) (b : Address) → MemoryMatches p n frame fs v memory stack back →
     s < length (shape p n).slots → is_variable (slot_kinds p n s) ≡ false → byte_of (setting p n) b < 2 ^ 64 → p.live b.base ≡ true →
@@ -249,14 +255,14 @@ address_matches p n frame fs v memory stack back s b h there plain small live =
       below = omega (arith, bounds.1);
       holds = subst (Holds new place 8) whole (eight_stored memory place value (slot_may p n frame fs v memory stack back s 8 h there plain (omega arith)));
     } in
-    slot_matches p n frame fs v memory stack back s 8 value (address_word b) h there plain (omega arith) held (λ d is. let same : b ≡ d = cc is in subst (λ (k : Address). IsBegun v k.base) same (live_begun v b.base frame.call h.newest (h.last b.base live)))
+    slot_matches p n frame fs v memory stack back s 8 value (address_word b) h there plain (omega arith) held (λ d is. let same : b ≡ d = cc is in subst (λ (k : Address). HeldBy p frame.call k.base) same (held_by_live p frame.call b.base live (h.last b.base live)))
 
 pub stores_stay_apart : StoresStayApart
 stores_stay_apart = record {
   others = λ p n frame v memory stack back b o size value apart inside live none fits other st.
       let c : Store = record { base = b; offset = o; size = size; value = value } in
       let ok : StoreFits p memory c = record { apart = apart; live = live; inside = fits } in
-      call_stays p n frame v v memory stack back c ok other (ints_stay p memory c v ok inside none st.holds.ints) (omega arith) st;
+      call_stays p n frame v v memory stack back c ok other (ints_stay p memory c v ok inside none st.holds.ints) st;
   int = λ p n frame new_frame fs v new_world memory stack back l z h int ok e. location_matches p n frame new_frame fs v new_world memory stack back l z h int ok e;
   address = λ p n frame fs v memory stack back s b h there plain small live. address_matches p n frame fs v memory stack back s b h there plain small live;
 }

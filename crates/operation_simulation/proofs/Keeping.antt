@@ -167,9 +167,9 @@ slot_stays p n frame v memory stack s c holds slots h other inside = by (is_vari
         (other_apart p memory c (of_variable frame.call s) (stack + slot_offset (shape p n) s) 0 8 h (holds.own s inside) ne (omega (arith, holds.variables s inside)) (omega (arith, slots.whole s inside e)))
         (holds.slots s inside)
 
-pub call_stays : (p : Plan) (n : ℕ) (frame : Frame) (v u : World) (memory : List Part) (stack back : ℕ) (c : Store) → StoreFits p memory c → IsOther p n c frame → IntsHold p u (after p c memory) → v.calls ≤ u.calls →
+pub call_stays : (p : Plan) (n : ℕ) (frame : Frame) (v u : World) (memory : List Part) (stack back : ℕ) (c : Store) → StoreFits p memory c → IsOther p n c frame → IntsHold p u (after p c memory) →
     CallStands p n frame v memory stack back → CallStands p n frame u (after p c memory) stack back
-call_stays p n frame v u memory stack back c h other ints later st = record {
+call_stays p n frame v u memory stack back c h other ints st = record {
   known = st.known;
   small = st.small;
   above = st.above;
@@ -184,7 +184,7 @@ call_stays p n frame v u memory stack back c h other ints later st = record {
     all_globals = st.holds.all_globals;
   };
   slots = st.slots;
-  begun = λ s b inside is. begun_still v u b.base later (st.begun s b inside is);
+  held = st.held;
   saved = address_stays memory (place_of p c) c.size c.value (stack + return_offset) back (saved_apart st) st.saved;
   alone = st.alone;
   clear = st.clear;

@@ -4,6 +4,7 @@ pub mod Holding
 pub mod Words
 pub mod Matching
 pub mod Quiet
+pub mod Asked
 pub mod Operations
 pub mod Closing
 pub mod Returning

@@ -42,8 +42,9 @@ use Rattle.operation_simulation.specs.Calls.{CallStands}
 use Rattle.operation_simulation.specs.Matches.{MemoryMatches, Matches}
 use Rattle.operation_simulation.specs.Operations.{Matched}
 use Rattle.operation_simulation.specs.Lines.{Writes, LinesRun}
+use Rattle.operation_simulation.proofs.Asked.{value_stands}
 use Rattle.operation_simulation.proofs.Words.{OperationAt, operation_at}
-use Rattle.operation_simulation.proofs.Keeping.{waits_stay, begun_still}
+use Rattle.operation_simulation.proofs.Keeping.{waits_stay}
 use Rattle.operation_simulation.proofs.Matching.{Stands, stands_by, ready_here}
 use Rattle.operation_simulation.proofs.Quiet.{moved, step_is, plain_is}
 
@@ -66,7 +67,7 @@ call_alike p n frame v u memory stack back ints calls st = record {
     all_globals = st.holds.all_globals;
   };
   slots = st.slots;
-  begun = λ s b inside is. begun_still v u b.base (omega (arith, calls)) (st.begun s b inside is);
+  held = st.held;
   saved = st.saved;
   alone = st.alone;
   clear = st.clear;
@@ -184,10 +185,11 @@ line_runs turns image p n st next w back o v h there line stands went =
     })
 
 pub lines_run : CallsAreTurns → LinesRun
-lines_run turns image p n st next w o v h runs there writes stands e =
+lines_run turns image p n st next w o v h runs there writes asked e =
+    let stood = stands_by p n st w h runs in
     let line = line_op p n v st o runs there writes in
     let went = line_step p n v st next o line e in (
       Line went.value ∷ [],
       record { value = went.value; is = went.value_is; shown = refl; more = ap (λ (y : LinearState). y.world.items) (sym went.next_is) },
-      line_runs turns image p n st next w h.back o v (stands_by p n st w h runs) there line stands went,
+      line_runs turns image p n st next w h.back o v stood there line (value_stands p n st.top.frame st.world w.hart.memory (x w.hart sp) h.back stood.memory.top v asked) went,
     )

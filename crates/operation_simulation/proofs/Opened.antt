@@ -5,7 +5,7 @@ use Rattle.std.proofs.lemmas.Bool.Decides.{nat_tests}
 use Rattle.rv64_isa.specs.State.{Part}
 use Rattle.region_forms.specs.Form.{int_slot}
 use Rattle.region_forms.specs.WellFormed.{is_variable}
-use Rattle.region_forms.specs.World.{Base, of_variable, Address, Word, nothing, number_word, address_in, Frame, World}
+use Rattle.region_forms.specs.World.{Base, of_exception, of_global, of_variable, Address, Word, nothing, number_word, address_in, Frame, World}
 use Rattle.region_forms.specs.Effect.{new_frame, new_world}
 use Rattle.linear_forms.specs.Frame.{slot_bytes}
 use Rattle.linear_forms.specs.Activation.{Activation}
@@ -14,10 +14,10 @@ use Rattle.code_simulation.specs.Memory.{MayWrite, Apart}
 use Rattle.code_simulation.specs.Frames.{IntAt, WordHolds}
 use Rattle.operation_simulation.specs.Plan.{Plan, function, shape, slot_kinds, setting}
 use Rattle.operation_simulation.specs.Extents.{newer, StandApart, IntsInside}
-use Rattle.operation_simulation.specs.Calls.{IsBegun, CallStands, CallsWait}
+use Rattle.operation_simulation.specs.Calls.{HeldBy, IsBegun, CallStands, CallsWait}
 use Rattle.operation_simulation.specs.Matches.{FrameIs, StillFresh, MemoryMatches}
 use Rattle.operation_simulation.specs.Entering.{is_slot, slot_room, WordFits, opened}
-use Rattle.operation_simulation.proofs.Keeping.{IntsHold, begun_still}
+use Rattle.operation_simulation.proofs.Keeping.{IntsHold}
 use Rattle.operation_simulation.proofs.Slots.{SlotPlace, slot_place_of, plain_room, word_fits, given_bytes, got_inside}
 use Rattle.operation_simulation.proofs.Given.{frame_call, slot_given, IntGiven, int_given, same_beside}
 use Rattle.operation_simulation.proofs.Opening.{many, SlotOrNot, slot_or_not, begun_is_old, NewSlot, new_slot, OldBase, old_base, word_opened, unit_opened}
@@ -96,7 +96,7 @@ module _ (p : Plan) (n m : ℕ) (v : World) (memory : List Part) (stack low back
       slot_given (slot_kinds p m) 0 given (record { call = v.calls; slots = λ k. nothing }) s (λ word. WordHolds (setting q m) memory (low + slot_offset (shape p m) s) word)
       (λ j word e at other.
       let here = passed_there p n memory stack 0 j given word h.passed e in
-      let moved = word_opened p m c low n m v memory (stack - 8 * (0 + j + 1)) word (omega arith) (λ b is. h.begun j word b e is) here in
+      let moved = word_opened p m c low n m memory (stack - 8 * (0 + j + 1)) word (λ b is. live_old b.base (h.lives j word b e is)) here in
       let same : j ≡ s = omega (arith, at) in
       subst (λ k. WordHolds (setting q m) memory (low + slot_offset (shape p m) k) word) same
       (subst (λ k. WordHolds (setting q m) memory k word) (sym (given_place j (inside_given j word e))) moved))
@@ -108,11 +108,18 @@ module _ (p : Plan) (n m : ℕ) (v : World) (memory : List Part) (stack low back
       (λ j word e at other. no_word (slot_kinds p m s) word variable other (subst (λ k. WordFits (slot_kinds p m k) word) (sym at) (word_fits (slot_kinds p m) 0 j given word h.fits e)))
       refl
 
-  all_begun : (d s : ℕ) (b : Address) → address_in (frame.slots s) ≡ Some b → IsBegun (new_world (slot_kinds p m) given d v) b.base
-  all_begun d s b is =
-      slot_given (slot_kinds p m) 0 given (record { call = v.calls; slots = λ k. nothing }) s (λ word. address_in word ≡ Some b → IsBegun (new_world (slot_kinds p m) given d v) b.base)
-      (λ j word e at other found. begun_still v (new_world (slot_kinds p m) given d v) b.base (omega (arith, later d)) (h.begun j word b e found))
-      (λ none. absurd (cc none)) is
+  held_new : (b : Base) → p.live b ≡ true → HeldBy q c b
+  held_new b live = by b live (h.below.begun b live) (live_old b live)
+    where
+      by : (b : Base) → p.live b ≡ true → IsBegun v b → is_slot c (many p m) b ≡ false → HeldBy q c b
+      by (of_global g) live begun old = live
+      by (of_variable d s) live begun old = ((old_base p m c low (of_variable d s) old).live ∙ live, omega (arith, begun))
+      by (of_exception e) live begun old = tt
+
+  all_held : (s : ℕ) (b : Address) → address_in (frame.slots s) ≡ Some b → HeldBy q c b.base
+  all_held s b is =
+      slot_given (slot_kinds p m) 0 given (record { call = v.calls; slots = λ k. nothing }) s (λ word. address_in word ≡ Some b → HeldBy q c b.base)
+      (λ j word e at other found. held_new b.base (h.lives j word b e found)) (λ none. absurd (cc none)) is
 
   -- ---- bytes of the new slots, and of all else
 
@@ -222,7 +229,7 @@ module _ (p : Plan) (n m : ℕ) (v : World) (memory : List Part) (stack low back
       aligned = λ s inside plain. subst (λ k. q.at (of_variable k s) % 8 ≡ 0) (sym called) (omega (arith, (new s inside).at, (slot s inside).even, low_even));
       ints = λ s inside. subst (λ k. q.ints (of_variable k s) ≡ is_variable (slot_kinds p m s)) (sym called) (new s inside).ints;
     };
-    begun = λ s b inside found. all_begun d s b found;
+    held = λ s b inside found. subst (λ k. HeldBy q k b.base) (sym called) (all_held s b found);
     saved = h.saved;
     alone = λ b live. alone_at b live (slot_or_not c (many p m) b);
     clear = λ b live older. clear_at b live (slot_or_not c (many p m) b);

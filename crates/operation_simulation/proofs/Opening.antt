@@ -11,11 +11,11 @@ use Rattle.code_simulation.specs.Memory.{Apart}
 use Rattle.code_simulation.specs.Frames.{AddressAt, WordHolds}
 use Rattle.operation_simulation.specs.Plan.{Plan, function, shape, slot_kinds, setting}
 use Rattle.operation_simulation.specs.Extents.{newer}
-use Rattle.operation_simulation.specs.Calls.{IsBegun, CallStands, CallsWait}
+use Rattle.operation_simulation.specs.Calls.{HeldBy, IsBegun, CallStands, CallsWait}
 use Rattle.operation_simulation.specs.Matches.{FrameIs, UnitStands}
 use Rattle.operation_simulation.specs.Entering.{is_slot, slot_of, slot_room, opened}
 use Rattle.operation_simulation.proofs.Bases.{number_is, number_itself, both_true, true_is_not}
-use Rattle.operation_simulation.proofs.Keeping.{IntsHold, begun_still}
+use Rattle.operation_simulation.proofs.Keeping.{IntsHold}
 use Rattle.operation_simulation.proofs.Slots.{slot_place_of}
 
 -- ---- slots of the new call, and other bases
@@ -84,26 +84,37 @@ old_base p m c stack b e = record {
 
 -- ---- calls that are open already
 
-pub word_opened : (p : Plan) (m c stack n k : ℕ) (v : World) (memory : List Part) (a : ℕ) (word : Word) → v.calls ≤ c → ((b : Address) → address_in word ≡ Some b → IsBegun v b.base) →
+-- what an older call holds is no slot of the new one, and still is live
+held_is_old : (p : Plan) (c k d : ℕ) (b : Base) → d < c → HeldBy p d b → is_slot c k b ≡ false
+held_is_old p c k d (of_global g) less h = refl
+held_is_old p c k d (of_variable e s) less h = let other : (e == c) ≡ false = grind (arith, nat_tests, less, h.1) in ap (λ t. t && nat_lt s k) other
+held_is_old p c k d (of_exception e) less h = refl
+
+held_opened : (p : Plan) (m c low d : ℕ) (b : Base) → d < c → HeldBy p d b → HeldBy (opened p m c low) d b
+held_opened p m c low d (of_global g) less h = h
+held_opened p m c low d (of_variable e s) less h = ((old_base p m c low (of_variable e s) (held_is_old p c (many p m) d (of_variable e s) less h)).live ∙ h.0, h.1)
+held_opened p m c low d (of_exception e) less h = tt
+
+pub word_opened : (p : Plan) (m c stack n k : ℕ) (memory : List Part) (a : ℕ) (word : Word) → ((b : Address) → address_in word ≡ Some b → is_slot c (many p m) b.base ≡ false) →
     WordHolds (setting p n) memory a word → WordHolds (setting (opened p m c stack) k) memory a word
-word_opened p m c stack n k v memory a nothing le begun h = tt
-word_opened p m c stack n k v memory a (number_word z) le begun h = h
-word_opened p m c stack n k v memory a (address_word b) le begun h =
-    subst (AddressAt memory a) (ap (λ k. k + b.offset) (sym ((old_base p m c stack b.base (begun_is_old c (many p m) v b.base le (begun b refl))).at))) h
-word_opened p m c stack n k v memory a (flying e target) le begun h = h
-word_opened p m c stack n k v memory a (unwinding e) le begun h = tt
+word_opened p m c stack n k memory a nothing old h = tt
+word_opened p m c stack n k memory a (number_word z) old h = h
+word_opened p m c stack n k memory a (address_word b) old h =
+    subst (AddressAt memory a) (ap (λ k. k + b.offset) (sym ((old_base p m c stack b.base (old b refl)).at))) h
+word_opened p m c stack n k memory a (flying e target) old h = h
+word_opened p m c stack n k memory a (unwinding e) old h = tt
 
 -- the frame of a call that is open already, above the new one
-pub call_opened : (p : Plan) (m c low n : ℕ) (frame : Frame) (v u : World) (memory : List Part) (stack back : ℕ) → FrameIs (function p m) → frame.call < c → v.calls ≤ c → v.calls ≤ u.calls →
+pub call_opened : (p : Plan) (m c low n : ℕ) (frame : Frame) (v u : World) (memory : List Part) (stack back : ℕ) → FrameIs (function p m) → frame.call < c →
     low + (shape p m).size ≤ stack → IntsHold (opened p m c low) u memory → CallStands p n frame v memory stack back → CallStands (opened p m c low) n frame u memory stack back
-call_opened p m c low n frame v u memory stack back is older le later room ints st = record {
+call_opened p m c low n frame v u memory stack back is older room ints st = record {
   known = st.known;
   small = st.small;
   above = st.above;
   below = st.below;
   holds = record {
     room = st.holds.room;
-    slots = λ s inside. word_opened p m c low n n v memory (stack + slot_offset (shape p n) s) (frame.slots s) le (λ b e. st.begun s b inside e) (st.holds.slots s inside);
+    slots = λ s inside. word_opened p m c low n n memory (stack + slot_offset (shape p n) s) (frame.slots s) (λ b e. held_is_old p c (many p m) frame.call b.base older (st.held s b inside e)) (st.holds.slots s inside);
     variables = λ s inside. (old s).at ∙ st.holds.variables s inside;
     own = λ s inside. (old s).live ∙ st.holds.own s inside;
     ints = ints;
@@ -116,7 +127,7 @@ call_opened p m c low n frame v u memory stack back is older le later room ints 
     aligned = λ s inside plain. omega (arith, (old s).at, st.slots.aligned s inside plain);
     ints = λ s inside. (old s).ints ∙ st.slots.ints s inside;
   };
-  begun = λ s b inside e. begun_still v u b.base later (st.begun s b inside e);
+  held = λ s b inside e. held_opened p m c low frame.call b.base older (st.held s b inside e);
   saved = st.saved;
   alone = λ b live. alone_at b live (slot_or_not c (many p m) b);
   clear = λ b live old_one. clear_at b live old_one (slot_or_not c (many p m) b);
@@ -150,10 +161,10 @@ call_opened p m c low n frame v u memory stack back is older le later room ints 
         to same (inl below) = inl (omega (arith, same.at, same.size, below))
         to same (inr above) = inr (omega (arith, same.at, above))
 
-pub waits_opened : (p : Plan) (m c low : ℕ) (fs : List Activation) (v u : World) (memory : List Part) (stack back limit : ℕ) → FrameIs (function p m) → limit ≤ c → v.calls ≤ c → v.calls ≤ u.calls →
+pub waits_opened : (p : Plan) (m c low : ℕ) (fs : List Activation) (v u : World) (memory : List Part) (stack back limit : ℕ) → FrameIs (function p m) → limit ≤ c →
     low + (shape p m).size ≤ stack → IntsHold (opened p m c low) u memory → CallsWait p fs v memory stack back limit → CallsWait (opened p m c low) fs u memory stack back limit
-waits_opened p m c low [] v u memory stack back limit is less le later room ints h = h
-waits_opened p m c low (a ∷ fs) v u memory stack back limit is less le later room ints h =
+waits_opened p m c low [] v u memory stack back limit is less room ints h = h
+waits_opened p m c low (a ∷ fs) v u memory stack back limit is less room ints h =
     let w = h.3 in (
       h.0,
       h.1,
@@ -167,9 +178,9 @@ waits_opened p m c low (a ∷ fs) v u memory stack back limit is less le later r
         front = w.front;
         is = w.is;
         returns = w.returns;
-        stands = call_opened p m c low h.1 a.frame v u memory stack h.2 is (omega (arith, h.0, less)) le later room ints w.stands;
+        stands = call_opened p m c low h.1 a.frame v u memory stack h.2 is (omega (arith, h.0, less)) room ints w.stands;
       },
-      waits_opened p m c low fs v u memory (stack + (shape p h.1).size) h.2 a.frame.call is (omega (arith, h.0, less)) le later (omega (arith, room)) ints h.4,
+      waits_opened p m c low fs v u memory (stack + (shape p h.1).size) h.2 a.frame.call is (omega (arith, h.0, less)) (omega (arith, room)) ints h.4,
     )
 
 pub unit_opened : (p : Plan) (m c low : ℕ) (memory : List Part) → UnitStands p memory → UnitStands (opened p m c low) memory

@@ -48,6 +48,7 @@ use Rattle.operation_simulation.specs.Laws.{OperationsRun}
 use Rattle.operation_simulation.proofs.Words.{OperationAt, operation_at, place_below}
 use Rattle.operation_simulation.proofs.Holding.{MayHold, location_may, location_matches, slot_may, slot_place, address_matches}
 use Rattle.operation_simulation.proofs.Matching.{Stands, stands_by, ready_here, some_steps, Arrives, matched, memory_at}
+use Rattle.operation_simulation.proofs.Asked.{operation_stands}
 use Rattle.operation_simulation.proofs.Quiet.{moved, plain_whole, plain_dropped, plain_needs, store_step, bind_step, value_step, jump_step, label_step, test_step, outside_stored}
 
 -- the first word of the next operation
@@ -271,4 +272,6 @@ operation_runs places addresses image p n st next w back (jump_zero v l) h there
 operation_runs places addresses image p n st next w back o h there quiet stands e = absurd quiet
 
 pub operations_run : PlacesAreWritten → AddressesAreComputed → OperationsRun
-operations_run places addresses image p n st next w o h runs there quiet stands e = operation_runs places addresses image p n st next w h.back o (stands_by p n st w h runs) there quiet stands e
+operations_run places addresses image p n st next w o h runs there quiet asked e =
+    let stood = stands_by p n st w h runs in
+    operation_runs places addresses image p n st next w h.back o stood there quiet (operation_stands p n st.top.frame st.world w.hart.memory (x w.hart sp) h.back stood.memory.top o quiet asked) e

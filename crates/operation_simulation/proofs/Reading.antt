@@ -37,6 +37,7 @@ use Rattle.operation_simulation.specs.Matches.{MemoryMatches, Matches, SameOutsi
 use Rattle.operation_simulation.specs.Operations.{Matched}
 use Rattle.operation_simulation.specs.Returns.{WantedStands}
 use Rattle.operation_simulation.specs.Bytes.{Reads, AreBytes, BytesRun}
+use Rattle.operation_simulation.proofs.Asked.{wanted_stands}
 use Rattle.operation_simulation.proofs.Words.{OperationAt, operation_at}
 use Rattle.operation_simulation.proofs.Matching.{Stands, stands_by, Arrives, outside_stays}
 use Rattle.operation_simulation.proofs.Quiet.{moved, step_is, plain_is}
@@ -199,7 +200,8 @@ read_runs places turns image p n st next w back o wants h there read bytes stand
     })
 
 pub bytes_run : PlacesAreWritten → CallsAreTurns → BytesRun
-bytes_run places turns image p n st next w o wants h runs there reads bytes stands e =
+bytes_run places turns image p n st next w o wants h runs there reads bytes asked e =
+    let stood = stands_by p n st w h runs in
     let read = read_op p n wants st o runs there reads in
-    read_runs places turns image p n st next w h.back o wants (stands_by p n st w h runs) there read bytes stands
+    read_runs places turns image p n st next w h.back o wants stood there read bytes (wanted_stands p n st.top.frame st.world w.hart.memory (x w.hart sp) h.back stood.memory.top wants asked)
     (finished_step (code_of p.unit) (slot_kinds p n) wants (byte_of st.world.input) (taken st.world) st next (read.steps next e))

@@ -42,6 +42,8 @@ use Rattle.operation_simulation.proofs.Words.{OperationAt, operation_at, even_ba
 use Rattle.operation_simulation.proofs.Holding.{location_may, location_matches}
 use Rattle.operation_simulation.proofs.Matching.{Stands, stands_by, ready_here, Arrives, matched}
 use Rattle.operation_simulation.proofs.Quiet.{step_is, outside_stored}
+use Rattle.operation_simulation.proofs.Asked.{wanted_stands}
+use Rattle.operation_simulation.specs.Asked.{WantedAsked}
 use Rattle.operation_simulation.proofs.Closing.{popped}
 
 -- ---- a value that a place wants
@@ -176,7 +178,7 @@ waits_for p n m a v memory stack back outer h callee = let both : compiled n ≡
 return_runs : PlacesAreWritten → (image : Image) (p : Plan) (n m : ℕ) (st next : LinearState) (w : abi.World) (a : Activation) (fs : List Activation) (r : Option ℕ) (o : LinearOp) (back outer : ℕ) →
     Stands p n st w back → slice_get (function p n).ops st.top.place ≡ Some (return r) → st.frames ≡ a ∷ fs → slice_get (function p m).ops a.place ≡ Some o → a.frame.call < st.top.frame.call →
     Waits p m a st.world w.hart.memory (x w.hart sp + (shape p n).size) back outer → CallsWait p fs st.world w.hart.memory (x w.hart sp + (shape p n).size + (shape p m).size) outer a.frame.call →
-    ResultStands p n st.top.frame r → WantedStands (closed p a.frame.call) m a.frame (wanted o) → ReturnStep p n m r o a fs st next →
+    ResultStands p n st.top.frame r → WantedAsked (closed p a.frame.call) m a.frame (wanted o) → ReturnStep p n m r o a fs st next →
     Matched image (length (linear_code (shape p n) (return r)) + length (stored_behind (shape p m) o)) w [] (λ v. Matches (closed p a.frame.call) next v)
 return_runs places image p n m st next w a fs r o back outer h there frames waits less waiting rest result wants went =
     let d : ℕ = a.frame.call in
@@ -227,7 +229,8 @@ return_runs places image p n m st next w a fs r o back outer h there frames wait
     let at_t : MemoryMatches q m a.frame fs st.world t.memory (x t sp) outer
     = subst (λ ps. MemoryMatches q m a.frame fs st.world ps (x t sp) outer) (sym memory_t) (subst (λ b. MemoryMatches q m a.frame fs st.world s.memory b outer) (sym stack_t) again) in
     let behind_t : PiecesAt t.memory (setting q m).ground (word_m + length front_m) behind = subst (λ ps. PiecesAt ps (setting p m).ground (word_m + length front_m) behind) (sym memory_t) parts_m.1 in
-    let got = receives places q m (word_m + length front_m) a.frame went.frame fs st.world went.world outer (wanted o) went.value t at_t second.registers (second.pc ∙ waiting.returns) behind_t value.int value_t wants went.stored in
+    let got = receives places q m (word_m + length front_m) a.frame went.frame fs st.world went.world outer (wanted o) went.value t at_t second.registers (second.pc ∙ waiting.returns) behind_t value.int value_t
+    (wanted_stands q m a.frame st.world s.memory (x s sp + f.size) outer again.top (wanted o) wants) went.stored in
     let u : State = got.after in
     let k : ℕ = first.steps + 3 + got.steps in
     let runs : Executes k s u = steps_then (first.steps + 3) got.steps s t u (steps_then first.steps 3 s m1 t first.runs second.runs) got.runs in

@@ -49,13 +49,13 @@ step_reaches : PlacesAreWritten → AddressesAreComputed → CallsAreTurns → (
     StepMade p st next q most items → Reaches image most w items (λ v. Matches q next v)
 step_reaches places addresses turns image p q st next w most items h (inl s) =
     reached_by image p next w most items q (length (linear_code (shape p s.number) s.operation)) [] s.plan s.turns s.nothing_shown
-    (operations_run places addresses image p s.number st next w s.operation h s.at.runs s.at.there s.quiet s.stands s.at.step)
+    (operations_run places addresses image p s.number st next w s.operation h s.at.runs s.at.there s.quiet s.asked s.at.step)
 step_reaches places addresses turns image p q st next w most items h (inr (inl s)) =
-    let line = lines_run turns image p s.number st next w s.operation s.value h s.at.runs s.at.there s.writes s.stands s.at.step in
+    let line = lines_run turns image p s.number st next w s.operation s.value h s.at.runs s.at.there s.writes s.asked s.at.step in
     reached_by image p next w most items q (length (linear_code (shape p s.number) s.operation)) line.0 s.plan s.turns (same_line p s.number s.value st next items line.0 s.line line.1) line.2
 step_reaches places addresses turns image p q st next w most items h (inr (inr (inl s))) =
     reached_by image p next w most items q (length (linear_code (shape p s.number) s.operation)) [] s.plan s.turns s.nothing_shown
-    (bytes_run places turns image p s.number st next w s.operation s.wants h s.at.runs s.at.there s.reads s.bytes s.stands s.at.step)
+    (bytes_run places turns image p s.number st next w s.operation s.wants h s.at.runs s.at.there s.reads s.bytes s.asked s.at.step)
 step_reaches places addresses turns image p q st next w most items h (inr (inr (inr (inl s)))) =
     reached_by image (opened p s.call.number st.world.calls (frame_for p s.call.number (st.top ∷ st.frames))) next w most items q (length (linear_code (shape p s.number) s.operation) + 4) [] s.plan s.turns s.nothing_shown
     (calls_run addresses image p s.number st next w s.operation s.call s.given h s.at.runs s.at.there s.is s.passed s.fits s.at.step)

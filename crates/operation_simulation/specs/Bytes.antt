@@ -13,7 +13,7 @@ use Rattle.emission_forms.specs.LinearCode.{linear_code}
 use Rattle.operation_simulation.specs.Plan.{Plan, function, shape}
 use Rattle.operation_simulation.specs.Matches.{Matches}
 use Rattle.operation_simulation.specs.Operations.{Matched}
-use Rattle.operation_simulation.specs.Returns.{WantedStands}
+use Rattle.operation_simulation.specs.Asked.{WantedAsked}
 
 -- an operation reads a byte, for a place or for none
 pub record Reads (wants : Option Place) (o : LinearOp) : Type 0 where
@@ -29,4 +29,4 @@ AreBytes (b ∷ bytes) = (b < 256) × AreBytes bytes
 -- stored alike.
 abbrev pub BytesRun : Type 0
 BytesRun = (image : Image) (p : Plan) (n : ℕ) (st next : State) (w : abi.World) (o : LinearOp) (wants : Option Place) → Matches p st w → st.top.function ≡ compiled n → slice_get (function p n).ops st.top.place ≡ Some o →
-    Reads wants o → AreBytes st.world.input → WantedStands p n st.top.frame wants → step (code_of p.unit) st ≡ goes_to next → Matched image (length (linear_code (shape p n) o)) w [] (λ u. Matches p next u)
+    Reads wants o → AreBytes st.world.input → WantedAsked p n st.top.frame wants → step (code_of p.unit) st ≡ goes_to next → Matched image (length (linear_code (shape p n) o)) w [] (λ u. Matches p next u)

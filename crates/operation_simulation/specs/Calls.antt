@@ -19,6 +19,13 @@ use Rattle.code_simulation.specs.Frames.{AddressAt, FrameHolds}
 use Rattle.operation_simulation.specs.Plan.{Plan, function, shape, slot_kinds, routine, first_word, setting}
 use Rattle.operation_simulation.specs.Extents.{newer, SlotsStand}
 
+-- What a call's slot may hold the address of: a global, and a variable of that call or of one that is open below it, each of them live; of
+-- exceptions nothing is said.
+abbrev pub HeldBy : Plan → ℕ → Base → Type 0
+HeldBy p c (of_global g) = p.live (of_global g) ≡ true
+HeldBy p c (of_variable d s) = (p.live (of_variable d s) ≡ true) × (d ≤ c)
+HeldBy p c (of_exception e) = Unit {0}
+
 -- an address is of what has begun
 abbrev pub IsBegun : World → Base → Type 0
 IsBegun v (of_global g) = Unit {0}
@@ -34,7 +41,7 @@ pub record CallStands (p : Plan) (n : ℕ) (frame : Frame) (w : World) (memory :
   pub below : stack + (shape p n).size ≤ 0x7100_0000
   pub holds : FrameHolds (setting p n) (shape p n) (slot_kinds p n) frame w memory stack
   pub slots : SlotsStand p (shape p n) (slot_kinds p n) frame
-  pub begun : (s : ℕ) (b : Address) → s < length (shape p n).slots → address_in (frame.slots s) ≡ Some b → IsBegun w b.base
+  pub held : (s : ℕ) (b : Address) → s < length (shape p n).slots → address_in (frame.slots s) ≡ Some b → HeldBy p frame.call b.base
   pub saved : AddressAt memory (stack + return_offset) back
   pub alone : (b : Base) → p.live b ≡ true → Apart (p.at b) (p.size b) (stack + return_offset) 8
   pub clear : (b : Base) → p.live b ≡ true → newer frame.call b ≡ false → (p.at b + p.size b ≤ 0x7000_0000) ⊎ (stack ≤ p.at b)

@@ -20,6 +20,7 @@ use Rattle.operation_simulation.specs.Extents.{AddressStands}
 use Rattle.operation_simulation.specs.Calls.{CallOf, call_of, stack_end, open_bytes}
 use Rattle.operation_simulation.specs.Matches.{Matches}
 use Rattle.operation_simulation.specs.Operations.{PlaceFits, Matched}
+use Rattle.operation_simulation.specs.Asked.{ArgumentsAsked, ObjectAsked}
 
 -- a base is one of the first so many slots of a call
 abbrev pub is_slot : (call count : ℕ) → Base → Bool
@@ -85,8 +86,8 @@ WordsFit kinds s (x ∷ given) = WordFits (kinds s) x × WordsFit kinds (s + 1) 
 -- passed; and the 16 MiB of the stack have room for its frame above the lowest 4 KiB. All but the last is what well-formed regions ask of a
 -- call, and there is room as long as fewer than 8,190 calls are open.
 pub record CallFits (p : Plan) (n : ℕ) (frame : Frame) (active : List Activation) (c : CallOf) (given : List Word) : Type 0 where
-  pub object : ObjectStands p n frame c.object
-  pub arguments : ArgumentsStand p n frame c.arguments
+  pub object : ObjectAsked p n frame c.object
+  pub arguments : ArgumentsAsked p n frame c.arguments
   pub known : c.number < length p.unit.functions
   pub passed : length given ≤ length (shape p c.number).slots
   pub words : WordsFit (slot_kinds p c.number) 0 given

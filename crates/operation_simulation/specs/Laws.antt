@@ -20,7 +20,8 @@ use Rattle.operation_simulation.specs.Plan.{Plan, function, shape, slot_kinds, s
 use Rattle.operation_simulation.specs.Extents.{StandApart, IntsInside, LocationStands}
 use Rattle.operation_simulation.specs.Calls.{CallStands}
 use Rattle.operation_simulation.specs.Matches.{MemoryMatches, Matches}
-use Rattle.operation_simulation.specs.Operations.{IsQuiet, OperationStands, Matched}
+use Rattle.operation_simulation.specs.Operations.{IsQuiet, Matched}
+use Rattle.operation_simulation.specs.Asked.{OperationAsked}
 
 -- A store inside the bytes of one live thing leaves every open call in whose frame no slot that begins there holds a word: its slots, its
 -- return address and where its bytes are. An int that is written where ints may be written changes the state of the machine for linear
@@ -40,5 +41,5 @@ pub record StoresStayApart : Type 0 where
 -- operation has words, and at least one if it has any. They show nothing, and the state and the world behind them match.
 abbrev pub OperationsRun : Type 0
 OperationsRun = (image : Image) (p : Plan) (n : ℕ) (st next : State) (w : abi.World) (o : LinearOp) → Matches p st w → st.top.function ≡ compiled n → slice_get (function p n).ops st.top.place ≡ Some o →
-    IsQuiet o → OperationStands p n st.top.frame o → step (code_of p.unit) st ≡ goes_to next →
+    IsQuiet o → OperationAsked p n st.top.frame o → step (code_of p.unit) st ≡ goes_to next →
     Matched image (length (linear_code (shape p n) o)) w [] (λ v. Matches p next v)

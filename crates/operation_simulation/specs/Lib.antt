@@ -3,6 +3,7 @@ pub mod Extents
 pub mod Calls
 pub mod Matches
 pub mod Operations
+pub mod Asked
 pub mod Returns
 pub mod Entering
 pub mod Ending

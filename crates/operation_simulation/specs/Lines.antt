@@ -13,10 +13,10 @@ use Rattle.linear_forms.specs.Activation.{State, goes_to}
 use Rattle.linear_forms.specs.Machine.{step}
 use Rattle.linear_forms.specs.UnitRun.{code_of}
 use Rattle.emission_forms.specs.LinearCode.{linear_code}
-use Rattle.code_simulation.specs.Frames.{ValueStands}
-use Rattle.operation_simulation.specs.Plan.{Plan, function, shape, slot_kinds, setting}
+use Rattle.operation_simulation.specs.Plan.{Plan, function, shape, slot_kinds}
 use Rattle.operation_simulation.specs.Matches.{Matches}
 use Rattle.operation_simulation.specs.Operations.{Matched}
+use Rattle.operation_simulation.specs.Asked.{ValueAsked}
 
 -- an operation writes the int of a value
 abbrev pub Writes : Value → LinearOp → Type 0
@@ -32,5 +32,5 @@ pub record LineIs (p : Plan) (n : ℕ) (v : Value) (st next : State) (items : Li
 
 abbrev pub LinesRun : Type 0
 LinesRun = (image : Image) (p : Plan) (n : ℕ) (st next : State) (w : abi.World) (o : LinearOp) (v : Value) → Matches p st w → st.top.function ≡ compiled n → slice_get (function p n).ops st.top.place ≡ Some o →
-    Writes v o → ValueStands (setting p n) (shape p n) (slot_kinds p n) st.top.frame v → step (code_of p.unit) st ≡ goes_to next →
+    Writes v o → ValueAsked p n st.top.frame v → step (code_of p.unit) st ≡ goes_to next →
     (items : List Item) × LineIs p n v st next items × Matched image (length (linear_code (shape p n) o)) w items (λ u. Matches p next u)

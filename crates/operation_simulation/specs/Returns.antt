@@ -15,6 +15,7 @@ use Rattle.operation_simulation.specs.Extents.{newer}
 use Rattle.operation_simulation.specs.Calls.{wanted, stored_behind}
 use Rattle.operation_simulation.specs.Matches.{Matches}
 use Rattle.operation_simulation.specs.Operations.{PlaceFits, PlaceStands, Matched}
+use Rattle.operation_simulation.specs.Asked.{WantedAsked}
 
 -- slots of calls newer than one are no longer live
 abbrev pub closed : Plan → ℕ → Plan
@@ -35,5 +36,5 @@ WantedStands p n frame (Some q) = PlaceStands p n frame q
 abbrev pub ReturnsRun : Type 0
 ReturnsRun = (image : Image) (p : Plan) (n m : ℕ) (st next : State) (w : abi.World) (a : Activation) (fs : List Activation) (r : Option ℕ) (o : LinearOp) → Matches p st w → st.top.function ≡ compiled n →
     slice_get (function p n).ops st.top.place ≡ Some (return r) → st.frames ≡ a ∷ fs → a.function ≡ compiled m → slice_get (function p m).ops a.place ≡ Some o →
-    ResultStands p n st.top.frame r → WantedStands (closed p a.frame.call) m a.frame (wanted o) → step (code_of p.unit) st ≡ goes_to next →
+    ResultStands p n st.top.frame r → WantedAsked (closed p a.frame.call) m a.frame (wanted o) → step (code_of p.unit) st ≡ goes_to next →
     Matched image (length (linear_code (shape p n) (return r)) + length (stored_behind (shape p m) o)) w [] (λ v. Matches (closed p a.frame.call) next v)

@@ -14,13 +14,13 @@ use Rattle.linear_forms.specs.Activation.{Activation, State, goes_to, finishes, 
 use Rattle.linear_forms.specs.Machine.{step}
 use Rattle.linear_forms.specs.UnitRun.{code_of}
 use Rattle.emission_forms.specs.LinearCode.{linear_code}
-use Rattle.code_simulation.specs.Frames.{ValueStands}
 use Rattle.code_simulation.specs.Turning.{Reaches}
-use Rattle.operation_simulation.specs.Plan.{Plan, function, shape, slot_kinds, setting}
+use Rattle.operation_simulation.specs.Plan.{Plan, function, shape, slot_kinds}
 use Rattle.operation_simulation.specs.Calls.{CallOf, call_of, wanted, stored_behind}
 use Rattle.operation_simulation.specs.Matches.{Matches}
-use Rattle.operation_simulation.specs.Operations.{IsQuiet, OperationStands}
-use Rattle.operation_simulation.specs.Returns.{closed, ResultStands, WantedStands}
+use Rattle.operation_simulation.specs.Operations.{IsQuiet}
+use Rattle.operation_simulation.specs.Asked.{ValueAsked, WantedAsked, OperationAsked}
+use Rattle.operation_simulation.specs.Returns.{closed, ResultStands}
 use Rattle.operation_simulation.specs.Entering.{opened, frame_for, given_to, CallFits}
 use Rattle.operation_simulation.specs.Lines.{Writes, LineIs}
 use Rattle.operation_simulation.specs.Bytes.{Reads, AreBytes}
@@ -37,7 +37,7 @@ pub record QuietStep (p : Plan) (st next : State) (q : Plan) (most : ℕ) (items
   pub operation : LinearOp
   pub at : StepAt p st next number operation
   pub quiet : IsQuiet operation
-  pub stands : OperationStands p number st.top.frame operation
+  pub asked : OperationAsked p number st.top.frame operation
   pub plan : q ≡ p
   pub turns : most ≡ length (linear_code (shape p number) operation)
   pub nothing_shown : items ≡ []
@@ -49,7 +49,7 @@ pub record LineStep (p : Plan) (st next : State) (q : Plan) (most : ℕ) (items 
   pub at : StepAt p st next number operation
   pub value : Value
   pub writes : Writes value operation
-  pub stands : ValueStands (setting p number) (shape p number) (slot_kinds p number) st.top.frame value
+  pub asked : ValueAsked p number st.top.frame value
   pub plan : q ≡ p
   pub turns : most ≡ length (linear_code (shape p number) operation)
   pub line : LineIs p number value st next items
@@ -62,7 +62,7 @@ pub record ByteStep (p : Plan) (st next : State) (q : Plan) (most : ℕ) (items 
   pub wants : Option Place
   pub reads : Reads wants operation
   pub bytes : AreBytes st.world.input
-  pub stands : WantedStands p number st.top.frame wants
+  pub asked : WantedAsked p number st.top.frame wants
   pub plan : q ≡ p
   pub turns : most ≡ length (linear_code (shape p number) operation)
   pub nothing_shown : items ≡ []
@@ -94,7 +94,7 @@ pub record ReturnStep (p : Plan) (st next : State) (q : Plan) (most : ℕ) (item
   pub callee : waiting.function ≡ compiled caller
   pub waits : slice_get (function p caller).ops waiting.place ≡ Some operation
   pub stands : ResultStands p number st.top.frame result
-  pub wants : WantedStands (closed p waiting.frame.call) caller waiting.frame (wanted operation)
+  pub wants : WantedAsked (closed p waiting.frame.call) caller waiting.frame (wanted operation)
   pub plan : q ≡ closed p waiting.frame.call
   pub turns : most ≡ length (linear_code (shape p number) (return result)) + length (stored_behind (shape p caller) operation)
   pub nothing_shown : items ≡ []

@@ -20,8 +20,8 @@ pub fn stores_stay_apart()
 {}
 
 /// Stores, binds, values, labels and jumps do on the ABI machine what they do on the machine for linear code. What is asked of a program
-/// is what well-formed regions, bounded frames and short functions give; that an address in a slot is one of live bytes is so as long as
-/// no reference outlives its object.
+/// is what well-formed regions, bounded frames and short functions give, and that an int behind an address lies inside what the address
+/// begins at, as types have it. That no variable's address is used when its call is over is kept by all that matches, and not asked.
 pub fn operations_run()
     ensures { OperationsRun }
 {
