@@ -30,3 +30,4 @@ pub mod Beginning
 pub mod Items
 pub mod Whole
 pub mod Frames
+pub mod Room

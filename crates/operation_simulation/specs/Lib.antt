@@ -15,4 +15,5 @@ pub mod Units
 pub mod Beginning
 pub mod Whole
 pub mod Frames
+pub mod Room
 pub mod Laws

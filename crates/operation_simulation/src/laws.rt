@@ -8,6 +8,7 @@ ghost use Rattle.operation_simulation.specs.Frames.{FramesAreLaidOut};
 ghost use Rattle.operation_simulation.specs.Laws.{OperationsRun, StoresStayApart};
 ghost use Rattle.operation_simulation.specs.Lines.{LinesRun};
 ghost use Rattle.operation_simulation.specs.Returns.{ReturnsRun};
+ghost use Rattle.operation_simulation.specs.Room.{StackHasRoom};
 ghost use Rattle.operation_simulation.specs.Runs.{StepsRun};
 ghost use Rattle.operation_simulation.specs.Units.{UnitsStand};
 ghost use Rattle.operation_simulation.specs.Whole.{ProgramsRunPlainly};
@@ -103,4 +104,9 @@ pub fn programs_run_plainly()
 /// Frames of no more than 2,032 bytes, as every checked program has them, are as the simulation asks.
 pub fn frames_are_laid_out()
     ensures { FramesAreLaidOut }
+{}
+
+/// At most 8,190 open calls leave room in the stack for another, whatever their functions.
+pub fn stack_has_room()
+    ensures { StackHasRoom }
 {}
