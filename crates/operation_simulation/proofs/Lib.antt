@@ -21,6 +21,7 @@ pub mod Calling
 pub mod Ending
 pub mod Lines
 pub mod Reading
+pub mod Exiting
 pub mod Runs
 pub mod ValueFields
 pub mod Fields

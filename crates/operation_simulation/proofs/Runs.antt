@@ -1,6 +1,7 @@
 -- Steps that are matched, one after the other.
-use Rattle.std.proofs.Common.{◌≡◌, ◌∙◌, sym, ap, subst, arith, ℕ, zero, suc, ◌+◌, ◌-◌, List, [], ◌∷◌, ◌++◌, append-nil, length, Some, inl, inr}
+use Rattle.std.proofs.Common.{◌≡◌, ◌∙◌, sym, ap, subst, arith, ℕ, zero, suc, ◌+◌, ◌-◌, ◌≤◌, List, [], ◌∷◌, ◌++◌, append-nil, length, Some, inl, inr, ℤ}
 use Rattle.run_items.specs.declared.item.Item.{Item}
+use Rattle.cxa_runtime.specs.declared.effect.End.TheVariants.{Exit}
 use Rattle.cxa_runtime.specs.World as abi
 use Rattle.cxa_runtime.specs.Raising.{Image}
 use Rattle.cxa_runtime.specs.Run.{Ran, run}
@@ -19,13 +20,15 @@ use Rattle.operation_simulation.specs.Operations.{Matched}
 use Rattle.operation_simulation.specs.Returns.{closed}
 use Rattle.operation_simulation.specs.Entering.{opened, frame_for}
 use Rattle.operation_simulation.specs.Lines.{LineIs}
-use Rattle.operation_simulation.specs.Runs.{StepMade, StepsMade, StepsRun}
+use Rattle.operation_simulation.specs.Runs.{StepMade, StepsMade, EndMade, StepsRun}
 use Rattle.operation_simulation.proofs.Operations.{operations_run}
 use Rattle.operation_simulation.proofs.Returning.{returns_run}
 use Rattle.operation_simulation.proofs.Calling.{calls_run}
 use Rattle.operation_simulation.proofs.Lines.{lines_run}
 use Rattle.operation_simulation.proofs.Reading.{bytes_run}
 use Rattle.operation_simulation.proofs.Ending.{mains_end}
+use Rattle.operation_simulation.proofs.Exiting.{exits_end}
+use Rattle.region_forms.specs.World.{World}
 
 -- what is matched is reached
 reached_by : (image : Image) (p : Plan) (next : State) (w : abi.World) (most : ℕ) (items : List Item) (q : Plan) (k : ℕ) (shown : List Item) → q ≡ p → most ≡ k → items ≡ shown →
@@ -85,14 +88,21 @@ steps_reach places addresses turns image (suc n) p q st next w most items h made
       holds = rest.holds;
     }
 
+-- the end of a run
+end_runs : CallsAreTurns → (image : Image) (pick : ℕ → ℕ) (k : ℕ) (p : Plan) (st : State) (w : abi.World) (most : ℕ) (z : ℤ) (v : World) → Matches p st w → EndMade p st most z v → most ≤ k →
+    ((run image pick k w).items ≡ []) × ((run image pick k w).end ≡ Exit z)
+end_runs turns image pick k p st w most z v h (inl s) enough = mains_end turns image pick k p s.number st w s.result z v h s.runs s.there s.alone s.stands s.ends (omega (arith, enough, s.six))
+end_runs turns image pick k p st w most z v h (inr s) enough =
+    exits_end turns image pick k p s.number st w s.operation s.value z v h s.runs s.there s.calls s.asked s.ends (omega (arith, enough, s.words))
+
 pub steps_run : PlacesAreWritten → AddressesAreComputed → CallsAreTurns → StepsRun
 steps_run places addresses turns = record {
   reaches = λ image n p q st next w most items h made. steps_reach places addresses turns image n p q st next w most items h made;
-  ends = λ image pick k n p q st last w most items number result z v h made runs there frames stands e some.
+  ends = λ image pick k n p q st last w most items last_turns z v h made end some.
       let reached = steps_reach places addresses turns image n p q st last w most items h made in
       let left : ℕ = k - reached.turns in
       let count : k ≡ reached.turns + left = omega (arith, reached.few, some) in
       let whole = ap (λ i. run image pick i w) count ∙ reached.runs.run pick left in
-      let ended = mains_end turns image pick left q number last reached.after result z v reached.holds runs there frames stands e (omega (arith, reached.few, some)) in
+      let ended = end_runs turns image pick left q last reached.after last_turns z v reached.holds end (omega (arith, reached.few, some)) in
       (ap (λ (y : Ran). y.items) whole ∙ ap (λ is. items ++ is) ended.0 ∙ append-nil items, ap (λ (y : Ran). y.end) whole ∙ ended.1);
 }

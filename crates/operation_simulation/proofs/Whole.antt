@@ -1,5 +1,5 @@
 -- A whole run of a program.
-use Rattle.std.proofs.Common.{◌≡◌, ◌∙◌, sym, ap, arith, ℕ, zero, suc, ◌+◌, ◌-◌, ◌≤◌, List, inl, inr}
+use Rattle.std.proofs.Common.{◌≡◌, ◌∙◌, sym, ap, arith, ℕ, zero, suc, ◌+◌, ◌-◌, ◌≤◌, List, inl, inr, ℤ}
 use Rattle.run_items.specs.declared.item.Item.{Item}
 use Rattle.scope_rules.specs.Outcome.{exit}
 use Rattle.cxa_runtime.specs.declared.effect.End.TheVariants.{Exit}
@@ -10,10 +10,13 @@ use Rattle.linear_forms.specs.Machine.{step, go_on, exec, over}
 use Rattle.linear_forms.specs.UnitRun.{code_of, first_state}
 use Rattle.code_simulation.specs.Laws.{PlacesAreWritten, AddressesAreComputed, CallsAreTurns}
 use Rattle.operation_simulation.specs.Plan.{Plan}
-use Rattle.operation_simulation.specs.Runs.{StepMade, StepsMade}
+use Rattle.operation_simulation.specs.Runs.{StepMade, StepsMade, EndMade}
 use Rattle.operation_simulation.specs.Whole.{plan_of_main, ProgramsRunPlainly}
 use Rattle.operation_simulation.proofs.Runs.{steps_run}
 use Rattle.operation_simulation.proofs.Ending.{end_world}
+use Rattle.operation_simulation.proofs.Exiting.{exit_world}
+use Rattle.scope_rules.specs.Outcome.{exit}
+use Rattle.linear_forms.specs.Activation.{finishes}
 use Rattle.operation_simulation.proofs.Items.{steps_items}
 use Rattle.operation_simulation.proofs.Beginning.{main_begins}
 
@@ -50,21 +53,27 @@ all_steps (suc n) p q st last most items made =
       unit = rest.unit ∙ first.unit;
     }
 
+-- the end is one of the machine for linear code
+end_step : (p : Plan) (st : State) (most : ℕ) (z : ℤ) (v : World) → EndMade p st most z v → (step (code_of p.unit) st ≡ finishes (by_program (exit z)) v) × (st.world ≡ v)
+end_step p st most z v (inl s) = (s.ends, end_world p s.number st s.result z v s.runs s.there s.alone s.ends)
+end_step p st most z v (inr s) = (s.ends, exit_world p s.number s.value st s.operation z v s.runs s.there s.calls s.ends)
+
 pub programs_run_plainly : PlacesAreWritten → AddressesAreComputed → CallsAreTurns → ProgramsRunPlainly
-programs_run_plainly places addresses turns image u base w input replies n most q last items number result z v before same_input same_replies none quiet made runs there frames stands e =
+programs_run_plainly places addresses turns image u base w input replies n most q last items last_turns z v before same_input same_replies none quiet made end =
     let p : Plan = plan_of_main u base in
     let start = main_begins image u base w input replies before same_input same_replies none quiet in
     let all = all_steps n p q (first_state u input replies) last most items made in
-    let one : exec (code_of u) 1 last ≡ over (by_program (exit z)) v = ap (λ c. go_on (exec (code_of u) 0) (step (code_of c) last)) (sym all.unit) ∙ ap (go_on (exec (code_of u) 0)) e in
-    let ends : (pick : ℕ → ℕ) (k : ℕ) → most + 14 ≤ k → ((run image pick k w).items ≡ items) × ((run image pick k w).end ≡ Exit z) = λ pick k some.
+    let ended = end_step q last last_turns z v end in
+    let one : exec (code_of u) 1 last ≡ over (by_program (exit z)) v = ap (λ c. go_on (exec (code_of u) 0) (step (code_of c) last)) (sym all.unit) ∙ ap (go_on (exec (code_of u) 0)) ended.0 in
+    let ends : (pick : ℕ → ℕ) (k : ℕ) → 8 + (most + last_turns) ≤ k → ((run image pick k w).items ≡ items) × ((run image pick k w).end ≡ Exit z) = λ pick k some.
     let left : ℕ = k - start.turns in
     let count : k ≡ start.turns + left = omega (arith, start.few, some) in
     let whole = ap (λ i. run image pick i w) count ∙ start.runs.run pick left in
-    let rest = (steps_run places addresses turns).ends image pick left n p q (first_state u input replies) last start.after most items number result z v start.holds made runs there frames stands e (omega (arith, start.few, some)) in
+    let rest = (steps_run places addresses turns).ends image pick left n p q (first_state u input replies) last start.after most items last_turns z v start.holds made end (omega (arith, start.few, some)) in
     (ap (λ (y : Ran). y.items) whole ∙ rest.0, ap (λ (y : Ran). y.end) whole ∙ rest.1) in
     record {
       linear = all.goes 1 ∙ one;
-      shown = ap (λ (y : World). y.items) (sym (end_world q number last result z v runs there frames e)) ∙ steps_items n p q (first_state u input replies) last most items made;
+      shown = ap (λ (y : World). y.items) (sym ended.1) ∙ steps_items n p q (first_state u input replies) last most items made;
       items_same = λ pick k some. (ends pick k some).0;
       ends_same = λ pick k some. (ends pick k some).1;
     }

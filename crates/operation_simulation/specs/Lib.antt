@@ -9,6 +9,7 @@ pub mod Entering
 pub mod Ending
 pub mod Lines
 pub mod Bytes
+pub mod Exits
 pub mod Runs
 pub mod Fields
 pub mod Units

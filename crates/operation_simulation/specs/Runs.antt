@@ -23,6 +23,7 @@ use Rattle.operation_simulation.specs.Asked.{ValueAsked, WantedAsked, OperationA
 use Rattle.operation_simulation.specs.Returns.{closed, ResultStands}
 use Rattle.operation_simulation.specs.Entering.{opened, frame_for, given_to, CallFits}
 use Rattle.operation_simulation.specs.Lines.{Writes, LineIs}
+use Rattle.operation_simulation.specs.Exits.{CallsExit}
 use Rattle.operation_simulation.specs.Bytes.{Reads, AreBytes}
 
 -- a step at an operation of the newest call
@@ -110,12 +111,38 @@ StepsMade (suc n) p st next q most items =
     (middle : State) × (r : Plan) × (first : ℕ) × (rest : ℕ) × (shown : List Item) × (later : List Item) ×
     StepMade p st middle r first shown × StepsMade n r middle next q rest later × (most ≡ first + rest) × (items ≡ shown ++ later)
 
+-- the end of a run, with the most turns that it takes: main returns
+pub record MainReturns (p : Plan) (st : State) (turns : ℕ) (z : ℤ) (v : World) : Type 0 where
+  pub number : ℕ
+  pub result : Option ℕ
+  pub runs : st.top.function ≡ compiled number
+  pub there : slice_get (function p number).ops st.top.place ≡ Some (return result)
+  pub alone : st.frames ≡ []
+  pub stands : ResultStands p number st.top.frame result
+  pub ends : step (code_of p.unit) st ≡ finishes (by_program (exit z)) v
+  pub six : turns ≡ 6
+
+-- or exit is called
+pub record ExitCalled (p : Plan) (st : State) (turns : ℕ) (z : ℤ) (v : World) : Type 0 where
+  pub number : ℕ
+  pub operation : LinearOp
+  pub value : Value
+  pub runs : st.top.function ≡ compiled number
+  pub there : slice_get (function p number).ops st.top.place ≡ Some operation
+  pub calls : CallsExit value operation
+  pub asked : ValueAsked p number st.top.frame value
+  pub ends : step (code_of p.unit) st ≡ finishes (by_program (exit z)) v
+  pub words : turns ≡ length (linear_code (shape p number) operation)
+
+abbrev pub EndMade : Plan → State → ℕ → ℤ → World → Type 0
+EndMade p st turns z v = MainReturns p st turns z v ⊎ ExitCalled p st turns z v
+
 -- Steps one after the other are matched by at most as many turns as the sum of theirs, which show the same items; what matches in the end
--- is the state behind them. The run of the ABI machine in which main then returns shows these items and exits with what main gives.
+-- is the state behind them. The run of the ABI machine that then ends, since main returns or exit is called, shows these items and exits with
+-- the same number.
 pub record StepsRun : Type 0 where
   pub reaches : (image : Image) (n : ℕ) (p q : Plan) (st next : State) (w : abi.World) (most : ℕ) (items : List Item) → Matches p st w → StepsMade n p st next q most items →
       Reaches image most w items (λ v. Matches q next v)
-  pub ends : (image : Image) (pick : ℕ → ℕ) (k n : ℕ) (p q : Plan) (st last : State) (w : abi.World) (most : ℕ) (items : List Item) (number : ℕ) (result : Option ℕ) (z : ℤ) (v : World) → Matches p st w →
-      StepsMade n p st last q most items → last.top.function ≡ compiled number → slice_get (function q number).ops last.top.place ≡ Some (return result) → last.frames ≡ [] →
-      ResultStands q number last.top.frame result → step (code_of q.unit) last ≡ finishes (by_program (exit z)) v → most + 6 ≤ k →
+  pub ends : (image : Image) (pick : ℕ → ℕ) (k n : ℕ) (p q : Plan) (st last : State) (w : abi.World) (most : ℕ) (items : List Item) (turns : ℕ) (z : ℤ) (v : World) → Matches p st w →
+      StepsMade n p st last q most items → EndMade q last turns z v → most + turns ≤ k →
       ((run image pick k w).items ≡ items) × ((run image pick k w).end ≡ Exit z)

@@ -3,6 +3,7 @@ ghost use Rattle.operation_simulation.specs.Beginning.{MainBegins};
 ghost use Rattle.operation_simulation.specs.Bytes.{BytesRun};
 ghost use Rattle.operation_simulation.specs.Ending.{MainsEnd};
 ghost use Rattle.operation_simulation.specs.Entering.{CallsRun};
+ghost use Rattle.operation_simulation.specs.Exits.{ExitsEnd};
 ghost use Rattle.operation_simulation.specs.Fields.{PiecesFit};
 ghost use Rattle.operation_simulation.specs.Frames.{FramesAreLaidOut};
 ghost use Rattle.operation_simulation.specs.Laws.{OperationsRun, StoresStayApart};
@@ -67,8 +68,14 @@ pub fn mains_end()
     calls_are_turns();
 }
 
-/// Runs of such steps, with calls inside one another, are matched as a whole: the same items, at most so many turns, and the exit number of
-/// main.
+/// Where exit is called, whatever calls are open, the run of the ABI machine exits with what exit is given.
+pub fn exits_end()
+    ensures { ExitsEnd }
+{
+    calls_are_turns();
+}
+
+/// Runs of such steps, with calls inside one another, are matched as a whole: the same items, at most so many turns, and the exit number.
 pub fn steps_run()
     ensures { StepsRun }
 {
@@ -92,7 +99,7 @@ pub fn main_begins()
     ensures { MainBegins }
 {}
 
-/// A program whose main comes to its return by such steps runs alike on both machines: the same items, and the same exit number.
+/// A program whose main comes to its return, or to a call of exit, by such steps runs alike on both machines: the same items, and the same exit number.
 pub fn programs_run_plainly()
     ensures { ProgramsRunPlainly }
 {
