@@ -172,7 +172,7 @@ slot_matches p n frame fs v memory stack back s size value word h there plain fe
 
 -- ---- what is written at a location
 
--- the place of a slot that is no variable: a multiple of 8 if its frame is, but this is not needed
+-- the place of a slot that is no variable
 pub slot_place : (p : Plan) (n : ℕ) (frame : Frame) (fs : List Activation) (v : World) (memory : List Part) (stack back s : ℕ) → MemoryMatches p n frame fs v memory stack back → s < length (shape p n).slots →
     is_variable (slot_kinds p n s) ≡ false → ((stack + slot_offset (shape p n) s) % 4 ≡ 0) × (stack + slot_offset (shape p n) s + 8 < 2 ^ 64)
 slot_place p n frame fs v memory stack back s h there plain =

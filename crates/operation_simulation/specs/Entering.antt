@@ -84,7 +84,7 @@ WordsFit kinds s (x ∷ given) = WordFits (kinds s) x × WordsFit kinds (s + 1) 
 
 -- What is asked where a function is called: places and values of arguments fit; the function is there, its first slots are for what it is
 -- passed; and the 16 MiB of the stack have room for its frame above the lowest 4 KiB. All but the last is what well-formed regions ask of a
--- call, and there is room as long as fewer than 8,190 calls are open.
+-- call, and there is room as long as at most 8,190 calls are open.
 pub record CallFits (p : Plan) (n : ℕ) (frame : Frame) (active : List Activation) (c : CallOf) (given : List Word) : Type 0 where
   pub object : ObjectAsked p n frame c.object
   pub arguments : ArgumentsAsked p n frame c.arguments
