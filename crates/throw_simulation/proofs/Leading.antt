@@ -1,26 +1,21 @@
 -- Places lead to variables and to parts of the own object.
-use Rattle.std.proofs.Common.{◌≡◌, ℕ, suc, ◌+◌, ◌<◌, ◌≤◌, ℤ, Bool, true, List, [], ◌∷◌, ◌++◌, Option, Some, None, refl, sym, ap, ◌∙◌, subst, arith, length}
+use Rattle.std.proofs.Common.{◌≡◌, ℕ, ◌+◌, [], ◌∷◌, ◌++◌, Option, Some, None, sym, ap, ◌∙◌, subst, arith}
 use Rattle.std.specs.Prelude.{slice_get}
-use Rattle.cxx_ast.specs.declared.name.Name.{Name}
-use Rattle.cxx_ast.specs.declared.types.Ty.{Ty}
-use Rattle.cxx_ast.specs.declared.types.Ty.TheVariants.{Object}
 use Rattle.cxx_ast.specs.Plain.{Checked}
-use Rattle.scope_rules.specs.Class.{ObjectType, class_type, class_named, object_type, parts_of}
-use Rattle.scope_rules.specs.World.{World as SourceWorld, Reference, part}
-use Rattle.scope_rules.specs.Context.{Context as SourceContext}
+use Rattle.scope_rules.specs.Class.{class_type, object_type, parts_of}
+use Rattle.scope_rules.specs.World.{Reference, part}
 use Rattle.scope_rules.specs.Frame.{Frame as SourceFrame, variable_in}
-use Rattle.region_forms.specs.Ending.{Running}
 use Rattle.region_forms.specs.Layout.{Layout, laid_part}
-use Rattle.region_forms.specs.LowerExpression.{Lowering, variable_type}
+use Rattle.region_forms.specs.LowerExpression.{Lowering}
 use Rattle.region_forms.specs.LowerStatement.{variable_slot}
 use Rattle.region_forms.specs.Evaluation.{location_behind, location_address, slot_location, with_some}
 use Rattle.region_forms.specs.World.{Address, behind, address_in}
 use Rattle.region_forms.specs.Outcome.{State}
 use Rattle.region_simulation.specs.Typed.{type_along, offset_along}
 use Rattle.region_simulation.specs.Places.{Places, Refers}
-use Rattle.region_simulation.specs.Reach.{KindsFit, is_in_reach, slot_address, IsReachedBy, ThisStands, OwnStands, kind_for}
+use Rattle.region_simulation.specs.Reach.{slot_address, IsReachedBy, ThisStands, OwnStands, kind_for}
 use Rattle.region_simulation.proofs.Paths.{type_joined, offset_joined}
-use Rattle.throw_simulation.specs.Exceptions.{PlacesLead, AllPlacesLead}
+use Rattle.throw_simulation.specs.Exceptions.{AllPlacesLead}
 
 -- a part of what a reference names
 part_refers : (l : Layout) (p : Checked) (at : Places) (r : Reference) (k i j : ℕ) (a : Address) → slice_get (parts_of p k) i ≡ Some (class_type j) → Refers l p at r (class_type k) a

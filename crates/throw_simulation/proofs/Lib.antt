@@ -39,3 +39,4 @@ pub mod FaringCalls
 pub mod Exceptions
 pub mod ScopesDo
 pub mod Leading
+pub mod BadExceptions

@@ -1,5 +1,5 @@
 -- That throws, try blocks and scopes do the same, where calls of the source keep what is known of exceptions.
-use Rattle.std.specs.Prelude.{◌≡◌, List, ℕ, ◌+◌, ◌<◌, Bool, true, [], ◌∷◌, length, Option, Some, slice_get}
+use Rattle.std.specs.Prelude.{◌≡◌, List, ℕ, ◌+◌, ◌<◌, true, [], ◌∷◌, length, Option, Some, slice_get}
 use Rattle.cxx_ast.specs.Plain.{Expression, Statements, Handlers}
 use Rattle.cxx_ast.specs.declared.name.Name.{Name}
 use Rattle.cxx_ast.specs.declared.types.Ty.TheVariants.{Object}

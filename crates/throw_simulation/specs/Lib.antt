@@ -12,3 +12,4 @@ pub mod Tries
 pub mod Catches
 pub mod Fares
 pub mod Exceptions
+pub mod Extents

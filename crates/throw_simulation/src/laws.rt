@@ -4,6 +4,7 @@ ghost use Rattle.throw_simulation.specs.Copies.{CopiesAlike};
 ghost use Rattle.throw_simulation.specs.Doomed.{CheckedClassesAreOrdered, DoomedAlike};
 ghost use Rattle.throw_simulation.specs.Ends.{TerminatesAlike};
 ghost use Rattle.throw_simulation.specs.Exceptions.{AllPlacesLead, AllThrowsDoAlike, AllTriesDoAlike, ScopesDoAlike};
+ghost use Rattle.throw_simulation.specs.Extents.{BadExceptionsAlike};
 ghost use Rattle.throw_simulation.specs.Fares.{AllCallsFare, FaringCallsAreBarred};
 ghost use Rattle.throw_simulation.specs.Handlers.{EntersAlike, HandlersEndAlike};
 ghost use Rattle.throw_simulation.specs.Operands.{OperandsThrowAlike};
@@ -179,3 +180,10 @@ pub fn scopes_do_alike()
 pub fn all_places_lead()
     ensures { AllPlacesLead }
 {}
+
+/// A bad_exception is thrown alike in place of an exception that a specification does not allow, though regions build it without a function.
+pub fn bad_exceptions_alike()
+    ensures { BadExceptionsAlike }
+{
+    caught_list_follows();
+}
