@@ -40,3 +40,5 @@ pub mod Exceptions
 pub mod ScopesDo
 pub mod Leading
 pub mod BadExceptions
+pub mod Specifications
+pub mod Extents

@@ -1,11 +1,18 @@
 -- That what a specification does with an exception that it stops comes out alike (ISO/IEC 14882:2003, 15.5.2).
-use Rattle.std.specs.Prelude.{ℕ, ℤ, []}
+use Rattle.std.specs.Prelude.{◌≡◌, ℕ, ◌+◌, ◌<◌, ℤ, Bool, false, List, [], map, Some}
+use Rattle.cxx_ast.specs.declared.types.Ty.{Ty}
+use Rattle.scope_rules.specs.Class.{contains, object_type}
 use Rattle.scope_rules.specs.World.{World as SourceWorld, Reference}
-use Rattle.scope_rules.specs.Context.{Context as SourceContext}
+use Rattle.scope_rules.specs.Context.{Context as SourceContext, specification, guarded_by, handling}
+use Rattle.scope_rules.specs.Outcome.{Action as SourceAction, Flow as SourceFlow}
 use Rattle.scope_rules.specs.Running.{Running as SourceRunning, constructor}
 use Rattle.scope_rules.specs.Construct.{constructor_for}
 use Rattle.scope_rules.specs.Throw.{throw_new}
-use Rattle.scope_rules.specs.Specification.{new_bad_exception}
+use Rattle.scope_rules.specs.Specification.{new_bad_exception, under_specification}
+use Rattle.region_forms.specs.Form.{Region, limit}
+use Rattle.region_forms.specs.Numbering.{type_number}
+use Rattle.region_forms.specs.LowerExpression.{Lowering}
+use Rattle.region_forms.specs.Meaning.{region}
 use Rattle.region_forms.specs.Layout.{Layout}
 use Rattle.region_forms.specs.Outcome.{State}
 use Rattle.region_forms.specs.Ending.{Running, empty_call}
@@ -13,9 +20,12 @@ use Rattle.region_forms.specs.Unexpected.{throw_bad}
 use Rattle.region_simulation.specs.Places.{Places}
 use Rattle.region_simulation.specs.Stands.{Stands, context_of}
 use Rattle.region_simulation.specs.Alike.{Alike}
+use Rattle.region_simulation.specs.Flows.{FlowAgrees}
 use Rattle.throw_simulation.specs.Same.{RunAlike}
 use Rattle.throw_simulation.specs.Raises.{StaysSound, Never}
 use Rattle.throw_simulation.specs.Scopes.{Any}
+use Rattle.throw_simulation.specs.Handlers.{EmptyDestructor, MissingDestructors}
+use Rattle.throw_simulation.specs.Fares.{FaresIn, CallsFare}
 
 -- the default constructor of `std::bad_exception` does nothing but make a call, which regions make without a function
 abbrev pub EmptyConstructor : Layout → SourceRunning → Running → Type 0
@@ -29,3 +39,23 @@ BadExceptionsAlike =
     (l : Layout) (a : SourceRunning) (b : Running) → RunAlike l a b → EmptyConstructor l a b → (at : Places) (k : ℕ) (c : SourceContext) (w : SourceWorld) (s : State)
     → Stands l a.program at c w s → StaysSound c
     → Alike l a.program at k c w s Never (throw_new {A = ℤ} a c (new_bad_exception a c) w) (throw_bad {A = ℤ} b (context_of w.open_calls c) s)
+
+-- Entries stay sound, also of an exception that a specification stops, and in its handler of another that came out of the unexpected handler.
+pub record StaySoundWithin (c : SourceContext) : Type 0 where
+  pub outside : StaysSound c
+  pub stopped : (e : ℕ) → contains c.travelling e ≡ false → StaysSound (handling e c)
+  pub again : (e f : ℕ) → contains c.travelling e ≡ false → contains c.travelling f ≡ false → StaysSound (handling f (handling e c))
+
+-- What is done under a specification: an exception that it does not allow is entered, the unexpected handler kept with it is called, and what
+-- comes out of that is thrown on, or a bad_exception in its place, or terminate is called.
+abbrev pub ExtentsAlike : Type 0
+ExtentsAlike =
+    (l : Lowering) (gives : Bool) (i d : ℕ) → i < d → (a : SourceRunning) (b : Running) → RunAlike l.layout a b → CallsFare a
+    → EmptyDestructor l.layout a b → MissingDestructors l.layout a b → EmptyConstructor l.layout a b
+    → (at : Places) (k : ℕ) (c : SourceContext) (w : SourceWorld) (s : State) → Stands l.layout a.program at c w s → StaySoundWithin c
+    → (listed : List Ty) (act : SourceContext → SourceAction SourceFlow) (body : Region)
+    → FaresIn a.program (guarded_by (specification (map object_type listed)) c) (act (guarded_by (specification (map object_type listed)) c))
+    → Alike l.layout a.program at k (guarded_by (specification (map object_type listed)) c) w s (FlowAgrees l gives i (d + 1))
+    (act (guarded_by (specification (map object_type listed)) c) w) (region b body (context_of w.open_calls (guarded_by (specification (map object_type listed)) c)) s)
+    → Alike l.layout a.program at k c w s (FlowAgrees l gives i d) (under_specification a (Some listed) act c w)
+    (region b (limit body (map type_number (map object_type listed))) (context_of w.open_calls c) s)

@@ -4,7 +4,7 @@ ghost use Rattle.throw_simulation.specs.Copies.{CopiesAlike};
 ghost use Rattle.throw_simulation.specs.Doomed.{CheckedClassesAreOrdered, DoomedAlike};
 ghost use Rattle.throw_simulation.specs.Ends.{TerminatesAlike};
 ghost use Rattle.throw_simulation.specs.Exceptions.{AllPlacesLead, AllThrowsDoAlike, AllTriesDoAlike, ScopesDoAlike};
-ghost use Rattle.throw_simulation.specs.Extents.{BadExceptionsAlike};
+ghost use Rattle.throw_simulation.specs.Extents.{BadExceptionsAlike, ExtentsAlike};
 ghost use Rattle.throw_simulation.specs.Fares.{AllCallsFare, FaringCallsAreBarred};
 ghost use Rattle.throw_simulation.specs.Handlers.{EntersAlike, HandlersEndAlike};
 ghost use Rattle.throw_simulation.specs.Operands.{OperandsThrowAlike};
@@ -184,6 +184,14 @@ pub fn all_places_lead()
 /// A bad_exception is thrown alike in place of an exception that a specification does not allow, though regions build it without a function.
 pub fn bad_exceptions_alike()
     ensures { BadExceptionsAlike }
+{
+    caught_list_follows();
+}
+
+/// What is done under an exception specification does the same: an exception that it does not allow is entered, the unexpected handler kept with it is
+/// called, and what comes out of that is thrown on, or a bad_exception in its place, or terminate is called.
+pub fn extents_alike()
+    ensures { ExtentsAlike }
 {
     caught_list_follows();
 }
