@@ -1,17 +1,24 @@
 -- The extent of a specification does the same.
-use Rattle.std.proofs.Common.{◌+◌, map, arith}
-use Rattle.scope_rules.specs.Class.{object_type}
-use Rattle.scope_rules.specs.Context.{specification, guarded_by}
-use Rattle.scope_rules.specs.Specification.{after_extent}
+use Rattle.std.proofs.Common.{◌≡◌, ℕ, ◌+◌, List, [], ◌∷◌, Some, refl, sym, ap, subst, arith}
+use Rattle.std.specs.Prelude.{map}
+use Rattle.cxx_ast.specs.declared.types.Ty.{Ty}
+use Rattle.scope_rules.specs.Class.{ObjectType, object_type}
+use Rattle.scope_rules.specs.Context.{Context as SourceContext, specification, guarded_by}
+use Rattle.scope_rules.specs.Running.{Running as SourceRunning}
+use Rattle.scope_rules.specs.Specification.{after_extent, under_specification}
+use Rattle.region_forms.specs.Form.{limit, in_order, regions_from}
 use Rattle.region_forms.specs.Laws.{CaughtListFollows}
 use Rattle.region_forms.specs.Numbering.{type_number}
 use Rattle.region_forms.specs.LowerExpression.{result_slot}
-use Rattle.region_forms.specs.Meaning.{outwards, region}
+use Rattle.region_forms.specs.LowerStatement.{variable_slot}
+use Rattle.region_forms.specs.Meaning.{outwards, region, regions}
 use Rattle.region_forms.specs.Unexpected.{after_limit}
 use Rattle.region_simulation.specs.Stands.{context_of}
+use Rattle.region_simulation.specs.Alike.{Alike}
 use Rattle.region_simulation.specs.Flows.{FlowAgrees}
-use Rattle.region_simulation.proofs.Flowing.{alike_after, outwards_agrees}
-use Rattle.throw_simulation.specs.Extents.{ExtentsAlike}
+use Rattle.region_simulation.specs.Expressions.{source_running}
+use Rattle.region_simulation.proofs.Flowing.{alike_after, outwards_agrees, single}
+use Rattle.throw_simulation.specs.Extents.{ExtentsAlike, ExtentsDoAlike}
 use Rattle.throw_simulation.proofs.Faring.{orderly_sound, faring_calls_are_barred}
 use Rattle.throw_simulation.proofs.Standing.{stands_guarded}
 use Rattle.throw_simulation.proofs.Scopes.{flows_steady}
@@ -28,3 +35,35 @@ extents_alike laws l gives i d lt a b same fare empty missing makes at k c w s s
     (after_limit b (map type_number types) (context_of w.open_calls c) y) outwards (outwards_agrees l gives i d lt)
     (extent_out laws l.layout a b same fare (faring_calls_are_barred a fare) empty missing makes agree (result_slot l + 1) (flows_steady l gives i (d + 1)) types c stay.outside stay.stopped stay.again
     at k w s 0 (act inside w) y does (fares 0 w (omega arith) (orderly_sound inside w standing.sound)))
+
+numbers_of : (listed : List Ty) → map (λ t. type_number (object_type t)) listed ≡ map type_number (map object_type listed)
+numbers_of [] = refl
+numbers_of (t ∷ listed) = ap (λ ns. type_number (object_type t) ∷ ns) (numbers_of listed)
+
+pub extents_do_alike : CaughtListFollows → ExtentsDoAlike
+extents_do_alike laws l own gives call b v c same stays stay fare empty missing makes n i d listed act rs lt fares does at w s stands scope =
+    subst (λ ns. Alike l.layout l.program at k c w s (FlowAgrees l gives i d) (under_specification a (Some listed) act c w)
+    (regions b (regions_from (limit (in_order rs) ns ∷ [])) (context_of w.open_calls c) s)) (sym (numbers_of listed))
+    (subst (λ z. Alike l.layout l.program at k c w s (FlowAgrees l gives i d) (under_specification a (Some listed) act c w) z)
+    (sym (single b (limit (in_order rs) (map type_number types)) (context_of w.open_calls c) s))
+    (extents_alike laws l gives i d lt a b same fare empty missing makes at k c w s stands stay listed act (in_order rs) fares body))
+  where
+    a : SourceRunning
+    a = source_running l call
+
+    k : ℕ
+    k = variable_slot l n
+
+    types : List ObjectType
+    types = map object_type listed
+
+    inside : SourceContext
+    inside = guarded_by (specification types) c
+
+    body : Alike l.layout l.program at k inside w s (FlowAgrees l gives i (d + 1)) (act inside w) (region b (in_order rs) (context_of w.open_calls inside) s)
+    body =
+        let e : d + 2 ≡ d + 1 + 1 = omega arith in
+        let h = subst (λ m. Alike l.layout l.program at k inside w s (FlowAgrees l gives i m) (act inside w) (regions b (regions_from rs) (context_of w.open_calls inside) s)) e
+        (does at w s (stands_guarded l.layout l.program at (specification types) c w s stands) scope) in
+        alike_after l.layout l.program (FlowAgrees l gives i (d + 1 + 1)) (FlowAgrees l gives i (d + 1)) at k inside w s (act inside w)
+        (regions b (regions_from rs) (context_of w.open_calls inside) s) outwards (outwards_agrees l gives i (d + 1) (omega (arith, lt))) h

@@ -1,5 +1,5 @@
 -- That what a specification does with an exception that it stops comes out alike (ISO/IEC 14882:2003, 15.5.2).
-use Rattle.std.specs.Prelude.{◌≡◌, ℕ, ◌+◌, ◌<◌, ℤ, Bool, false, List, [], map, Some}
+use Rattle.std.specs.Prelude.{◌≡◌, ℕ, ◌+◌, ◌<◌, ℤ, Bool, false, List, [], ◌∷◌, map, Some}
 use Rattle.cxx_ast.specs.declared.types.Ty.{Ty}
 use Rattle.scope_rules.specs.Class.{contains, object_type}
 use Rattle.scope_rules.specs.World.{World as SourceWorld, Reference}
@@ -9,7 +9,7 @@ use Rattle.scope_rules.specs.Running.{Running as SourceRunning, constructor}
 use Rattle.scope_rules.specs.Construct.{constructor_for}
 use Rattle.scope_rules.specs.Throw.{throw_new}
 use Rattle.scope_rules.specs.Specification.{new_bad_exception, under_specification}
-use Rattle.region_forms.specs.Form.{Region, limit}
+use Rattle.region_forms.specs.Form.{Region, limit, in_order}
 use Rattle.region_forms.specs.Numbering.{type_number}
 use Rattle.region_forms.specs.LowerExpression.{Lowering}
 use Rattle.region_forms.specs.Meaning.{region}
@@ -20,11 +20,13 @@ use Rattle.region_forms.specs.Unexpected.{throw_bad}
 use Rattle.region_simulation.specs.Places.{Places}
 use Rattle.region_simulation.specs.Stands.{Stands, context_of}
 use Rattle.region_simulation.specs.Alike.{Alike}
-use Rattle.region_simulation.specs.Flows.{FlowAgrees}
+use Rattle.region_simulation.specs.Flows.{FlowAgrees, DoesAlike}
+use Rattle.region_simulation.specs.Expressions.{source_running}
 use Rattle.throw_simulation.specs.Same.{RunAlike}
 use Rattle.throw_simulation.specs.Raises.{StaysSound, Never}
 use Rattle.throw_simulation.specs.Scopes.{Any}
 use Rattle.throw_simulation.specs.Handlers.{EmptyDestructor, MissingDestructors}
+use Rattle.throw_simulation.specs.Throws.{InEachContext}
 use Rattle.throw_simulation.specs.Fares.{FaresIn, CallsFare}
 
 -- the default constructor of `std::bad_exception` does nothing but make a call, which regions make without a function
@@ -59,3 +61,13 @@ ExtentsAlike =
     (act (guarded_by (specification (map object_type listed)) c) w) (region b body (context_of w.open_calls (guarded_by (specification (map object_type listed)) c)) s)
     → Alike l.layout a.program at k c w s (FlowAgrees l gives i d) (under_specification a (Some listed) act c w)
     (region b (limit body (map type_number (map object_type listed))) (context_of w.open_calls c) s)
+
+-- so the extent of a specification in a function does the same
+abbrev pub ExtentsDoAlike : Type 0
+ExtentsDoAlike = InEachContext (λ l own gives call b v c.
+    StaySoundWithin c → CallsFare (source_running l call) → EmptyDestructor l.layout (source_running l call) b → MissingDestructors l.layout (source_running l call) b
+    → EmptyConstructor l.layout (source_running l call) b
+    → (n i d : ℕ) (listed : List Ty) (act : SourceContext → SourceAction SourceFlow) (rs : List Region) → i < d
+    → FaresIn l.program (guarded_by (specification (map object_type listed)) c) (act (guarded_by (specification (map object_type listed)) c))
+    → DoesAlike l own gives b v (guarded_by (specification (map object_type listed)) c) n i (d + 2) (act (guarded_by (specification (map object_type listed)) c)) rs
+    → DoesAlike l own gives b v c n i d (under_specification (source_running l call) (Some listed) act c) (limit (in_order rs) (map (λ t. type_number (object_type t)) listed) ∷ []))

@@ -4,7 +4,7 @@ ghost use Rattle.throw_simulation.specs.Copies.{CopiesAlike};
 ghost use Rattle.throw_simulation.specs.Doomed.{CheckedClassesAreOrdered, DoomedAlike};
 ghost use Rattle.throw_simulation.specs.Ends.{TerminatesAlike};
 ghost use Rattle.throw_simulation.specs.Exceptions.{AllPlacesLead, AllThrowsDoAlike, AllTriesDoAlike, ScopesDoAlike};
-ghost use Rattle.throw_simulation.specs.Extents.{BadExceptionsAlike, ExtentsAlike};
+ghost use Rattle.throw_simulation.specs.Extents.{BadExceptionsAlike, ExtentsAlike, ExtentsDoAlike};
 ghost use Rattle.throw_simulation.specs.Fares.{AllCallsFare, FaringCallsAreBarred};
 ghost use Rattle.throw_simulation.specs.Handlers.{EntersAlike, HandlersEndAlike};
 ghost use Rattle.throw_simulation.specs.Operands.{OperandsThrowAlike};
@@ -192,6 +192,13 @@ pub fn bad_exceptions_alike()
 /// called, and what comes out of that is thrown on, or a bad_exception in its place, or terminate is called.
 pub fn extents_alike()
     ensures { ExtentsAlike }
+{
+    caught_list_follows();
+}
+
+/// So the extent of a specification in a function does the same, over whatever is done in it.
+pub fn extents_do_alike()
+    ensures { ExtentsDoAlike }
 {
     caught_list_follows();
 }
