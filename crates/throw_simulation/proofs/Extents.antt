@@ -5,6 +5,8 @@ use Rattle.cxx_ast.specs.declared.types.Ty.{Ty}
 use Rattle.scope_rules.specs.Class.{ObjectType, object_type}
 use Rattle.scope_rules.specs.Context.{Context as SourceContext, specification, guarded_by}
 use Rattle.scope_rules.specs.Running.{Running as SourceRunning}
+use Rattle.scope_rules.specs.Statement.{statements as source_statements}
+use Rattle.scope_rules.specs.Call.{construction, destruction}
 use Rattle.scope_rules.specs.Specification.{after_extent, under_specification}
 use Rattle.region_forms.specs.Form.{limit, in_order, regions_from}
 use Rattle.region_forms.specs.Laws.{CaughtListFollows}
@@ -18,8 +20,10 @@ use Rattle.region_simulation.specs.Alike.{Alike}
 use Rattle.region_simulation.specs.Flows.{FlowAgrees}
 use Rattle.region_simulation.specs.Expressions.{source_running}
 use Rattle.region_simulation.proofs.Flowing.{alike_after, outwards_agrees, single}
-use Rattle.throw_simulation.specs.Extents.{ExtentsAlike, ExtentsDoAlike}
+use Rattle.throw_simulation.specs.Extents.{ExtentsAlike, ExtentsDoAlike, AllExtentsDoAlike}
 use Rattle.throw_simulation.proofs.Faring.{orderly_sound, faring_calls_are_barred}
+use Rattle.throw_simulation.proofs.FaringTrees.{statements_fares}
+use Rattle.throw_simulation.proofs.FaringCalls.{construction_fares, destruction_fares}
 use Rattle.throw_simulation.proofs.Standing.{stands_guarded}
 use Rattle.throw_simulation.proofs.Scopes.{flows_steady}
 use Rattle.throw_simulation.proofs.Specifications.{extent_out}
@@ -67,3 +71,19 @@ extents_do_alike laws l own gives call b v c same stays stay fare empty missing 
         (does at w s (stands_guarded l.layout l.program at (specification types) c w s stands) scope) in
         alike_after l.layout l.program (FlowAgrees l gives i (d + 1 + 1)) (FlowAgrees l gives i (d + 1)) at k inside w s (act inside w)
         (regions b (regions_from rs) (context_of w.open_calls inside) s) outwards (outwards_agrees l gives i (d + 1) (omega (arith, lt))) h
+
+pub all_extents_do_alike : CaughtListFollows → AllExtentsDoAlike
+all_extents_do_alike laws l own gives call b v c same stays stay fare empty missing makes = record {
+  statements = λ ss n i d listed rs lt does.
+      extents_do_alike laws l own gives call b v c same stays stay fare empty missing makes n i d listed (source_statements r ss v) rs lt
+      (statements_fares r ss v (guarded_by (specification (map object_type listed)) c) fare).at does;
+  constructions = λ k f n i d listed rs lt does.
+      extents_do_alike laws l own gives call b v c same stays stay fare empty missing makes n i d listed (construction r k f v) rs lt
+      (construction_fares r k f v (guarded_by (specification (map object_type listed)) c) fare).at does;
+  destructions = λ k f this n i d listed rs lt does.
+      extents_do_alike laws l own gives call b v c same stays stay fare empty missing makes n i d listed (destruction r k f this) rs lt
+      (destruction_fares r k f this (guarded_by (specification (map object_type listed)) c) fare).at does;
+}
+  where
+    r : SourceRunning
+    r = source_running l call

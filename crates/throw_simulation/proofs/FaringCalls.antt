@@ -78,12 +78,15 @@ destroy_parts_fares r x i [] c body h g = g
 destroy_parts_fares r x i (t ∷ ts) c body h g =
     scope_in r h c (destroy r t (part i x)) (destroy_parts r x (i + 1) ts c body) (λ d. destroy_in r t (part i x) d h) (destroy_parts_fares r x (i + 1) ts c body h g)
 
+pub destruction_fares : (r : Running) (k : ℕ) (f : Function) (x : Reference) (c : Context) → CallsFare r → KeepsIn r.program c Flow (destruction r k f x c)
+destruction_fares r k f x c h =
+    destroy_parts_fares r x 0 (parts_of r.program k) c (body_of r f (record { this = x; variables = [] }) c) h
+    (statements_fares r (statements_in f.body) (record { this = x; variables = [] }) c h)
+
 pub run_destructor_fares : (r : Running) (k : ℕ) (o : Option ℕ) (x : Reference) (c : Context) → CallsFare r → KeepsIn r.program c Flow (run_destructor r k o x c)
 run_destructor_fares r k None x c h = search (destroy_parts_fares, pure_fares)
 run_destructor_fares r k (Some i) x c h =
-    specified_in r h (method_at r.program k i).specification (destruction r k (method_at r.program k i) x) c
-    (λ d. destroy_parts_fares r x 0 (parts_of r.program k) d (body_of r (method_at r.program k i) (record { this = x; variables = [] }) d) h
-    (statements_fares r (statements_in (method_at r.program k i).body) (record { this = x; variables = [] }) d h))
+    specified_in r h (method_at r.program k i).specification (destruction r k (method_at r.program k i) x) c (λ d. destruction_fares r k (method_at r.program k i) x d h)
 
 pub run_callee_fares : (r : Running) (callee : Callee) (x : Reference) (given : List Argument) (c : Context) → CallsFare r → KeepsIn r.program c ℤ (run_callee r callee x given c)
 run_callee_fares r (function n) x given c h = search run_function_fares

@@ -1,11 +1,15 @@
 -- That what a specification does with an exception that it stops comes out alike (ISO/IEC 14882:2003, 15.5.2).
-use Rattle.std.specs.Prelude.{◌≡◌, ℕ, ◌+◌, ◌<◌, ℤ, Bool, false, List, [], ◌∷◌, map, Some}
+use Rattle.std.specs.Prelude.{◌≡◌, ℕ, ◌+◌, ◌<◌, ℤ, Bool, false, List, [], ◌∷◌, map, Option, Some}
 use Rattle.cxx_ast.specs.declared.types.Ty.{Ty}
+use Rattle.cxx_ast.specs.Plain.{Function, Statements}
 use Rattle.scope_rules.specs.Class.{contains, object_type}
 use Rattle.scope_rules.specs.World.{World as SourceWorld, Reference}
 use Rattle.scope_rules.specs.Context.{Context as SourceContext, specification, guarded_by, handling}
 use Rattle.scope_rules.specs.Outcome.{Action as SourceAction, Flow as SourceFlow}
-use Rattle.scope_rules.specs.Running.{Running as SourceRunning, constructor}
+use Rattle.scope_rules.specs.Frame.{Frame as SourceFrame}
+use Rattle.scope_rules.specs.Running.{Running as SourceRunning, Argument as SourceArgument, Callee, constructor}
+use Rattle.scope_rules.specs.Statement.{statements as source_statements}
+use Rattle.scope_rules.specs.Call.{construction, destruction}
 use Rattle.scope_rules.specs.Construct.{constructor_for}
 use Rattle.scope_rules.specs.Throw.{throw_new}
 use Rattle.scope_rules.specs.Specification.{new_bad_exception, under_specification}
@@ -71,3 +75,23 @@ ExtentsDoAlike = InEachContext (λ l own gives call b v c.
     → FaresIn l.program (guarded_by (specification (map object_type listed)) c) (act (guarded_by (specification (map object_type listed)) c))
     → DoesAlike l own gives b v (guarded_by (specification (map object_type listed)) c) n i (d + 2) (act (guarded_by (specification (map object_type listed)) c)) rs
     → DoesAlike l own gives b v c n i d (under_specification (source_running l call) (Some listed) act c) (limit (in_order rs) (map (λ t. type_number (object_type t)) listed) ∷ []))
+
+-- an action does the same under each specification where it does inside
+abbrev pub UnderSpecifications : Lowering → (own : Option ℕ) → (gives : Bool) → (Callee → Reference → List SourceArgument → SourceContext → SourceAction ℤ) → Running → SourceFrame → SourceContext
+    → (SourceContext → SourceAction SourceFlow) → Type 0
+UnderSpecifications l own gives call b v c act =
+    (n i d : ℕ) (listed : List Ty) (rs : List Region) → i < d
+    → DoesAlike l own gives b v (guarded_by (specification (map object_type listed)) c) n i (d + 2) (act (guarded_by (specification (map object_type listed)) c)) rs
+    → DoesAlike l own gives b v c n i d (under_specification (source_running l call) (Some listed) act c) (limit (in_order rs) (map (λ t. type_number (object_type t)) listed) ∷ [])
+
+-- so do the statements of a function, and those of a constructor or a destructor with the parts of their object
+pub record SpecificationsDo (l : Lowering) (own : Option ℕ) (gives : Bool) (call : Callee → Reference → List SourceArgument → SourceContext → SourceAction ℤ) (b : Running) (v : SourceFrame) (c : SourceContext) : Type 0 where
+  pub statements : (ss : Statements) → UnderSpecifications l own gives call b v c (source_statements (source_running l call) ss v)
+  pub constructions : (k : ℕ) (f : Function) → UnderSpecifications l own gives call b v c (construction (source_running l call) k f v)
+  pub destructions : (k : ℕ) (f : Function) (this : Reference) → UnderSpecifications l own gives call b v c (destruction (source_running l call) k f this)
+
+-- every extent does the same, where calls of the source keep what is known of exceptions
+abbrev pub AllExtentsDoAlike : Type 0
+AllExtentsDoAlike = InEachContext (λ l own gives call b v c.
+    StaySoundWithin c → CallsFare (source_running l call) → EmptyDestructor l.layout (source_running l call) b → MissingDestructors l.layout (source_running l call) b
+    → EmptyConstructor l.layout (source_running l call) b → SpecificationsDo l own gives call b v c)

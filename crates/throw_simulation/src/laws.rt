@@ -4,7 +4,7 @@ ghost use Rattle.throw_simulation.specs.Copies.{CopiesAlike};
 ghost use Rattle.throw_simulation.specs.Doomed.{CheckedClassesAreOrdered, DoomedAlike};
 ghost use Rattle.throw_simulation.specs.Ends.{TerminatesAlike};
 ghost use Rattle.throw_simulation.specs.Exceptions.{AllPlacesLead, AllThrowsDoAlike, AllTriesDoAlike, ScopesDoAlike};
-ghost use Rattle.throw_simulation.specs.Extents.{BadExceptionsAlike, ExtentsAlike, ExtentsDoAlike};
+ghost use Rattle.throw_simulation.specs.Extents.{AllExtentsDoAlike, BadExceptionsAlike, ExtentsAlike, ExtentsDoAlike};
 ghost use Rattle.throw_simulation.specs.Fares.{AllCallsFare, FaringCallsAreBarred};
 ghost use Rattle.throw_simulation.specs.Handlers.{EntersAlike, HandlersEndAlike};
 ghost use Rattle.throw_simulation.specs.Operands.{OperandsThrowAlike};
@@ -199,6 +199,14 @@ pub fn extents_alike()
 /// So the extent of a specification in a function does the same, over whatever is done in it.
 pub fn extents_do_alike()
     ensures { ExtentsDoAlike }
+{
+    caught_list_follows();
+}
+
+/// So does the extent of each specification, of a function and of a constructor or a destructor with the parts of its object, where calls of the source
+/// keep what is known of exceptions.
+pub fn all_extents_do_alike()
+    ensures { AllExtentsDoAlike }
 {
     caught_list_follows();
 }
