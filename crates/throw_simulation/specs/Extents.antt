@@ -1,5 +1,5 @@
 -- That what a specification does with an exception that it stops comes out alike (ISO/IEC 14882:2003, 15.5.2).
-use Rattle.std.specs.Prelude.{◌≡◌, ℕ, ◌+◌, ◌<◌, ℤ, Bool, false, List, [], ◌∷◌, map, Option, Some}
+use Rattle.std.specs.Prelude.{◌≡◌, ℕ, ◌+◌, ◌<◌, ℤ, Bool, true, false, List, [], ◌∷◌, map, Option, Some}
 use Rattle.cxx_ast.specs.declared.types.Ty.{Ty}
 use Rattle.cxx_ast.specs.Plain.{Function, Statements}
 use Rattle.scope_rules.specs.Class.{contains, object_type}
@@ -51,6 +51,10 @@ pub record StaySoundWithin (c : SourceContext) : Type 0 where
   pub outside : StaysSound c
   pub stopped : (e : ℕ) → contains c.travelling e ≡ false → StaysSound (handling e c)
   pub again : (e f : ℕ) → contains c.travelling e ≡ false → contains c.travelling f ≡ false → StaysSound (handling f (handling e c))
+
+-- so it is where no exception that travels is handled
+abbrev pub ExtentsStaySound : Type 0
+ExtentsStaySound = (c : SourceContext) → ((e : ℕ) → contains c.travelling e ≡ true → contains c.handled e ≡ false) → StaySoundWithin c
 
 -- What is done under a specification: an exception that it does not allow is entered, the unexpected handler kept with it is called, and what
 -- comes out of that is thrown on, or a bad_exception in its place, or terminate is called.

@@ -4,7 +4,7 @@ ghost use Rattle.throw_simulation.specs.Copies.{CopiesAlike};
 ghost use Rattle.throw_simulation.specs.Doomed.{CheckedClassesAreOrdered, DoomedAlike};
 ghost use Rattle.throw_simulation.specs.Ends.{TerminatesAlike};
 ghost use Rattle.throw_simulation.specs.Exceptions.{AllPlacesLead, AllThrowsDoAlike, AllTriesDoAlike, ScopesDoAlike};
-ghost use Rattle.throw_simulation.specs.Extents.{AllExtentsDoAlike, BadExceptionsAlike, ExtentsAlike, ExtentsDoAlike};
+ghost use Rattle.throw_simulation.specs.Extents.{AllExtentsDoAlike, BadExceptionsAlike, ExtentsAlike, ExtentsDoAlike, ExtentsStaySound};
 ghost use Rattle.throw_simulation.specs.Fares.{AllCallsFare, FaringCallsAreBarred};
 ghost use Rattle.throw_simulation.specs.Handlers.{EntersAlike, HandlersEndAlike};
 ghost use Rattle.throw_simulation.specs.Operands.{OperandsThrowAlike};
@@ -210,3 +210,8 @@ pub fn all_extents_do_alike()
 {
     caught_list_follows();
 }
+
+/// Entries stay sound under a specification too, where no exception that travels is handled.
+pub fn extents_stay_sound()
+    ensures { ExtentsStaySound }
+{}
