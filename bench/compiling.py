@@ -17,7 +17,7 @@ import tempfile
 
 TOP = pathlib.Path(__file__).resolve().parent.parent
 EHC = TOP / "crates/eh_cli/out/eh_cli"
-RUNS = 3
+RUNS = 5
 LENGTHS = [250, 500, 1000, 2000]
 ROUNDS = 10_000
 # What is subtracted: a run of fewer rounds, so that the beginning and the end of a program count for nothing.
