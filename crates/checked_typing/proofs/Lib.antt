@@ -1,0 +1,11 @@
+pub mod Meaning
+pub mod Paths
+pub mod Callees
+pub mod Arguments
+pub mod Expressions
+pub mod Constructors
+pub mod Building
+pub mod Throws
+pub mod Scopes
+pub mod Statements
+pub mod Blocks
