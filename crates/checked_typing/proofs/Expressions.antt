@@ -52,7 +52,7 @@ passes_by g xs sc (IntRef const ∷ types) e A B f h = h
 passes_by g xs sc (ObjectRef const n ∷ types) e A B f h = h
 
 -- so many parameters
-no_parameters : (n : ℕ) (qs : List Passing) (ps : List Param) → ParamsMeant n qs ps → (length qs == 0) ≡ true → ps ≡ []
+pub no_parameters : (n : ℕ) (qs : List Passing) (ps : List Param) → ParamsMeant n qs ps → (length qs == 0) ≡ true → ps ≡ []
 no_parameters n [] [] h e = refl
 no_parameters n [] (x ∷ ps) h e = absurd h
 no_parameters n (q ∷ qs) ps h e = absurd (none (length qs) e)

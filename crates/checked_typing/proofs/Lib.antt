@@ -9,3 +9,13 @@ pub mod Throws
 pub mod Scopes
 pub mod Statements
 pub mod Blocks
+pub mod Functions
+pub mod Walk
+pub mod Definitions
+pub mod Defaults
+pub mod Settling
+pub mod Jumps
+pub mod PartNames
+pub mod Initial
+pub mod Order
+pub mod Bodies
