@@ -1,5 +1,5 @@
 -- A function that is defined has the parameters of its first declaration.
-use Rattle.std.proofs.Common.{◌≡◌, ◌∙◌, ◌+◌, ◌&&◌, ◌||◌, ◌==◌, ◌<◌, ℕ, suc, Bool, true, false, not, List, [], ◌∷◌, ◌++◌, map, length, Option, Some, None, option_map, position, cond, bytes_eq, find, if◌then◌else◌, refl, sym, ap, subst, arith}
+use Rattle.std.proofs.Common.{◌≡◌, ◌∙◌, ◌+◌, ◌&&◌, ◌||◌, ◌==◌, ◌<◌, ℕ, suc, Bool, true, false, not, List, [], ◌∷◌, ◌++◌, map, length, Option, Some, None, option_map, position, cond, bytes_eq, codes, find, if◌then◌else◌, refl, sym, ap, subst, arith}
 use Rattle.std.specs.Prelude.{slice_get, unwrap_or, flat_map}
 use Rattle.std.specs.Option.{option_or}
 use Rattle.std.proofs.lemmas.Bool.{and_parts}
@@ -15,14 +15,14 @@ use Rattle.cxx_ast.specs.Finding.{breaks_if}
 use Rattle.cxx_ast.specs.Plain.{Checked, Function, Statements, Declaration, class_declaration, global_declaration, function_declaration}
 use Rattle.cxx_ast.specs.Environment.{Kind, int_kind, truth_kind, void_kind, class_kind, no_kind, same_kind, Passing, Signature, Thing, global_thing, class_thing, function_thing, Entry, Environment, Scope}
 use Rattle.cxx_ast.specs.Lookup.{entry_of}
-use Rattle.cxx_ast.specs.TypeNames.{is_const, type_found, specification_found, head_types_found, has_body, signature}
+use Rattle.cxx_ast.specs.TypeNames.{passing, type_kind, type_found, specification_found, head_types_found, has_body, signature}
 use Rattle.cxx_ast.specs.Locals.{outermost, declare_params}
 use Rattle.cxx_ast.specs.FunctionRules.{has_text, params_twice, body_found, definition_found, function_found}
 use Rattle.cxx_ast.specs.ClassRules.{same_test}
 use Rattle.cxx_ast.specs.Resolve.{function_number, resolve_params, resolve_body, resolve_function}
 use Rattle.cxx_ast.specs.Declare.{with_name, next_class, with_signature, declare_behind, declare_all, definitions, body_environment, function_scope}
-use Rattle.cxx_ast.specs.Broken.{same_passing, same_parameters, same_allowed, agree, differs_from, defined_in, function_name_found, declaration_found}
-use Rattle.cxx_ast.specs.Grammatical.{Each}
+use Rattle.cxx_ast.specs.Broken.{same_passing, same_parameters, same_allowed, agree, differs_from, defined_in, function_name_found, declaration_found, is_main, has_main}
+use Rattle.cxx_ast.specs.Grammatical.{Each, HasForm, IsResult}
 use Rattle.cxx_ast.specs.Written.{Written, written_class, written_global, written_function, declared, start_value}
 use Rattle.cxx_ast.specs.Checked.{IsChecked, resolve_declarations, functions_of}
 use Rattle.cxx_rules.proofs.TextLaws.{position-cons}
@@ -110,6 +110,11 @@ agreed s t h =
     let first = (and_parts (same_kind s.result t.result && same_parameters s.parameters t.parameters) (same_allowed s.allowed t.allowed) h).0 in
     (and_parts (same_kind s.result t.result) (same_parameters s.parameters t.parameters) first).1
 
+agreed_result : (s t : Signature) → agree s t ≡ true → same_kind s.result t.result ≡ true
+agreed_result s t h =
+    let first = (and_parts (same_kind s.result t.result && same_parameters s.parameters t.parameters) (same_allowed s.allowed t.allowed) h).0 in
+    (and_parts (same_kind s.result t.result) (same_parameters s.parameters t.parameters) first).0
+
 either_false : (a b : Bool) → (a || b) ≡ false → (a ≡ false) × (b ≡ false)
 either_false true b h = absurd (cc h)
 either_false false b h = (refl, h)
@@ -155,6 +160,7 @@ record Behind (env next : Environment) (s : Signature) : Type 0 where
   first : Signature
   there : find (named s.name.text) next.signatures ≡ Some first
   agrees : (n : ℕ) (xs : List Param) → ParamsMeant n s.parameters xs → ParamsMeant n first.parameters xs
+  results : first.result ≡ s.result
 
 -- the last of a name is found where none is before it
 found_last : (ss : List Signature) (s : Signature) → find (named s.name.text) ss ≡ None → find (named s.name.text) (ss ++ (s ∷ [])) ≡ Some s
@@ -193,6 +199,7 @@ module _ (defined : List (List ℕ)) (env : Environment) (s : Signature) (d : De
     first = s;
     there = found_last env.signatures s (none e (find (named s.name.text) env.signatures) refl);
     agrees = λ n xs h. h;
+    results = refl;
   }
 
   old : (x : Entry) → entry_of env s.name.text ≡ Some x → differs_from env.signatures s ≡ false → Behind env (record env { signatures = env.signatures ++ (s ∷ []) }) s
@@ -205,12 +212,13 @@ module _ (defined : List (List ℕ)) (env : Environment) (s : Signature) (d : De
       }
 
       by : (o : Option Signature) → find (named s.name.text) env.signatures ≡ o → Behind env (record env { signatures = env.signatures ++ (s ∷ []) }) s
-      by None q = record { declared = all; first = s; there = found_last env.signatures s q; agrees = λ n xs h. h }
+      by None q = record { declared = all; first = s; there = found_last env.signatures s q; agrees = λ n xs h. h; results = refl }
       by (Some first) q = record {
         declared = all;
         first = first;
         there = found_before env.signatures (s ∷ []) s.name.text first q;
         agrees = λ n xs h. parameters_agree n first.parameters s.parameters xs (agreed first s (first_agrees env.signatures s first differs q)) h;
+        results = same_kind_is first.result s.result (agreed_result first s (first_agrees env.signatures s first differs q));
       }
 
   behind_function : Fine defined (function_name_found env s (entry_of env s.name.text)) → Behind env (with_signature env s) s
@@ -249,11 +257,24 @@ name_more env text t x h = go (entry_of env text) h
     go (Some e) q = q
     go None q = entry_more env.names (record { text = text; thing = t } ∷ []) x q
 
+-- the kind of a function's result, which is int or none
+abbrev pub result_kind_of : Ty → Kind
+result_kind_of Int = int_kind
+result_kind_of _ = void_kind
+
+result_same : (env : Environment) (t : Ty) → IsResult t → type_kind env outermost t ≡ result_kind_of t
+result_same env Int h = refl
+result_same env Void h = refl
+result_same env (Object n) h = absurd h
+result_same env (IntRef const) h = absurd h
+result_same env (ObjectRef const n) h = absurd h
+
 -- the function that is defined by a name
 record DefinedWith (n : ℕ) (s : Signature) (fs : List Function) (i : ℕ) : Type 0 where
   function : Function
   at : slice_get fs i ≡ Some function
   parameters : ParamsMeant n s.parameters function.parameters
+  result : s.result ≡ result_kind_of function.result
 
 same_body : (env : Environment) (sc : Scope) (b : Option Statements) → has_body (resolve_body env sc b) ≡ has_body b
 same_body env sc None = refl
@@ -261,17 +282,17 @@ same_body env sc (Some ss) = refl
 
 one_more : (b c : Bool) (name text : List ℕ) (names : List (List ℕ)) (f : Function) (fs : List Function) (s : Signature) (m n : ℕ) → c ≡ b →
     position (λ d. bytes_eq d text) (if b then name ∷ names else names) ≡ Some n →
-    (bytes_eq name text ≡ true → ParamsMeant m s.parameters f.parameters) → ((i : ℕ) → position (λ d. bytes_eq d text) names ≡ Some i → DefinedWith m s fs i) →
+    (bytes_eq name text ≡ true → ParamsMeant m s.parameters f.parameters × (s.result ≡ result_kind_of f.result)) → ((i : ℕ) → position (λ d. bytes_eq d text) names ≡ Some i → DefinedWith m s fs i) →
     DefinedWith m s (if c then f ∷ fs else fs) n
 one_more false false name text names f fs s m n e h own rest = rest n h
 one_more true true name text names f fs s m n e h own rest = go (bytes_eq name text) refl (sym (position-cons (λ d. bytes_eq d text) name names) ∙ h)
   where
     later : (o : Option ℕ) → position (λ d. bytes_eq d text) names ≡ o → option_map suc o ≡ Some n → DefinedWith m s (f ∷ fs) n
     later None q k = absurd (cc k)
-    later (Some i) q k = let same : suc i ≡ n = cc k in subst (DefinedWith m s (f ∷ fs)) same (let r = rest i q in record { function = r.function; at = r.at; parameters = r.parameters })
+    later (Some i) q k = let same : suc i ≡ n = cc k in subst (DefinedWith m s (f ∷ fs)) same (let r = rest i q in record { function = r.function; at = r.at; parameters = r.parameters; result = r.result })
 
     go : (b : Bool) → bytes_eq name text ≡ b → cond b (Some 0) (option_map suc (position (λ d. bytes_eq d text) names)) ≡ Some n → DefinedWith m s (f ∷ fs) n
-    go true q k = let same : 0 ≡ n = cc k in subst (DefinedWith m s (f ∷ fs)) same (record { function = f; at = refl; parameters = own q })
+    go true q k = let same : 0 ≡ n = cc k in subst (DefinedWith m s (f ∷ fs)) same (record { function = f; at = refl; parameters = (own q).0; result = (own q).1 })
     go false q k = later (position (λ d. bytes_eq d text) names) refl k
 one_more true false name text names f fs s m n e h own rest = absurd (cc e)
 one_more false true name text names f fs s m n e h own rest = absurd (cc e)
@@ -306,16 +327,20 @@ module _ (p : Checked) (checked : IsChecked p) (defined special : List (List ℕ
       let same : x.name.text ≡ s.name.text = (bytes_eq-Decides x.name.text s.name.text).0 q in
       let found = first_kept (map declared ws) (declare_behind env c) x.name.text b.first b.there in
       let it : b.first ≡ s = cc (sym (subst (λ t. find (named t) (declare_all (declare_behind env c) (map declared ws)).signatures ≡ Some b.first) same found) ∙ first) in
-      subst (λ y. ParamsMeant (length p.classes) y.parameters (resolve_params env outermost x.parameters)) it
-      (b.agrees (length p.classes) (resolve_params env outermost x.parameters)
-      (params_are p step.meant.some defined special env step.meant.names None None 0 x.parameters step.is.parameters heads.1)))
+      let result = (subst (λ k. HasForm k x) step.plain step.is.form).0 in
+      subst (λ y. ParamsMeant (length p.classes) y.parameters (resolve_params env outermost x.parameters) × (y.result ≡ result_kind_of x.result)) it (
+        b.agrees (length p.classes) (resolve_params env outermost x.parameters)
+            (params_are p step.meant.some defined special env step.meant.names None None 0 x.parameters step.is.parameters heads.1),
+        b.results ∙ result_same env x.result result,
+      ))
       (λ m q. defined_with ws (declare_behind env c) b.declared w.1 s m first q)
 
   -- the first declaration of a function of the program has its parameters
   pub parameters_known : (ws : List Written) (env : Environment) → Declared env → Walked p checked defined special env ws → defined ≡ definitions (map declared ws) →
       p.functions ≡ functions_of (resolve_declarations env (map declared ws)) → (text : List ℕ) (s : Signature) →
       find (named text) (declare_all env (map declared ws)).signatures ≡ Some s → has_text s.name.text defined ≡ true →
-      ParamsMeant (length p.classes) s.parameters (function_at p (numbered defined s.name.text)).parameters
+      ParamsMeant (length p.classes) s.parameters (function_at p (numbered defined s.name.text)).parameters ×
+      (s.result ≡ result_kind_of (function_at p (numbered defined s.name.text)).result)
   parameters_known ws env d w names functions text s e h =
       let last = (declare_all env (map declared ws)).signatures in
       let same : s.name.text ≡ text = (bytes_eq-Decides s.name.text text).0 (found_passes (named text) last s e) in
@@ -323,4 +348,64 @@ module _ (p : Checked) (checked : IsChecked p) (defined special : List (List ℕ
       let n = numbered defined s.name.text in
       let x = defined_with ws env d w s n own (subst (λ ds. position (λ d. bytes_eq d s.name.text) ds ≡ Some n) names (position_of defined s.name.text h)) in
       let at : slice_get p.functions n ≡ Some x.function = ap (λ fs. slice_get fs n) functions ∙ x.at in
-      subst (λ g. ParamsMeant (length p.classes) s.parameters g.parameters) (sym (ap (λ o. unwrap_or o no_function) at)) x.parameters
+      subst (λ g. ParamsMeant (length p.classes) s.parameters g.parameters × (s.result ≡ result_kind_of g.result)) (sym (ap (λ o. unwrap_or o no_function) at)) (x.parameters, x.result)
+
+  -- the first declaration of main
+  pub record MainFirst (last : List Signature) : Type 0 where
+    pub signature_of : Signature
+    pub found : find (named (codes "main")) last ≡ Some signature_of
+    pub none : signature_of.parameters ≡ []
+    pub int : signature_of.result ≡ int_kind
+
+  no_passing : (n : ℕ) (qs : List Passing) → ParamsMeant n qs [] → qs ≡ []
+  no_passing n [] h = refl
+  no_passing n (q ∷ qs) h = absurd h
+
+  no_params : (xs : List Param) → (length xs == 0) ≡ true → xs ≡ []
+  no_params [] h = refl
+  no_params (x ∷ xs) h = absurd (some (length xs) h)
+    where
+      some : (n : ℕ) → (suc n == 0) ≡ true → ⊥
+      some n q = grind (arith, nat_tests, q)
+
+  int_result : (t : Ty) → elim t as (λ x. Bool) [ Int ↦ true | _ ↦ false ] ≡ true → t ≡ Int
+  int_result Int h = refl
+  int_result Void h = absurd (cc h)
+  int_result (Object n) h = absurd (cc h)
+  int_result (IntRef const) h = absurd (cc h)
+  int_result (ObjectRef const n) h = absurd (cc h)
+
+  pub main_first : (ws : List Written) (env : Environment) → Declared env → Walked p checked defined special env ws → has_main (map declared ws) ≡ true →
+      MainFirst (declare_all env (map declared ws)).signatures
+  main_first [] env d w h = absurd (cc h)
+  main_first (written_class x is_public base ms ∷ ws) env d w h =
+      let c = declared (written_class x is_public base ms) in
+      main_first ws (declare_behind env c)
+      (no_function_declared env (declare_behind env c) (named_signatures env x.text (class_thing (next_class env))) (λ t q. name_more env x.text (class_thing (next_class env)) t q) d) w.1 h
+  main_first (written_global x v ∷ ws) env d w h =
+      let c = declared (written_global x v) in
+      main_first ws (declare_behind env c)
+      (no_function_declared env (declare_behind env c) (named_signatures env x.text (global_thing env.globals)) (λ t q. name_more env x.text (global_thing env.globals) t q) d) w.1 h
+  main_first (written_function x ∷ ws) env d w h =
+      let step = w.0 in
+      let b = behind_function defined env (signature env outermost x) d (function_good defined env x step.is step.fine) (function_heads defined env x step.fine).0 in
+      by (is_main x) refl h b (λ q. main_first ws (declare_behind env (function_declaration x)) b.declared w.1 q)
+    where
+      by : (y : Bool) → is_main x ≡ y → (y || has_main (map declared ws)) ≡ true → Behind env (declare_behind env (function_declaration x)) (signature env outermost x) →
+          (has_main (map declared ws) ≡ true → MainFirst (declare_all (declare_behind env (function_declaration x)) (map declared ws)).signatures) →
+          MainFirst (declare_all (declare_behind env (function_declaration x)) (map declared ws)).signatures
+      by false e q b rest = rest q
+      by true e q b rest =
+          let third = and_parts (bytes_eq x.name.text (codes "main") && has_body x.body && length x.parameters == 0) _ e in
+          let second = and_parts (bytes_eq x.name.text (codes "main") && has_body x.body) (length x.parameters == 0) third.0 in
+          let text : x.name.text ≡ codes "main" = (bytes_eq-Decides x.name.text (codes "main")).0 (and_parts (bytes_eq x.name.text (codes "main")) (has_body x.body) second.0).0 in
+          let none = no_params x.parameters second.1 in
+          let result = int_result x.result third.1 in
+          let meant : ParamsMeant (length p.classes) (signature env outermost x).parameters [] = subst (λ ps. ParamsMeant (length p.classes) (map (passing env outermost) ps) []) (sym none) tt in
+          record {
+            signature_of = b.first;
+            found = subst (λ t. find (named t) (declare_all (declare_behind env (function_declaration x)) (map declared ws)).signatures ≡ Some b.first) text
+                (first_kept (map declared ws) (declare_behind env (function_declaration x)) x.name.text b.first b.there);
+            none = no_passing (length p.classes) b.first.parameters (b.agrees (length p.classes) [] meant);
+            int = b.results ∙ ap (type_kind env outermost) result;
+          }

@@ -19,3 +19,5 @@ pub mod PartNames
 pub mod Initial
 pub mod Order
 pub mod Bodies
+pub mod Sources
+pub mod Programs
