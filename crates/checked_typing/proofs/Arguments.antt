@@ -1,5 +1,5 @@
 -- Arguments that break no rule can be passed: an lvalue for a reference, and an int for any other parameter.
-use Rattle.std.proofs.Common.{◌≡◌, ◌∙◌, ◌==◌, ◌++◌, ℕ, suc, Bool, true, false, List, [], ◌∷◌, drop, length, Some, if◌then◌else◌, refl, sym, ap, subst, arith}
+use Rattle.std.proofs.Common.{◌≡◌, ◌∙◌, ◌==◌, ◌++◌, ℕ, suc, Bool, true, false, List, [], ◌∷◌, drop, length, if◌then◌else◌, refl, sym, subst, arith}
 use Rattle.std.proofs.lemmas.Bool.Decides.{nat_tests}
 use Rattle.cxx_ast.specs.declared.name.Name.{Name}
 use Rattle.cxx_ast.specs.declared.types.Ty.{Ty}
@@ -17,11 +17,11 @@ use Rattle.cxx_ast.specs.ExpressionRules.{judged, all_judged}
 use Rattle.cxx_ast.specs.Resolve.{resolve_path, resolve_expression}
 use Rattle.cxx_ast.specs.Grammatical.{IsExpression, AreExpressions}
 use Rattle.scope_rules.specs.Class.{ObjectType, int_type, class_type, class_named, object_type, derives as derives_in}
-use Rattle.scope_rules.specs.Expression.{lvalue_of, names_of, is_reference, types_of}
+use Rattle.scope_rules.specs.Expression.{is_reference, types_of}
 use Rattle.scope_rules.specs.Frame.{Variable as FrameVariable}
 use Rattle.region_forms.specs.LowerExpression.{lvalue_type}
 use Rattle.region_simulation.specs.Names.{AreNamed}
-use Rattle.region_simulation.specs.Typing.{AreOfClass, CanPass}
+use Rattle.region_simulation.specs.Typing.{CanPass}
 use Rattle.checked_regions.proofs.Fine.{Fine, fine_parts, held}
 use Rattle.checked_regions.proofs.Meant.{Typed, HasKind, ParamMeant, ParamsMeant, Given, lowering_in, classes_in, Reach}
 use Rattle.checked_regions.proofs.Paths.{path_meant}

@@ -1,5 +1,5 @@
 -- The statements of a block that break no rule are typed.
-use Rattle.std.proofs.Common.{◌≡◌, ◌∙◌, ◌+◌, ◌≤◌, ◌||◌, ℕ, Bool, true, false, List, [], ◌∷◌, ◌++◌, length, Option, Some, None, refl, sym, ap, subst, arith}
+use Rattle.std.proofs.Common.{◌≡◌, ◌+◌, ◌||◌, ℕ, Bool, false, List, [], ◌∷◌, ◌++◌, length, Option, Some, None, refl, sym, ap, subst, arith}
 use Rattle.cxx_ast.specs.declared.name.Name.{Name}
 use Rattle.cxx_ast.specs.declared.name.Bound.TheVariants.{Local}
 use Rattle.cxx_ast.specs.declared.types.Ty.{Ty}
@@ -8,18 +8,17 @@ use Rattle.cxx_ast.specs.Rule.{handler_order}
 use Rattle.cxx_ast.specs.Finding.{breaks_if}
 use Rattle.cxx_ast.specs.Plain.{Statement, block, empty, if_else, while, return, break, continue, throw, try, assign, evaluate, local_int, local_ref, local_object, Else, no_else, else_do, Statements, no_statements, statement_then, Handlers, no_handlers, handler_then}
 use Rattle.cxx_ast.specs.Environment.{int_kind, Scope}
-use Rattle.cxx_ast.specs.TypeNames.{class_of_name, type_kind, type_found}
+use Rattle.cxx_ast.specs.TypeNames.{class_of_name, type_found}
 use Rattle.cxx_ast.specs.Lvalue.{first_place, reached}
 use Rattle.cxx_ast.specs.Reference.{int_found}
 use Rattle.cxx_ast.specs.ExpressionRules.{judged}
 use Rattle.cxx_ast.specs.Locals.{inner, in_a_loop, after, handler_scope, caught_count, locals_in, locals_of, scope_behind}
 use Rattle.cxx_ast.specs.StatementRules.{twice_in, start_found, assigned_found, caught_found, catches_all, statement_found, else_found, statements_found, handlers_found}
-use Rattle.cxx_ast.specs.Resolve.{bind, bind_some, resolve_class, resolve_type, resolve_expression, resolve_statement, resolve_else, resolve_statements, resolve_handlers}
+use Rattle.cxx_ast.specs.Resolve.{bind, bind_some, resolve_type, resolve_statement, resolve_else, resolve_statements, resolve_handlers}
 use Rattle.cxx_ast.specs.Grammatical.{IsCaught, IsStatement, IsElse, AreStatements, AreHandlers}
 use Rattle.cxx_rules.proofs.ScopeLaws.{behind_within}
 use Rattle.scope_rules.specs.Class.{object_type}
 use Rattle.scope_rules.specs.Frame.{Variable as FrameVariable}
-use Rattle.scope_rules.specs.World.{Reference}
 use Rattle.region_forms.specs.Numbering.{declared_in, declared_in_else, all_declared_in, declared_in_handlers}
 use Rattle.region_simulation.specs.Statements.{declared_to, IsTypedStatement, IsTypedElse, AreTypedStatements, AreTypedHandlers}
 use Rattle.checked_regions.proofs.Fine.{Fine, fine_parts}

@@ -1,15 +1,14 @@
 -- The functions that a program declares are typed, declaration after declaration.
-use Rattle.std.proofs.Common.{◌≡◌, ◌∙◌, ◌+◌, ◌<◌, ℕ, Bool, true, false, List, [], ◌∷◌, map, length, Option, Some, None, find, if◌then◌else◌, refl, sym, ap, subst, arith}
-use Rattle.std.specs.Prelude.{slice_get, flat_map}
+use Rattle.std.proofs.Common.{◌≡◌, ◌+◌, ℕ, Bool, true, false, List, [], ◌∷◌, map, length, Some, None, find, if◌then◌else◌, refl, ap, subst, arith}
+use Rattle.std.specs.Prelude.{flat_map}
 use Rattle.std.proofs.lemmas.List.{length-append}
 use Rattle.cxx_ast.specs.declared.name.Bound.TheVariants.{Func, Method as MethodBound}
 use Rattle.cxx_ast.specs.declared.types.Ty.{Ty}
 use Rattle.cxx_ast.specs.declared.types.Ty.TheVariants.{Int, Void, Object, IntRef, ObjectRef}
 use Rattle.cxx_ast.specs.declared.types.Param.{Param}
-use Rattle.cxx_ast.specs.declared.declaration.FuncKind.{FuncKind}
-use Rattle.cxx_ast.specs.declared.declaration.FuncKind.TheVariants.{Plain, Method, Constructor, Destructor}
+use Rattle.cxx_ast.specs.declared.declaration.FuncKind.TheVariants.{Plain, Constructor, Destructor}
 use Rattle.cxx_ast.specs.Plain.{Function, Class, Declaration, class_declaration, global_declaration, function_declaration, Checked}
-use Rattle.cxx_ast.specs.Environment.{Signature, Field, class_thing, global_thing, Entry, Environment, Scope}
+use Rattle.cxx_ast.specs.Environment.{Signature, Field, class_thing, global_thing, Environment, Scope}
 use Rattle.cxx_ast.specs.Lookup.{entry_of}
 use Rattle.cxx_ast.specs.TypeNames.{has_body, signature}
 use Rattle.cxx_ast.specs.Locals.{outermost, declare_params}
@@ -31,7 +30,7 @@ use Rattle.statement_simulation.specs.Functions.{gives_int, all_declared_to, IsT
 use Rattle.statement_simulation.specs.Jumps.{HaveNoJump}
 use Rattle.statement_simulation.specs.Members.{CanInitialiseParts}
 use Rattle.checked_regions.proofs.Fine.{Fine, fine_parts}
-use Rattle.checked_regions.proofs.Meant.{ParamsMeant, Meant, numbered}
+use Rattle.checked_regions.proofs.Meant.{ParamsMeant, numbered}
 use Rattle.checked_regions.proofs.Heads.{NameAlone}
 use Rattle.checked_regions.proofs.Classes.{head_names, entry_last, behind_class, methods_found}
 use Rattle.checked_regions.proofs.Definitions.{named}

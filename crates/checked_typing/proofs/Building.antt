@@ -1,11 +1,9 @@
 -- Objects that are built where no rule is broken can be.
-use Rattle.std.proofs.Common.{◌≡◌, ◌∙◌, ◌+◌, ◌<◌, ◌==◌, ◌&&◌, ℕ, zero, suc, Bool, true, false, not, List, [], ◌∷◌, ◌++◌, length, Option, Some, None, find, if◌then◌else◌, refl, sym, ap, subst, arith}
+use Rattle.std.proofs.Common.{◌≡◌, ◌∙◌, ◌<◌, ◌==◌, ℕ, zero, suc, Bool, true, false, List, [], ◌∷◌, ◌++◌, length, Option, Some, None, find, if◌then◌else◌, refl, sym, ap, subst, arith}
 use Rattle.std.specs.Prelude.{slice_get}
 use Rattle.std.proofs.lemmas.Bool.Decides.{nat_tests}
 use Rattle.std.proofs.lemmas.List.{length-map}
 use Rattle.cxx_ast.specs.declared.name.Name.{Name}
-use Rattle.cxx_ast.specs.declared.types.Ty.{Ty}
-use Rattle.cxx_ast.specs.declared.types.Ty.TheVariants.{ObjectRef}
 use Rattle.cxx_ast.specs.Plain.{Expression, number, path, paren, unary, binary, call, std_call, Expressions, no_expressions, expression_then}
 use Rattle.cxx_ast.specs.Rule.{arity, not_lvalue, no_default}
 use Rattle.cxx_ast.specs.Finding.{Finding, breaks}
@@ -17,11 +15,11 @@ use Rattle.cxx_ast.specs.ExpressionRules.{judged, all_judged}
 use Rattle.cxx_ast.specs.Resolve.{resolve_path, resolve_expression, resolve_expressions}
 use Rattle.cxx_ast.specs.Grammatical.{IsExpression, AreExpressions}
 use Rattle.scope_rules.specs.Class.{class_type, class_named, derives as derives_in, method_at}
-use Rattle.scope_rules.specs.Construct.{is_constructor, is_constructor_with, takes_copy, declared_or, constructor_for, copy_constructor}
+use Rattle.scope_rules.specs.Construct.{is_constructor, is_constructor_with, declared_or, constructor_for, copy_constructor}
 use Rattle.scope_rules.specs.Expression.{lvalue_of, names_of, types_of, constructor_types, count_of}
 use Rattle.scope_rules.specs.Frame.{Variable as FrameVariable}
 use Rattle.scope_rules.specs.Running.{Constructor, declared, implicit_default, constructor}
-use Rattle.region_forms.specs.LowerExpression.{lvalue_type, copies, constructor_chosen}
+use Rattle.region_forms.specs.LowerExpression.{lvalue_type, copies}
 use Rattle.region_simulation.specs.Calls.{IsCallable}
 use Rattle.region_simulation.specs.Names.{AreNamed}
 use Rattle.region_simulation.specs.Typing.{AreOfClass, AreTyped}
@@ -29,15 +27,14 @@ use Rattle.region_simulation.specs.Statements.{DecidesByType, CanConstruct}
 use Rattle.statement_simulation.specs.Members.{CanDefault}
 use Rattle.checked_regions.proofs.Fine.{Fine, fine_parts, held}
 use Rattle.checked_regions.proofs.Meant.{Typed, HasKind, Given, lowering_in, classes_in, Reach}
-use Rattle.checked_regions.proofs.Paths.{path_meant}
 use Rattle.checked_regions.proofs.Arguments.{kinded, lvalue_meant}
 use Rattle.checked_regions.proofs.Fitting.{same_number}
 use Rattle.checked_regions.proofs.Constructors.{lengths_same, Constructed, constructed_by, derived}
 use Rattle.checked_typing.specs.Known.{InReach, SettledIn}
 use Rattle.checked_typing.proofs.Paths.{path_typed}
-use Rattle.checked_typing.proofs.Arguments.{Suits, suits}
+use Rattle.checked_typing.proofs.Arguments.{suits}
 use Rattle.checked_typing.proofs.Expressions.{all_typed}
-use Rattle.checked_typing.proofs.Constructors.{front_true, declared_callable, CopyType, can_copy, copy_type}
+use Rattle.checked_typing.proofs.Constructors.{front_true, declared_callable, can_copy, copy_type}
 
 -- an item of a list
 pub some_item : {A : Type 0} (xs : List A) (k : ℕ) → k < length xs → (x : A) × (slice_get xs k ≡ Some x)

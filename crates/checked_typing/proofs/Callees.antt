@@ -1,5 +1,5 @@
 -- What a call calls, where it breaks no rule: with the types of its parameters, and on an object that has it.
-use Rattle.std.proofs.Common.{◌≡◌, ◌∙◌, ◌<◌, ◌==◌, ℕ, Bool, true, false, List, [], ◌∷◌, length, Option, Some, None, bytes_eq, codes, if◌then◌else◌, refl, sym, ap, subst}
+use Rattle.std.proofs.Common.{◌≡◌, ◌<◌, ◌==◌, ℕ, Bool, true, false, List, [], ◌∷◌, length, Option, Some, None, bytes_eq, codes, if◌then◌else◌, refl, sym, ap, subst}
 use Rattle.cxx_ast.specs.declared.name.Name.{Name}
 use Rattle.cxx_ast.specs.declared.name.Bound.{Bound}
 use Rattle.cxx_ast.specs.declared.name.Bound.TheVariants.{Free, Global, Local, Class, Func, Field, Method, Builtin as BuiltinBound}
@@ -19,7 +19,7 @@ use Rattle.cxx_ast.specs.Grammatical.{NotEmpty}
 use Rattle.scope_rules.specs.Class.{ObjectType, class_type, function_at, method_at}
 use Rattle.scope_rules.specs.Expression.{callee_bound, receiver}
 use Rattle.scope_rules.specs.Frame.{Variable as FrameVariable}
-use Rattle.region_forms.specs.LowerExpression.{named_type, lvalue_type}
+use Rattle.region_forms.specs.LowerExpression.{lvalue_type}
 use Rattle.region_simulation.specs.Names.{AreMembers, IsNamed, AreNamed}
 use Rattle.region_simulation.specs.Typing.{AreOfClass}
 use Rattle.checked_regions.proofs.Fine.{Fine, fine_parts}

@@ -11,7 +11,7 @@ use Rattle.cxx_ast.specs.Environment.{Kind, int_kind, truth_kind, void_kind, cla
 use Rattle.cxx_ast.specs.Construct.{is_constructor_kind, is_constructor_with as selects, declares_constructor, has_default}
 use Rattle.cxx_ast.specs.Declare.{have_default, base_has_default, needs_no_arguments}
 use Rattle.cxx_ast.specs.Checked.{IsChecked}
-use Rattle.scope_rules.specs.Class.{ObjectType, int_type, class_type, class_named, class_at, no_class, method_at, base_part, member_part, parts_of}
+use Rattle.scope_rules.specs.Class.{ObjectType, class_type, class_named, class_at, no_class, method_at, base_part, member_part, parts_of}
 use Rattle.scope_rules.specs.Construct.{is_constructor, takes_copy, is_constructor_with, place_from, declared_or, constructor_for}
 use Rattle.scope_rules.specs.Expression.{types_of, constructor_types}
 use Rattle.scope_rules.specs.Running.{Constructor, declared, implicit_default, implicit_copy, constructor}
@@ -22,8 +22,7 @@ use Rattle.class_layout.proofs.Program.{classes_fit}
 use Rattle.region_simulation.specs.Calls.{BuildsByDefault, IsCallable}
 use Rattle.statement_simulation.specs.Members.{CanDefault}
 use Rattle.checked_regions.proofs.Meant.{Typed, FieldsMeant, MethodsMeant, EntryMeant}
-use Rattle.checked_regions.proofs.Slots.{in_front, behind}
-use Rattle.checked_regions.proofs.Constructors.{Constructed, constructed_by}
+use Rattle.checked_regions.proofs.Constructors.{constructed_by}
 use Rattle.checked_typing.proofs.Expressions.{no_parameters}
 use Rattle.checked_typing.proofs.Constructors.{front_true, declared_there}
 use Rattle.checked_typing.proofs.Building.{some_item}

@@ -1,5 +1,5 @@
 -- A function that is defined has the parameters of its first declaration.
-use Rattle.std.proofs.Common.{◌≡◌, ◌∙◌, ◌+◌, ◌&&◌, ◌||◌, ◌==◌, ◌<◌, ℕ, suc, Bool, true, false, not, List, [], ◌∷◌, ◌++◌, map, length, Option, Some, None, option_map, position, cond, bytes_eq, codes, find, if◌then◌else◌, refl, sym, ap, subst, arith}
+use Rattle.std.proofs.Common.{◌≡◌, ◌∙◌, ◌&&◌, ◌||◌, ◌==◌, ℕ, suc, Bool, true, false, not, List, [], ◌∷◌, ◌++◌, map, length, Option, Some, None, option_map, position, cond, bytes_eq, codes, find, if◌then◌else◌, refl, sym, ap, subst, arith}
 use Rattle.std.specs.Prelude.{slice_get, unwrap_or, flat_map}
 use Rattle.std.specs.Option.{option_or}
 use Rattle.std.proofs.lemmas.Bool.{and_parts}
@@ -12,7 +12,7 @@ use Rattle.cxx_ast.specs.declared.types.Ty.TheVariants.{Int, Void, Object, IntRe
 use Rattle.cxx_ast.specs.declared.types.Param.{Param}
 use Rattle.cxx_ast.specs.Rule.{redeclared, specification_mismatch}
 use Rattle.cxx_ast.specs.Finding.{breaks_if}
-use Rattle.cxx_ast.specs.Plain.{Checked, Function, Statements, Declaration, class_declaration, global_declaration, function_declaration}
+use Rattle.cxx_ast.specs.Plain.{Checked, Function, Statements, function_declaration}
 use Rattle.cxx_ast.specs.Environment.{Kind, int_kind, truth_kind, void_kind, class_kind, no_kind, same_kind, Passing, Signature, Thing, global_thing, class_thing, function_thing, Entry, Environment, Scope}
 use Rattle.cxx_ast.specs.Lookup.{entry_of}
 use Rattle.cxx_ast.specs.TypeNames.{passing, type_kind, type_found, specification_found, head_types_found, has_body, signature}
@@ -23,18 +23,18 @@ use Rattle.cxx_ast.specs.Resolve.{function_number, resolve_params, resolve_body,
 use Rattle.cxx_ast.specs.Declare.{with_name, next_class, with_signature, declare_behind, declare_all, definitions, body_environment, function_scope}
 use Rattle.cxx_ast.specs.Broken.{same_passing, same_parameters, same_allowed, agree, differs_from, defined_in, function_name_found, declaration_found, is_main, has_main}
 use Rattle.cxx_ast.specs.Grammatical.{Each, HasForm, IsResult}
-use Rattle.cxx_ast.specs.Written.{Written, written_class, written_global, written_function, declared, start_value}
+use Rattle.cxx_ast.specs.Written.{Written, written_class, written_global, written_function, declared}
 use Rattle.cxx_ast.specs.Checked.{IsChecked, resolve_declarations, functions_of}
 use Rattle.cxx_rules.proofs.TextLaws.{position-cons}
 use Rattle.scope_rules.specs.Class.{object_type, function_at, no_function}
 use Rattle.checked_regions.proofs.Fine.{Fine, fine_parts, not_broken}
-use Rattle.checked_regions.proofs.Meant.{ParamMeant, ParamsMeant, Meant, Typed, numbered}
+use Rattle.checked_regions.proofs.Meant.{ParamsMeant, Typed, numbered}
 use Rattle.checked_regions.proofs.Meanings.{found_each, found_passes}
 use Rattle.checked_regions.proofs.Heads.{params_are}
 use Rattle.checked_regions.proofs.Classes.{named_signatures, with_entry}
 use Rattle.checked_regions.proofs.Definitions.{Good, Declared, named, function_good, first_kept, position_of}
 use Rattle.checked_regions.proofs.Lists.{each_map, each_last, same_text}
-use Rattle.checked_typing.proofs.Walk.{class_of, ClassStep, FunctionStep, Walked}
+use Rattle.checked_typing.proofs.Walk.{Walked}
 
 function_heads : (defined : List (List ℕ)) (env : Environment) (f : Function) → Fine defined (declaration_found env (function_declaration f)) →
     (Fine defined (function_name_found env (signature env outermost f) (entry_of env f.name.text))) × (Fine defined (flat_map (λ p. type_found env outermost p.ty) f.parameters))

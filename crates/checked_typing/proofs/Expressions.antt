@@ -1,5 +1,5 @@
 -- Expressions that break no rule are typed.
-use Rattle.std.proofs.Common.{◌≡◌, ◌∙◌, ◌+◌, ◌<◌, ◌==◌, ℕ, suc, ◌&&◌, Bool, true, false, not, List, [], ◌∷◌, drop, length, Option, Some, None, bytes_eq, codes, if◌then◌else◌, refl, sym, ap, subst, arith}
+use Rattle.std.proofs.Common.{◌≡◌, ◌==◌, ℕ, suc, ◌&&◌, Bool, true, false, not, List, [], ◌∷◌, drop, length, Option, Some, None, bytes_eq, codes, if◌then◌else◌, refl, sym, ap, subst, arith}
 use Rattle.std.proofs.lemmas.Bool.Decides.{nat_tests}
 use Rattle.std.proofs.lemmas.List.{length-map}
 use Rattle.cxx_ast.specs.declared.name.Name.{Name}
@@ -20,15 +20,15 @@ use Rattle.cxx_ast.specs.Calls.{std_builtin, broken_call, if_sound, ints_found, 
 use Rattle.cxx_ast.specs.ExpressionRules.{judged, all_judged}
 use Rattle.cxx_ast.specs.Resolve.{std_bound, bound_of, resolve_path, resolve_expression, resolve_expressions}
 use Rattle.cxx_ast.specs.Grammatical.{IsExpression, AreExpressions, IsCall}
-use Rattle.scope_rules.specs.Class.{ObjectType, int_type, function_at, method_at}
+use Rattle.scope_rules.specs.Class.{int_type, function_at, method_at}
 use Rattle.scope_rules.specs.Expression.{receiver, callee_bound, types_of, parameter_types, function_named, function_number, count_of}
 use Rattle.scope_rules.specs.Frame.{Variable as FrameVariable}
 use Rattle.region_forms.specs.LowerExpression.{lvalue_type}
 use Rattle.region_simulation.specs.Names.{AreNamed}
 use Rattle.region_simulation.specs.Stands.{IsHandler}
-use Rattle.region_simulation.specs.Typing.{CanPass, standard_count, GivesHandler, UnlessHandler, CanCall, IsStandard, IsTyped, AreTyped}
+use Rattle.region_simulation.specs.Typing.{CanPass, UnlessHandler, CanCall, IsStandard, IsTyped, AreTyped}
 use Rattle.checked_regions.proofs.Fine.{Fine, fine_parts, held}
-use Rattle.checked_regions.proofs.Meant.{Typed, ParamsMeant, IsFunction, numbered, Given, lowering_in, classes_in, Reach, MeaningMeant}
+use Rattle.checked_regions.proofs.Meant.{Typed, ParamsMeant, numbered, Given, lowering_in, classes_in, Reach, MeaningMeant}
 use Rattle.checked_regions.proofs.Meanings.{look_meant}
 use Rattle.checked_regions.proofs.Paths.{path_meant}
 use Rattle.checked_regions.proofs.Constructors.{lengths_same}

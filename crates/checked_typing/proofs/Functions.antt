@@ -1,5 +1,5 @@
 -- The parameters and the body of a declared function that breaks no rule are typed.
-use Rattle.std.proofs.Common.{◌≡◌, ◌∙◌, ◌+◌, ◌≤◌, ◌<◌, ℕ, suc, Bool, true, false, List, [], ◌∷◌, ◌++◌, map, length, Option, Some, None, refl, sym, ap, subst, arith}
+use Rattle.std.proofs.Common.{◌≡◌, ◌∙◌, ◌+◌, ℕ, suc, Bool, true, List, [], ◌∷◌, ◌++◌, length, Option, Some, None, refl, sym, ap, subst, arith}
 use Rattle.std.specs.Prelude.{slice_get, flat_map}
 use Rattle.std.proofs.lemmas.List.{length-map}
 use Rattle.cxx_ast.specs.declared.name.Name.{Name}
@@ -32,7 +32,7 @@ use Rattle.statement_simulation.specs.Functions.{gives_int, AreDeclared, all_dec
 use Rattle.statement_simulation.specs.Jumps.{HaveNoJump}
 use Rattle.checked_regions.proofs.Fine.{Fine, fine_parts}
 use Rattle.checked_regions.proofs.Meant.{Meant, Given, lowering_in, Reach}
-use Rattle.checked_regions.proofs.Types.{From, from_front}
+use Rattle.checked_regions.proofs.Types.{from_front}
 use Rattle.checked_regions.proofs.Heads.{heading, next_heading, Names, NameAlone, params_reach}
 use Rattle.checked_regions.proofs.Functions.{sc, bound, g}
 use Rattle.checked_typing.specs.Known.{Settled, InReach, Here, Stretch}

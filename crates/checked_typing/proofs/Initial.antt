@@ -11,8 +11,8 @@ use Rattle.cxx_ast.specs.declared.types.Param.{Param}
 use Rattle.cxx_ast.specs.Rule.{initialiser_list, no_default}
 use Rattle.cxx_ast.specs.Finding.{Finding, breaks, breaks_if}
 use Rattle.cxx_ast.specs.Plain.{Expressions, no_expressions, expression_then, Initialiser}
-use Rattle.cxx_ast.specs.Environment.{Kind, int_kind, truth_kind, void_kind, class_kind, no_kind, Field as FieldEntry, ClassEntry, Environment, Scope, Meaning, unknown, a_field}
-use Rattle.cxx_ast.specs.Lookup.{Found, field_named, own_meaning, look}
+use Rattle.cxx_ast.specs.Environment.{Kind, int_kind, truth_kind, void_kind, class_kind, no_kind, Field as FieldEntry, ClassEntry, Environment, Scope, unknown, a_field}
+use Rattle.cxx_ast.specs.Lookup.{Found, field_named, look}
 use Rattle.cxx_ast.specs.Reference.{all_found}
 use Rattle.cxx_ast.specs.Construct.{has_default}
 use Rattle.cxx_ast.specs.ExpressionRules.{all_judged}
@@ -31,7 +31,7 @@ use Rattle.checked_regions.proofs.Lists.{same_text}
 use Rattle.checked_typing.specs.Known.{SettledIn, Here}
 use Rattle.checked_typing.proofs.Building.{some_item, constructs}
 use Rattle.checked_typing.proofs.Defaults.{part_before, class_of_kind}
-use Rattle.checked_typing.proofs.PartNames.{FieldPlace, field_place, look_first, initial_bound, member_is, some_classes, named_right}
+use Rattle.checked_typing.proofs.PartNames.{field_place, look_first, initial_bound, member_is, some_classes, named_right}
 use Rattle.checked_typing.proofs.Statements.{value}
 
 -- each name stands once

@@ -1,5 +1,5 @@
 -- Where no rule is broken, jumps stand in loops.
-use Rattle.std.proofs.Common.{◌≡◌, ◌∙◌, ◌+◌, ◌||◌, ◌++◌, ℕ, Bool, true, false, not, List, Option, Some, None, refl, subst}
+use Rattle.std.proofs.Common.{◌≡◌, ◌∙◌, ◌+◌, ◌||◌, ◌++◌, ℕ, Bool, true, false, not, List, Option, Some, None, refl}
 use Rattle.cxx_ast.specs.declared.name.Name.{Name}
 use Rattle.cxx_ast.specs.declared.types.Ty.{Ty}
 use Rattle.cxx_ast.specs.declared.types.Param.{Param}
@@ -13,7 +13,7 @@ use Rattle.cxx_ast.specs.Locals.{inner, after, declare_param, handler_scope, cau
 use Rattle.cxx_ast.specs.StatementRules.{caught_found, catches_all, statement_found, else_found, statements_found, handlers_found}
 use Rattle.cxx_ast.specs.Resolve.{resolve_statement, resolve_else, resolve_statements, resolve_handlers}
 use Rattle.statement_simulation.specs.Jumps.{HasNoJump, ElseHasNoJump, HaveNoJump, HandlersHaveNoJump}
-use Rattle.checked_regions.proofs.Fine.{Fine, fine_parts, held}
+use Rattle.checked_regions.proofs.Fine.{Fine, fine_parts}
 
 param_loop : (env : Environment) (p : Param) (sc : Scope) → (declare_param env p sc).in_loop ≡ sc.in_loop
 param_loop env p sc = go p.name

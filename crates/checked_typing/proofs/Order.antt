@@ -1,5 +1,5 @@
 -- The data members of a class stand in the order of their places, and each name stands once.
-use Rattle.std.proofs.Common.{◌≡◌, ◌∙◌, ◌+◌, ◌<◌, ◌≤◌, ◌&&◌, ℕ, zero, suc, nat_lt, Bool, true, false, List, [], ◌∷◌, ◌++◌, map, Option, Some, None, bytes_eq, refl, sym, ap, subst, arith}
+use Rattle.std.proofs.Common.{◌≡◌, ◌∙◌, ◌+◌, ◌<◌, ◌≤◌, ◌&&◌, ℕ, nat_lt, Bool, true, false, List, [], ◌∷◌, ◌++◌, map, Option, Some, None, bytes_eq, refl, sym, ap, subst, arith}
 use Rattle.std.specs.Prelude.{flat_map}
 use Rattle.std.proofs.lemmas.Bool.Decides.{nat_tests}
 use Rattle.cxx_ast.specs.declared.name.Name.{Name}
@@ -12,8 +12,8 @@ use Rattle.cxx_ast.specs.Finding.{breaks_if}
 use Rattle.cxx_ast.specs.Environment.{Field, Environment}
 use Rattle.cxx_ast.specs.Declare.{next_class, name_of, field_of, class_entry}
 use Rattle.cxx_ast.specs.ClassRules.{is_taken, base_found, field_found, method_names, stands_before, twice_among, specials_found, size_found, method_found, class_rules_found}
-use Rattle.cxx_ast.specs.Spelling.{spell_type, spell_name, spell_param}
-use Rattle.cxx_ast.specs.Written.{Member, data_member, function_member, Written, written_class, written_global, written_function, data_members, spell_params, spell_specification, spell_initialisers, spell_body, spell_function, spell_members, spell_base, spell_start_value, spell_declaration, spell_declarations}
+use Rattle.cxx_ast.specs.Spelling.{spell_name}
+use Rattle.cxx_ast.specs.Written.{Member, data_member, function_member, Written, written_class, written_global, written_function, data_members, spell_params, spell_specification, spell_initialisers, spell_body, spell_function, spell_members, spell_base, spell_start_value, spell_declarations}
 use Rattle.cxx_ast.specs.Grammatical.{Each, There, IsMember, IsGrammatical}
 use Rattle.checked_regions.proofs.Fine.{Fine, fine_parts, not_broken}
 use Rattle.checked_regions.proofs.Pieces.{Above, lower, after_name, after_type, after_body, after_specification, after_initialisers, after_params, after_result, after_tilde, after_base, after_start_value}

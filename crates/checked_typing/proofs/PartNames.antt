@@ -8,11 +8,11 @@ use Rattle.cxx_ast.specs.declared.name.Bound.{Bound}
 use Rattle.cxx_ast.specs.declared.name.Bound.TheVariants.{Field}
 use Rattle.cxx_ast.specs.declared.name.Builtin.TheVariants.{WriteInt, ReadByte, Exit, Module, Cancel}
 use Rattle.cxx_ast.specs.declared.types.Param.{Param}
-use Rattle.cxx_ast.specs.Environment.{Kind, int_kind, truth_kind, void_kind, class_kind, no_kind, Field as FieldEntry, ClassEntry, Thing, global_thing, class_thing, function_thing, Entry, Environment, Signature, Variable, Scope, Meaning, unknown, a_local, a_field, a_global, a_class, a_builtin}
+use Rattle.cxx_ast.specs.Environment.{Kind, class_kind, Field as FieldEntry, ClassEntry, Thing, global_thing, class_thing, function_thing, Entry, Environment, Signature, Variable, Scope, Meaning, unknown, a_local, a_field, a_global, a_class, a_builtin}
 use Rattle.cxx_ast.specs.Lookup.{variable_named, Found, field_named, method_named, first_of_two, member_of, own_meaning, builtin_named, function_meaning, thing_meaning, entry_of, outer_meaning, look}
-use Rattle.scope_rules.specs.Class.{ObjectType, int_type, class_type, class_named, object_type, class_at, base_part, member_part, parts_of, member_place}
-use Rattle.scope_rules.specs.Call.{place_named, initialiser_for}
-use Rattle.checked_regions.proofs.Meant.{Typed, FieldsMeant, EntryMeant, Given, lowering_in, classes_in, Reach}
+use Rattle.scope_rules.specs.Class.{ObjectType, class_type, class_named, object_type, class_at, base_part, member_part, parts_of, member_place}
+use Rattle.scope_rules.specs.Call.{place_named}
+use Rattle.checked_regions.proofs.Meant.{Typed, FieldsMeant, EntryMeant, Given, classes_in}
 use Rattle.checked_regions.proofs.Slots.{behind}
 use Rattle.checked_regions.proofs.Alone.{own_unknown}
 use Rattle.cxx_ast.specs.Plain.{Checked}

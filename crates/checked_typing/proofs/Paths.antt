@@ -1,20 +1,17 @@
 -- Names that reach something where no rule is broken name something of its type.
-use Rattle.std.proofs.Common.{◌≡◌, ◌∙◌, ◌<◌, ◌++◌, ℕ, true, List, [], ◌∷◌, length, Option, Some, None, refl, sym, ap, subst}
-use Rattle.std.specs.Prelude.{slice_get}
+use Rattle.std.proofs.Common.{◌≡◌, ◌++◌, ℕ, List, [], ◌∷◌, length, Option, Some, None, refl, sym, subst}
 use Rattle.std.proofs.lemmas.Option.{slice_get_within}
 use Rattle.cxx_ast.specs.declared.name.Name.{Name}
-use Rattle.cxx_ast.specs.declared.name.Bound.{Bound}
-use Rattle.cxx_ast.specs.declared.name.Bound.TheVariants.{Global, Local, Field, Method}
-use Rattle.cxx_ast.specs.declared.declaration.FuncKind.TheVariants.{Method as MethodKind}
-use Rattle.cxx_ast.specs.Environment.{Kind, int_kind, truth_kind, void_kind, class_kind, no_kind, Environment, Scope, Meaning, unknown, a_local, a_field, a_method, a_global, a_function, a_class, a_builtin}
+use Rattle.cxx_ast.specs.declared.name.Bound.TheVariants.{Field}
+use Rattle.cxx_ast.specs.Environment.{Kind, int_kind, truth_kind, void_kind, class_kind, no_kind, Scope, Meaning, unknown, a_local, a_field, a_method, a_global, a_function, a_class, a_builtin}
 use Rattle.cxx_ast.specs.Lookup.{member_meaning, meaning_kind, look}
 use Rattle.cxx_ast.specs.Lvalue.{variable_wanted, reached_from, reached}
 use Rattle.cxx_ast.specs.Resolve.{bind, bound_of, resolve_members, resolve_path}
-use Rattle.scope_rules.specs.Class.{ObjectType, int_type, class_type, object_type, class_at, derives}
+use Rattle.scope_rules.specs.Class.{ObjectType, class_type, class_at}
 use Rattle.scope_rules.specs.Frame.{Variable as FrameVariable}
-use Rattle.region_forms.specs.LowerExpression.{Lowering, variable_type, member_type, named_type, lvalue_type}
+use Rattle.region_forms.specs.LowerExpression.{Lowering, member_type, named_type, lvalue_type}
 use Rattle.region_simulation.specs.Names.{HasMember, AreMembers, IsNamed, AreNamed}
-use Rattle.checked_regions.proofs.Fine.{Fine, fine_parts}
+use Rattle.checked_regions.proofs.Fine.{Fine}
 use Rattle.checked_regions.proofs.Meant.{Typed, Given, lowering_in, classes_in, Reach, FieldThere, MemberMeant, MeaningMeant}
 use Rattle.checked_regions.proofs.Meanings.{member_meant, look_meant}
 use Rattle.checked_regions.proofs.Inside.{field_typed}

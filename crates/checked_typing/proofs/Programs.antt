@@ -1,5 +1,5 @@
 -- Checked programs are typed.
-use Rattle.std.proofs.Common.{◌≡◌, ◌∙◌, ◌+◌, ◌<◌, ◌||◌, ◌&&◌, ◌==◌, ℕ, zero, suc, Bool, true, false, not, List, [], ◌∷◌, ◌++◌, map, length, Option, Some, None, option_map, bytes_eq, codes, find, if◌then◌else◌, refl, sym, ap, subst, arith}
+use Rattle.std.proofs.Common.{◌≡◌, ◌∙◌, ◌+◌, ◌<◌, ◌||◌, ◌&&◌, ◌==◌, ℕ, zero, suc, Bool, true, false, not, List, [], ◌∷◌, ◌++◌, map, length, Some, None, option_map, bytes_eq, codes, find, if◌then◌else◌, refl, sym, ap, subst, arith}
 use Rattle.std.specs.Prelude.{slice_get, unwrap_or}
 use Rattle.std.proofs.lemmas.Bool.{and_parts}
 use Rattle.std.proofs.lemmas.Slice.Eq.{bytes_eq-Decides}
@@ -9,9 +9,9 @@ use Rattle.cxx_ast.specs.declared.types.Ty.TheVariants.{Int, Void, Object, IntRe
 use Rattle.cxx_ast.specs.declared.types.Param.{Param}
 use Rattle.cxx_ast.specs.Finding.{breaks_if}
 use Rattle.cxx_ast.specs.Rule.{no_main}
-use Rattle.cxx_ast.specs.Plain.{Function, Class, Declaration, class_declaration, global_declaration, function_declaration, Program, Checked}
+use Rattle.cxx_ast.specs.Plain.{Class, Declaration, class_declaration, global_declaration, function_declaration, Program, Checked}
 use Rattle.cxx_ast.specs.TypeNames.{has_body}
-use Rattle.cxx_ast.specs.Environment.{Kind, int_kind, Passing, Signature, ClassEntry, Environment}
+use Rattle.cxx_ast.specs.Environment.{int_kind, Passing, Signature, ClassEntry, Environment}
 use Rattle.cxx_ast.specs.Lookup.{entry_of}
 use Rattle.cxx_ast.specs.FunctionRules.{has_text}
 use Rattle.cxx_ast.specs.DeclaredNames.{class_names, once_only_found}
@@ -20,7 +20,6 @@ use Rattle.cxx_ast.specs.Broken.{Valid, broken, declarations_found, is_main, has
 use Rattle.cxx_ast.specs.Grammatical.{Each, IsGrammatical}
 use Rattle.cxx_ast.specs.Written.{Written, declared}
 use Rattle.cxx_ast.specs.Checked.{IsChecked, bad_exception, resolve_declarations, classes_of, globals_of, functions_of, checked}
-use Rattle.scope_rules.specs.Call.{statements_in}
 use Rattle.scope_rules.specs.Class.{class_type, class_named, class_at, no_class, no_function, function_at, method_at, parts_of}
 use Rattle.scope_rules.specs.Construct.{constructor_for}
 use Rattle.scope_rules.specs.Expression.{types_of}
@@ -41,8 +40,7 @@ use Rattle.checked_regions.proofs.Once.{strangers}
 use Rattle.checked_typing.proofs.Building.{some_item}
 use Rattle.checked_typing.proofs.Defaults.{BuiltBy, part_before}
 use Rattle.checked_typing.proofs.Walk.{walked}
-use Rattle.checked_typing.proofs.Definitions.{result_kind_of, parameters_known, MainFirst, main_first}
-use Rattle.checked_typing.proofs.Expressions.{no_parameters}
+use Rattle.checked_typing.proofs.Definitions.{result_kind_of, parameters_known, main_first}
 use Rattle.checked_typing.proofs.Order.{FieldsOrdered, all_ordered}
 use Rattle.checked_typing.proofs.Settling.{Steady}
 use Rattle.checked_typing.proofs.Bodies.{FunctionGood, MethodGood, ClassesGood, AllGood, all_good}

@@ -1,6 +1,6 @@
 -- Variables that come in reach, by their numbers.
-use Rattle.std.proofs.Common.{◌≡◌, ◌∙◌, ◌+◌, ◌<◌, ◌≤◌, ◌==◌, ◌||◌, ℕ, Bool, true, false, List, [], ◌∷◌, ◌++◌, length, Option, Some, None, if◌then◌else◌, refl, sym, ap, subst, arith}
-use Rattle.std.specs.Prelude.{slice_get, unwrap_or}
+use Rattle.std.proofs.Common.{◌≡◌, ◌∙◌, ◌+◌, ◌≤◌, ◌==◌, ◌||◌, ℕ, Bool, true, false, List, [], ◌∷◌, ◌++◌, length, Option, Some, None, if◌then◌else◌, refl, sym, ap, subst, arith}
+use Rattle.std.specs.Prelude.{unwrap_or}
 use Rattle.std.proofs.lemmas.Bool.Decides.{nat_tests}
 use Rattle.std.proofs.lemmas.List.{length-append}
 use Rattle.std.proofs.lemmas.Option.{slice_get_within}
@@ -16,12 +16,11 @@ use Rattle.cxx_ast.specs.Resolve.{bind, bind_some}
 use Rattle.cxx_ast.specs.Grammatical.{Each}
 use Rattle.scope_rules.specs.Frame.{Variable as FrameVariable}
 use Rattle.scope_rules.specs.World.{Reference}
-use Rattle.region_forms.specs.LowerExpression.{variable_type}
 use Rattle.region_simulation.specs.Reach.{is_in_reach}
 use Rattle.region_simulation.specs.Statements.{HasNumber, DeclaresNext, declared_to}
 use Rattle.checked_regions.proofs.Lists.{each_map}
 use Rattle.checked_regions.proofs.Meant.{Given, lowering_in, Reach}
-use Rattle.checked_regions.proofs.Types.{From, from_front, from_back, from_first}
+use Rattle.checked_regions.proofs.Types.{from_front, from_back, from_first}
 use Rattle.checked_typing.specs.Known.{Here, InReach, Stretch}
 
 -- a variable more

@@ -1,5 +1,5 @@
 -- In the program of a source classes' names are those of nothing else.
-use Rattle.std.proofs.Common.{◌≡◌, ◌||◌, ℕ, true, false, not, List, [], ◌∷◌, ◌++◌, map, Option, Some, None, bytes_eq, codes, refl, sym, ap, subst}
+use Rattle.std.proofs.Common.{◌≡◌, ◌||◌, ℕ, true, false, not, List, [], ◌∷◌, ◌++◌, map, Option, Some, None, bytes_eq, refl, ap}
 use Rattle.std.specs.Prelude.{flat_map}
 use Rattle.std.proofs.lemmas.Slice.Eq.{bytes_eq-Decides}
 use Rattle.cxx_ast.specs.declared.name.Name.{Name}
@@ -21,7 +21,6 @@ use Rattle.cxx_ast.specs.Written.{Written, written_class, written_global, writte
 use Rattle.checked_regions.proofs.Fine.{Fine, fine_parts, not_broken, nothing_refused}
 use Rattle.checked_regions.proofs.Heads.{NameAlone}
 use Rattle.checked_regions.proofs.Declarations.{DeclarationAlone}
-use Rattle.checked_regions.proofs.Programs.{class_texts}
 use Rattle.checked_regions.proofs.Spelled.{Apart, field_names, MembersApart}
 use Rattle.checked_regions.proofs.Lists.{each_map, each_both, each_front, each_back, flipped, behind_true}
 use Rattle.checked_regions.proofs.Once.{NotBefore, none_before, differ_by, asked_names}

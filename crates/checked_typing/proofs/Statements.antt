@@ -1,5 +1,5 @@
 -- The parts of statements that break no rule are typed.
-use Rattle.std.proofs.Common.{◌≡◌, ◌∙◌, ◌++◌, ◌<◌, ℕ, Bool, true, false, List, [], ◌∷◌, length, Option, Some, None, refl, sym, ap, subst}
+use Rattle.std.proofs.Common.{◌≡◌, ◌∙◌, ◌++◌, ◌<◌, ℕ, Bool, true, false, List, [], ◌∷◌, length, Option, Some, None, sym, subst}
 use Rattle.cxx_ast.specs.declared.name.Name.{Name}
 use Rattle.cxx_ast.specs.declared.types.Ty.{Ty}
 use Rattle.cxx_ast.specs.declared.types.Ty.TheVariants.{Int, Void, Object, IntRef, ObjectRef}
@@ -14,13 +14,13 @@ use Rattle.cxx_ast.specs.Reference.{int_found, binding_found}
 use Rattle.cxx_ast.specs.ExpressionRules.{judged, all_judged}
 use Rattle.cxx_ast.specs.StatementRules.{name_twice, start_found, return_found, throw_found, assigned_found, object_found, statement_found}
 use Rattle.cxx_ast.specs.Resolve.{resolve_class, resolve_type, resolve_path, resolve_expression, resolve_expressions, resolve_value}
-use Rattle.cxx_ast.specs.Grammatical.{Each, Where, NotEmpty, IsReference, IsCaught, IsExpression, AreExpressions, IsCall}
-use Rattle.scope_rules.specs.Class.{ObjectType, int_type, class_type, class_named, object_type}
+use Rattle.cxx_ast.specs.Grammatical.{Each, Where, NotEmpty, IsReference, IsExpression, AreExpressions, IsCall}
+use Rattle.scope_rules.specs.Class.{int_type, class_named, object_type}
 use Rattle.scope_rules.specs.Frame.{Variable as FrameVariable}
 use Rattle.region_forms.specs.LowerExpression.{lvalue_type}
-use Rattle.class_layout.proofs.Named.{ThingBelow, Known, Stands, name_stands}
+use Rattle.class_layout.proofs.Named.{ThingBelow, Known, name_stands}
 use Rattle.region_simulation.specs.Names.{AreNamed}
-use Rattle.region_simulation.specs.Typing.{AreOfClass, IsTyped}
+use Rattle.region_simulation.specs.Typing.{IsTyped}
 use Rattle.region_simulation.specs.Statements.{CanBind, CanConstruct, CanThrow, CanCatch, CanReturn, IsTypedIfThere}
 use Rattle.checked_regions.proofs.Fine.{Fine, fine_parts, fine_sound}
 use Rattle.checked_regions.proofs.Meant.{Typed, IsHeld, Given, lowering_in, classes_in}

@@ -1,5 +1,5 @@
 -- What is thrown where no rule is broken can be.
-use Rattle.std.proofs.Common.{◌≡◌, ◌∙◌, ◌<◌, ℕ, Bool, true, false, List, [], ◌∷◌, length, Option, Some, None, refl, sym, subst}
+use Rattle.std.proofs.Common.{◌≡◌, ◌∙◌, ◌<◌, ℕ, true, false, List, [], ◌∷◌, Option, Some, None, refl, sym, subst}
 use Rattle.cxx_ast.specs.declared.name.Name.{Name}
 use Rattle.cxx_ast.specs.declared.name.Bound.{Bound}
 use Rattle.cxx_ast.specs.declared.name.Builtin.TheVariants.{BadException}
@@ -15,15 +15,15 @@ use Rattle.cxx_ast.specs.ExpressionRules.{no_lvalue, thrown_kind_found, thrown_f
 use Rattle.cxx_ast.specs.Resolve.{resolve_path, resolve_expression, resolve_expressions, resolve_value, std_bound}
 use Rattle.cxx_ast.specs.Grammatical.{Where, IsExpression, AreExpressions}
 use Rattle.scope_rules.specs.Class.{ObjectType, int_type, class_type}
-use Rattle.scope_rules.specs.Expression.{lvalue_of, callee_bound, receiver, parameter_types}
+use Rattle.scope_rules.specs.Expression.{lvalue_of, callee_bound, receiver}
 use Rattle.scope_rules.specs.Frame.{Variable as FrameVariable}
 use Rattle.region_forms.specs.LowerExpression.{lvalue_type}
 use Rattle.region_simulation.specs.Names.{AreNamed}
-use Rattle.region_simulation.specs.Typing.{UnlessHandler, CanCall, IsTyped, AreTyped}
+use Rattle.region_simulation.specs.Typing.{IsTyped}
 use Rattle.region_simulation.specs.Statements.{PartCanBeThrown, LvalueCanBeThrown, CallCanBeThrown, CanBeThrown, CanThrow}
 use Rattle.checked_regions.proofs.Fine.{Fine, fine_parts}
-use Rattle.checked_regions.proofs.Meant.{Typed, HasKind, Given, lowering_in, classes_in, Reach}
-use Rattle.checked_regions.proofs.Arguments.{kinded, lvalue_meant}
+use Rattle.checked_regions.proofs.Meant.{Typed, Given, lowering_in, classes_in, Reach}
+use Rattle.checked_regions.proofs.Arguments.{lvalue_meant}
 use Rattle.checked_regions.proofs.Called.{Callable, calls_function, calls_method, calls_builtin, builds, bound_called}
 use Rattle.checked_regions.proofs.Expressions.{NotBuilt}
 use Rattle.checked_typing.specs.Known.{InReach, SettledIn}

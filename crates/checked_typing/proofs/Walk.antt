@@ -1,5 +1,5 @@
 -- A checked program, declaration after declaration: what is known at each.
-use Rattle.std.proofs.Common.{◌≡◌, ◌∙◌, ◌+◌, ◌<◌, ℕ, ℤ, Bool, true, false, List, [], ◌∷◌, ◌++◌, map, length, Option, Some, None, bytes_eq, find, if◌then◌else◌, append_assoc, refl, sym, ap, subst, arith}
+use Rattle.std.proofs.Common.{◌≡◌, ◌∙◌, ◌<◌, ℕ, ℤ, true, List, [], ◌∷◌, ◌++◌, map, length, Option, Some, None, bytes_eq, find, append_assoc, refl, sym, ap, arith}
 use Rattle.std.specs.Prelude.{slice_get, unwrap_or}
 use Rattle.cxx_ast.specs.declared.types.Param.{Param}
 use Rattle.cxx_ast.specs.declared.declaration.FuncKind.TheVariants.{Plain}
@@ -21,7 +21,6 @@ use Rattle.std.specs.Option.{option_or}
 use Rattle.std.proofs.lemmas.List.{length-append}
 use Rattle.std.proofs.lemmas.List.Folds.{find-append}
 use Rattle.cxx_ast.specs.declared.name.Name.{Name}
-use Rattle.cxx_ast.specs.declared.name.Bound.TheVariants.{Func, Method as MethodBound}
 use Rattle.cxx_ast.specs.declared.types.Param.{Param}
 use Rattle.cxx_ast.specs.Environment.{Signature, Thing, global_thing, class_thing, function_thing, Entry, Environment}
 use Rattle.cxx_ast.specs.Lookup.{entry_of}
