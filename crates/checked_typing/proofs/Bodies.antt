@@ -26,7 +26,7 @@ use Rattle.region_forms.specs.Layout.{layout_of}
 use Rattle.region_forms.specs.LowerProgram.{lowering}
 use Rattle.region_forms.specs.Numbering.{variables_of}
 use Rattle.class_layout.proofs.Declared.{named_classes}
-use Rattle.statement_simulation.specs.Functions.{gives_int, all_declared_to, IsTypedBody}
+use Rattle.statement_simulation.specs.Functions.{IsTypedBody}
 use Rattle.statement_simulation.specs.Jumps.{HaveNoJump}
 use Rattle.statement_simulation.specs.Members.{CanInitialiseParts}
 use Rattle.checked_regions.proofs.Fine.{Fine, fine_parts}
@@ -35,8 +35,8 @@ use Rattle.checked_regions.proofs.Heads.{NameAlone}
 use Rattle.checked_regions.proofs.Classes.{head_names, entry_last, behind_class, methods_found}
 use Rattle.checked_regions.proofs.Definitions.{named}
 use Rattle.checked_typing.specs.Known.{Settled}
-use Rattle.checked_typing.proofs.Functions.{there, given, here, function_typed, function_jumps, constructor_built, scope_limit}
-use Rattle.checked_typing.proofs.Initial.{NamesOnce, parts_initialised}
+use Rattle.checked_typing.proofs.Functions.{function_typed, function_jumps, parts_typed}
+use Rattle.checked_typing.proofs.Initial.{NamesOnce}
 use Rattle.checked_typing.proofs.Order.{FieldsOrdered, fields_once}
 use Rattle.checked_typing.proofs.Settling.{Steady, steady_global, steady_function, steady_class, settled_by}
 use Rattle.checked_typing.proofs.Walk.{class_of, ClassStep, FunctionStep, Walked}
@@ -90,21 +90,8 @@ module _ (p : Checked) (checked : IsChecked p) (defined special : List (List ℕ
               (MethodBound k i) x ws.0 ns.0 parts.0;
           constructor = λ e. (
             (subst (λ kind. HasForm kind x) e ws.0.form).0,
-            λ rs count j t at.
-                let built = constructor_built p checked defined special next meant settled head (Some k) (Some x.name.place) names (λ text e q. q) true false k (Some k) (λ j q. refl)
-                (MethodBound k i) x ws.0 ns.0 parts.0 (class_entry env c) k refl entry e in
-                parts_initialised
-                (given p checked defined special next meant settled head (Some k) (Some x.name.place) names (λ text e q. q) true false k (Some k) (λ j q. refl)
-                (MethodBound k i) x ws.0 ns.0 parts.0)
-                settled (gives_int x.result) (all_declared_to _ rs [])
-                (there p checked defined special next meant settled head (Some k) (Some x.name.place) names (λ text e q. q) true false k (Some k) (λ j q. refl)
-                (MethodBound k i) x ws.0 ns.0 parts.0)
-                k
-                (here p checked defined special next meant settled head (Some k) (Some x.name.place) names (λ text e q. q) true false k (Some k) (λ j q. refl)
-                (MethodBound k i) x ws.0 ns.0 parts.0 rs count)
-                (scope_limit p checked defined special next meant settled head (Some k) (Some x.name.place) names (λ text e q. q) true false k (Some k) (λ j q. refl)
-                (MethodBound k i) x ws.0 ns.0 parts.0)
-                (class_entry env c) entry once x.name.place x.initialisers ws.0.initialisers built.initialisers built.fields built.base j t at,
+            parts_typed p checked defined special next meant settled head (Some k) (Some x.name.place) names (λ text e q. q) true false k (Some k) (λ j q. refl)
+                (MethodBound k i) x ws.0 ns.0 parts.0 (class_entry env c) k refl entry once e,
           );
           destructor = λ e. let form = subst (λ kind. HasForm kind x) e ws.0.form in (form.0, no_parameters_left (head_environment env c) (head_scope env x.name) x.parameters form.2);
         },

@@ -1,5 +1,5 @@
 -- The parameters and the body of a declared function that breaks no rule are typed.
-use Rattle.std.proofs.Common.{◌≡◌, ◌∙◌, ◌+◌, ℕ, suc, Bool, true, List, [], ◌∷◌, ◌++◌, length, Option, Some, None, refl, sym, ap, subst, arith}
+use Rattle.std.proofs.Common.{◌≡◌, ◌∙◌, ◌+◌, ℕ, suc, Bool, true, List, [], ◌∷◌, ◌++◌, map, length, Option, Some, None, refl, sym, ap, subst, arith}
 use Rattle.std.specs.Prelude.{slice_get, flat_map}
 use Rattle.std.proofs.lemmas.List.{length-map}
 use Rattle.cxx_ast.specs.declared.name.Name.{Name}
@@ -11,7 +11,7 @@ use Rattle.cxx_ast.specs.declared.types.Param.{Param}
 use Rattle.cxx_ast.specs.declared.declaration.FuncKind.{FuncKind}
 use Rattle.cxx_ast.specs.declared.declaration.FuncKind.TheVariants.{Plain, Method, Constructor, Destructor}
 use Rattle.cxx_ast.specs.Plain.{Checked, Function, Statements}
-use Rattle.cxx_ast.specs.Environment.{ClassEntry, Entry, Environment, Scope}
+use Rattle.cxx_ast.specs.Environment.{Field, ClassEntry, Entry, Environment, Scope}
 use Rattle.cxx_ast.specs.Lookup.{entry_of}
 use Rattle.cxx_ast.specs.Finding.{Finding}
 use Rattle.cxx_ast.specs.TypeNames.{type_kind, type_found, is_const, specification_found, head_types_found}
@@ -29,6 +29,7 @@ use Rattle.scope_rules.specs.World.{Reference}
 use Rattle.region_forms.specs.Numbering.{declared_in_body, variables_of}
 use Rattle.region_simulation.specs.Statements.{declared_to, AreTypedStatements}
 use Rattle.statement_simulation.specs.Functions.{gives_int, AreDeclared, all_declared_to, IsTypedBody}
+use Rattle.statement_simulation.specs.Members.{CanInitialiseParts}
 use Rattle.statement_simulation.specs.Jumps.{HaveNoJump}
 use Rattle.checked_regions.proofs.Fine.{Fine, fine_parts}
 use Rattle.checked_regions.proofs.Meant.{Meant, Given, lowering_in, Reach}
@@ -39,6 +40,7 @@ use Rattle.checked_typing.specs.Known.{Settled, InReach, Here, Stretch}
 use Rattle.checked_typing.proofs.Scopes.{declared_reached, stretch_front, stretch_back, stretch_start, declares, next_number}
 use Rattle.checked_typing.proofs.Blocks.{statements_typed}
 use Rattle.checked_typing.proofs.Jumps.{no_jumps}
+use Rattle.checked_typing.proofs.Initial.{NamesOnce, parts_initialised}
 
 -- what parameters leave of a scope
 record Behind (env : Environment) (ps : List Param) (there : Scope) : Type 0 where
@@ -150,7 +152,7 @@ module _ (p : Checked) (checked : IsChecked p) (defined special : List (List ℕ
       (record { locals = (tt, tt); own = own }) (tt, tt) (from_front (types_of tree.parameters) (declared_in_body tree.body) whole.from)
 
   -- what is in reach in the body, whatever the parameters stand for
-  pub here : (rs : List Reference) → length rs ≡ length tree.parameters → Here given inside (gives_int f.result) (all_declared_to tree.parameters rs []) there
+  here : (rs : List Reference) → length rs ≡ length tree.parameters → Here given inside (gives_int f.result) (all_declared_to tree.parameters rs []) there
   here rs count =
       let same = params_count head (heading hown hlimit 0) f.parameters in
       record {
@@ -195,10 +197,10 @@ module _ (p : Checked) (checked : IsChecked p) (defined special : List (List ℕ
   function_jumps = jumps_by f.body parts.1
 
   -- what a constructor does before its body
-  pub record Built (c : ClassEntry) : Type 0 where
-    pub initialisers : Fine defined (initialisers_found env there c [] f.initialisers)
-    pub fields : Fine defined (left_fields env f.name.place (initialised f.initialisers) c.fields)
-    pub base : Fine defined (left_base env f.name.place (initialised f.initialisers) c.base)
+  record Built (c : ClassEntry) : Type 0 where
+    initialisers : Fine defined (initialisers_found env there c [] f.initialisers)
+    fields : Fine defined (left_fields env f.name.place (initialised f.initialisers) c.fields)
+    base : Fine defined (left_base env f.name.place (initialised f.initialisers) c.base)
 
   built_by : (c : ClassEntry) (j : ℕ) → inside ≡ Some j → slice_get env.classes j ≡ Some c → f.kind ≡ Constructor → (ss : Option Statements) → There ss →
       Fine defined (body_found env there inside f ss) → Built c
@@ -216,8 +218,17 @@ module _ (p : Checked) (checked : IsChecked p) (defined special : List (List ℕ
       let more = fine_parts defined (initialisers_found env there c [] f.initialisers) (left_fields env f.name.place (initialised f.initialisers) c.fields) own_parts.0 in
       record { initialisers = more.0; fields = more.1; base = own_parts.1 }
 
-  pub constructor_built : (c : ClassEntry) (j : ℕ) → inside ≡ Some j → slice_get env.classes j ≡ Some c → f.kind ≡ Constructor → Built c
+  constructor_built : (c : ClassEntry) (j : ℕ) → inside ≡ Some j → slice_get env.classes j ≡ Some c → f.kind ≡ Constructor → Built c
   constructor_built c j o is e = built_by c j o is e f.body (subst (λ x. HasForm x f) e w.form).1 parts.1
 
-  pub scope_limit : there.limit ≡ None
+  scope_limit : there.limit ≡ None
   scope_limit = behind.limit
+
+  -- the parts that a constructor of class j builds
+  pub parts_typed : (c : ClassEntry) (j : ℕ) → inside ≡ Some j → slice_get env.classes j ≡ Some c → NamesOnce (map (λ (x : Field). x.name) c.fields) → f.kind ≡ Constructor →
+      CanInitialiseParts (lowering_in given) j tree
+  parts_typed c j o is once e = λ rs count i t at.
+      let built = constructor_built c j o is e in
+      let xs = all_declared_to tree.parameters rs [] in
+      parts_initialised given settled (gives_int f.result) xs there j (subst (λ y. Here given y (gives_int f.result) xs there) o (here rs count)) scope_limit c is once f.name.place
+      f.initialisers w.initialisers built.initialisers built.fields built.base i t at
