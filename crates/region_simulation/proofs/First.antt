@@ -66,7 +66,6 @@ first_stands l p input replies turns = record {
     travelling = λ e h. absurd (cc h);
     live = λ i x h. absurd (cc h);
     together = tt;
-    front = λ e h. absurd (cc h);
   };
   handlers = (tt, tt);
   kept = λ i e o t kept there. absurd (cc there);

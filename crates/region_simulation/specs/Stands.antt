@@ -1,7 +1,7 @@
 -- A state of regions that stands for a world of a source in a context.
 use Rattle.std.specs.Prelude.{◌≡◌, ℕ, ◌<◌, ◌≤◌, ℤ, true, List, [], ◌∷◌, map, length, Option, Some, None, slice_get}
 use Rattle.cxx_ast.specs.Plain.{Checked}
-use Rattle.scope_rules.specs.Class.{ObjectType, int_type, contains, function_at}
+use Rattle.scope_rules.specs.Class.{ObjectType, int_type, class_type, contains, function_at}
 use Rattle.scope_rules.specs.World.{World as SourceWorld, Live as SourceLive, Exception as SourceException, Installed, building as source_building, native as source_native, foreign as source_foreign}
 use Rattle.scope_rules.specs.Context.{Context as SourceContext, Clause as SourceClause, catch_all, catch_type, Guard as SourceGuard, try_block, specification, barrier as source_barrier}
 use Rattle.region_forms.specs.Caught.{caught_of, only_front}
@@ -67,13 +67,12 @@ AreTogether [] = Unit {0}
 AreTogether (e ∷ es) = (only_front e es ≡ true) × AreTogether es
 
 -- What is handled, what travels and what is live was made, so an exception to come has another number. The handled ones stand as they do
--- where handlers are entered and left, and those that travel again in front.
+-- where handlers are entered and left. Where those that travel again stand is left open: a handler of another exception may be entered meanwhile.
 pub record IsSound (c : SourceContext) (last : ℕ) (lives : List SourceLive) : Type 0 where
   pub handled : (e : ℕ) → contains c.handled e ≡ true → e ≤ last
   pub travelling : (e : ℕ) → contains c.travelling e ≡ true → e ≤ last
   pub live : (i : ℕ) (x : SourceLive) → slice_get lives i ≡ Some x → x.number ≤ last
   pub together : AreTogether c.handled
-  pub front : (e : ℕ) → contains c.travelling e ≡ true → only_front e c.handled ≡ true
 
 -- a handler that is set is a function of the program without parameters
 abbrev pub IsHandler : Checked → Option ℕ → Type 0
@@ -84,9 +83,19 @@ IsHandler p (Some n) = (n < length p.functions) × ((function_at p n).parameters
 abbrev pub AreHandlers : Checked → Installed → Type 0
 AreHandlers p x = IsHandler p x.terminate_handler × IsHandler p x.unexpected_handler
 
+-- a type of the program: int, or one of its classes
+abbrev pub IsOfProgram : Checked → ObjectType → Type 0
+IsOfProgram p int_type = Unit {0}
+IsOfProgram p (class_type k) = k < length p.classes
+
+-- what a native exception is kept with can be called: the destructor of its type, and the handlers
+pub record IsKept (p : Checked) (t : ObjectType) (kept : Installed) : Type 0 where
+  pub type : IsOfProgram p t
+  pub handlers : AreHandlers p kept
+
 -- The state stands for the world: what both see is the same, memory holds what objects hold, a global stands at itself, the object of a
--- native exception at that exception, and nothing at a call or an exception that is to come. Handlers that are set or kept
--- can be called.
+-- native exception at that exception, and nothing at a call or an exception that is to come. Handlers that are set, and what native
+-- exceptions are kept with, can be called.
 pub record Stands (l : Layout) (p : Checked) (at : Places) (c : SourceContext) (w : SourceWorld) (s : State) : Type 0 where
   pub world : s.world ≡ world_of p c w s.world.memory s.world.calls
   pub turns : s.turns ≡ w.turns
@@ -97,4 +106,4 @@ pub record Stands (l : Layout) (p : Checked) (at : Places) (c : SourceContext) (
   pub made : (o : ℕ) (x : Stood) → at o ≡ Some x → IsMade s.world.calls w.last_number x.base
   pub sound : IsSound c w.last_number w.live
   pub handlers : AreHandlers p w.installed
-  pub kept : (i : ℕ) (e o : ℕ) (t : ObjectType) (kept : Installed) → slice_get w.live i ≡ Some (record { number = e; exception = source_native t o kept }) → AreHandlers p kept
+  pub kept : (i : ℕ) (e o : ℕ) (t : ObjectType) (kept : Installed) → slice_get w.live i ≡ Some (record { number = e; exception = source_native t o kept }) → IsKept p t kept
