@@ -25,7 +25,7 @@ use Rattle.region_simulation.specs.Alike.{Follows, Alike}
 use Rattle.region_simulation.proofs.Following.{Agreement, follows_on, alike_on}
 use Rattle.region_simulation.proofs.Standing.{with_place, with_object, placed_new, one_more, follows_new}
 use Rattle.throw_simulation.specs.Same.{RunAlike}
-use Rattle.throw_simulation.specs.Raises.{StaysSound, CanBeRaised, Never}
+use Rattle.throw_simulation.specs.Raises.{CanBeRaised, Never}
 use Rattle.throw_simulation.specs.Scopes.{Any}
 use Rattle.throw_simulation.specs.Extents.{EmptyConstructor, BadExceptionsAlike}
 use Rattle.throw_simulation.proofs.Standing.{follows_changed}
@@ -55,7 +55,7 @@ empty_is_brief b c s = go (nat_le b.limit c.depth)
     go false = turns s.turns
 
 module _ (laws : CaughtListFollows) (l : Layout) (a : SourceRunning) (b : Running) (same : RunAlike l a b) (makes : EmptyConstructor l a b) {A B : Type 0} (agree : Agreement A B)
-    (at : Places) (k : ℕ) (c : SourceContext) (w : SourceWorld) (s : State) (stands : Stands l a.program at c w s) (stays : StaysSound c) where
+    (at : Places) (k : ℕ) (c : SourceContext) (w : SourceWorld) (s : State) (stands : Stands l a.program at c w s) where
   abbrev ctx : Context
   ctx = context_of w.open_calls c
 
@@ -100,7 +100,7 @@ module _ (laws : CaughtListFollows) (l : Layout) (a : SourceRunning) (b : Runnin
   called (source_done v w3) y brief (u, s3, is, (h, any)) =
       let more = one_more (unset a.program (class_type 0)) w1 in
       let placed = h.stay o (omega (arith, more)) ∙ placed_new at o stood in
-      let stands4 = kept_on l a.program h.places c w3 s3 h.stands e o (class_type 0) placed in
+      let stands4 = kept_on l a.program h.places c w3 s3 h.stands e o (class_type 0) placed same.ordered.some in
       let w4 = after_keeping l a.program h.places c w3 s3 h.stands e o (class_type 0) placed in
       let s4 = record s3 { world = kept e bad_row None s3.world } in
       let can : CanBeRaised c w4 e = record {
@@ -113,7 +113,7 @@ module _ (laws : CaughtListFollows) (l : Layout) (a : SourceRunning) (b : Runnin
       (alike_on l a.program agree (with_place at o stood) k c c w2 s1 w4 s4 (follows_on l a.program (with_place at o stood) k w2 s1 c w3 s3 c w4 s4 h g)
       (raise_exception a e c w4) (raise b e ctx s4)
       (subst (λ n. Alike l a.program h.places k c w4 s4 agree (raise_exception a e c w4) (raise b e (context_of n c) s4)) h.open_calls
-      (raises_out l a b same laws A B h.places c w4 s4 stands4 e stays can agree k)))
+      (raises_out l a b same laws A B h.places c w4 s4 stands4 e can agree k)))
   called (source_stopped (thrown f) w3) y brief (s3, is, h) = absurd (subst IsBrief is brief)
   called (source_stopped (cancelled v) w3) y brief (s3, is, h) = absurd (subst IsBrief is brief)
   called (source_stopped undefined w3) y brief h = tt
@@ -151,4 +151,4 @@ module _ (laws : CaughtListFollows) (l : Layout) (a : SourceRunning) (b : Runnin
           (sym (ap (λ y. y.last_number) stands.world)) built_bad
 
 pub bad_exceptions_alike : CaughtListFollows → BadExceptionsAlike
-bad_exceptions_alike laws l a b same makes at k c w s stands stays = bad_out laws l a b same makes Never at k c w s stands stays
+bad_exceptions_alike laws l a b same makes at k c w s stands = bad_out laws l a b same makes Never at k c w s stands

@@ -22,13 +22,12 @@ use Rattle.region_simulation.specs.Places.{Places}
 use Rattle.region_simulation.specs.Stands.{exception_of, world_of, Stands, context_of}
 use Rattle.region_simulation.specs.Alike.{Alike}
 use Rattle.throw_simulation.specs.Same.{RunAlike}
-use Rattle.throw_simulation.specs.Raises.{StaysSound}
 use Rattle.throw_simulation.specs.Barred.{StaysInside}
 use Rattle.throw_simulation.specs.Scopes.{Any}
 use Rattle.throw_simulation.specs.Handlers.{EntersAlike}
 use Rattle.throw_simulation.proofs.Barriers.{ends_inside}
 use Rattle.throw_simulation.proofs.Caught.{holds_is}
-use Rattle.throw_simulation.proofs.Standing.{sound_resting, all_old, stands_on, follows_changed}
+use Rattle.throw_simulation.proofs.Standing.{sound_handled, sound_resting, all_old, stands_on, follows_changed}
 use Rattle.throw_simulation.proofs.Ends.{ends_out, terminates as terminates_out}
 use Rattle.throw_simulation.proofs.Raises.{exception_same}
 
@@ -40,7 +39,7 @@ foreign_same p (source_foreign k t) = refl
 contains_newest : (e : ℕ) (es : List ℕ) → contains (e ∷ es) e ≡ true
 contains_newest e es = let same : (e == e) ≡ true = grind (arith, nat_tests) in ap (λ b. b || contains es e) same
 
-module _ (l : Layout) (p : Checked) (at : Places) (c : SourceContext) (w : SourceWorld) (s : State) (e : ℕ) (stands : Stands l p at (with_travelling e c) w s) (stays : StaysSound c)
+module _ (l : Layout) (p : Checked) (at : Places) (c : SourceContext) (w : SourceWorld) (s : State) (e : ℕ) (stands : Stands l p at (with_travelling e c) w s)
     (rests : contains c.travelling e ≡ false) (front : only_front e c.handled ≡ true) (laws : CaughtListFollows) where
   abbrev pub after_entry : SourceWorld
   after_entry = record w { items = w.items ++ Enter e ∷ [] }
@@ -56,7 +55,7 @@ module _ (l : Layout) (p : Checked) (at : Places) (c : SourceContext) (w : Sourc
       (ap (entered e) stands.world ∙
       ap {A = ℕ} {B = World} (λ n. record world { uncaught = n; caught = entered_on e (caught_of (e ∷ c.travelling) c.handled) }) fewer ∙
       ap {B = World} (λ xs. record world { caught = xs }) (laws.entered e c.travelling c.handled rests front))
-      refl refl (omega arith) (stays e w.last_number w.live made_before rests front (sound_resting e c stands.sound)) stands.handlers (all_old w.live) stands
+      refl refl (omega arith) (sound_handled e c made_before front (sound_resting e c stands.sound)) stands.handlers (all_old w.live) stands
 
   pub tested : (is_foreign (exception_at s.world e) && holds_other e s.world.caught) ≡ (source_is_foreign (source_exception_at w e) && some_of (λ f. not (f == e)) c.handled)
   tested =
@@ -66,7 +65,7 @@ module _ (l : Layout) (p : Checked) (at : Places) (c : SourceContext) (w : Sourc
       ap (λ x. source_is_foreign (source_exception_at w e) && x) (holds_is e (e ∷ c.travelling) c.handled)
 
 module _ (l : Layout) (a : SourceRunning) (b : Running) (same : RunAlike l a b) (at : Places) (k : ℕ) (c : SourceContext) (w : SourceWorld) (s : State) (e : ℕ)
-    (stands : Stands l a.program at (with_travelling e c) w s) (stays : StaysSound c) (rests : contains c.travelling e ≡ false) (front : only_front e c.handled ≡ true) (laws : CaughtListFollows) where
+    (stands : Stands l a.program at (with_travelling e c) w s) (rests : contains c.travelling e ≡ false) (front : only_front e c.handled ≡ true) (laws : CaughtListFollows) where
   abbrev Entry : Bool → Bool → Type 0
   Entry x y =
       let act = (if x then source_terminate a (with_travelling e c) else emit (Enter e)) in
@@ -86,8 +85,8 @@ module _ (l : Layout) (a : SourceRunning) (b : Running) (same : RunAlike l a b) 
       record s { world = entered e s.world },
       refl,
       (
-        follows_changed l a.program at k (handling e c) w (after_entry l a.program at c w s e stands stays rests front laws) s (entered e s.world) refl refl refl
-            (entered_stands l a.program at c w s e stands stays rests front laws),
+        follows_changed l a.program at k (handling e c) w (after_entry l a.program at c w s e stands rests front laws) s (entered e s.world) refl refl refl
+            (entered_stands l a.program at c w s e stands rests front laws),
         tt,
       ),
     ),
@@ -97,10 +96,10 @@ module _ (l : Layout) (a : SourceRunning) (b : Running) (same : RunAlike l a b) 
       Alike l a.program at k (handling e c) w s Any (source_enter a e c w) (perform b (enters e s.frame s.world) (context_of w.open_calls c) s)
   enters_out =
       let x = source_is_foreign (source_exception_at w e) && some_of (λ f. not (f == e)) c.handled in
-      subst (Entry x) (sym (tested l a.program at c w s e stands stays rests front laws)) (entry x)
+      subst (Entry x) (sym (tested l a.program at c w s e stands rests front laws)) (entry x)
 
 pub enters_alike : CaughtListFollows → EntersAlike
-enters_alike laws l a b same at k c w s e slot stands stays rests front is =
+enters_alike laws l a b same at k c w s e slot stands fresh is =
     subst (λ n. StaysInside (source_enter a e c w) × Alike l a.program at k (handling e c) w s Any (source_enter a e c w)
     (perform b (enters n s.frame s.world) (context_of w.open_calls c) s)) (sym is)
-    (enters_out l a b same at k c w s e stands stays rests front laws)
+    (enters_out l a b same at k c w s e stands fresh.rests fresh.front laws)

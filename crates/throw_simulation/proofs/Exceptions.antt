@@ -11,7 +11,7 @@ use Rattle.scope_rules.specs.Statement.{statements}
 use Rattle.region_forms.specs.Laws.{CaughtListFollows}
 use Rattle.throw_simulation.specs.Fares.{Fares, FaresIn, AllCallsFare}
 use Rattle.throw_simulation.specs.Operands.{LeavesUnbuilt}
-use Rattle.throw_simulation.specs.Tries.{RestsBefore}
+use Rattle.throw_simulation.specs.Tries.{CanBeCaught}
 use Rattle.throw_simulation.specs.Exceptions.{AllThrowsDoAlike, AllTriesDoAlike}
 use Rattle.throw_simulation.proofs.Faring.{orderly_sound, faring_calls_are_barred}
 use Rattle.throw_simulation.proofs.FaringTrees.{value_of_fares, statements_fares}
@@ -30,18 +30,18 @@ leaves p c act fares w w2 n sound is e made unbuilt =
     let h = subst (Fares p 0 c w) is (fares 0 w (omega arith) (orderly_sound c w sound)) in
     (h.later, h.unbuilt e made unbuilt)
 
-rests : {A : Type 0} (p : Checked) (c : Context) (act : Action A) → FaresIn p c act → RestsBefore c act
-rests p c act fares w w2 e sound is =
-    let h = subst (Fares p 0 c w) is (fares 0 w (omega arith) (orderly_sound c w sound)) in h.1.raised.rests
+enterable : {A : Type 0} (p : Checked) (c : Context) (act : Action A) → FaresIn p c act → CanBeCaught c act
+enterable p c act fares w w2 e sound is =
+    let h = subst (Fares p 0 c w) is (fares 0 w (omega arith) (orderly_sound c w sound)) in record { rests = h.1.raised.rests; front = h.1.raised.front }
 
 pub all_throws_do_alike : CaughtListFollows → AllThrowsDoAlike
-all_throws_do_alike laws l own gives call b v c same stays fit fare n i d e can =
+all_throws_do_alike laws l own gives call b v c same fit fare n i d e can =
     let r = source_running l call in
-    throwing_case laws l own gives call b v c same stays fit (faring_calls_are_barred r fare) (λ x. leaves l.program c (value_of r v x c) (value_of_fares r v x c fare).at) n i d e can
+    throwing_case laws l own gives call b v c same fit (faring_calls_are_barred r fare) (λ x. leaves l.program c (value_of r v x c) (value_of_fares r v x c fare).at) n i d e can
 
 pub all_tries_do_alike : CaughtListFollows → AllTriesDoAlike
-all_tries_do_alike laws l own gives call b v c same stays fit fare empty missing n i d ss hs lt block blocks typed handlers =
+all_tries_do_alike laws l own gives call b v c same fit fare empty n i d ss hs lt block blocks typed handlers =
     let r = source_running l call in
     let inside = guarded_by (try_block (clauses_of hs)) c in
-    try_blocks_do_alike laws l own gives call b v c same stays fit (faring_calls_are_barred r fare) empty missing n i d ss hs lt block blocks typed handlers
-    (rests l.program inside (statements r ss v inside) (statements_fares r ss v inside fare).at)
+    try_blocks_do_alike laws l own gives call b v c same fit (faring_calls_are_barred r fare) empty n i d ss hs lt block blocks typed handlers
+    (enterable l.program inside (statements r ss v inside) (statements_fares r ss v inside fare).at)

@@ -29,7 +29,7 @@ use Rattle.throw_simulation.proofs.Scopes.{flows_steady}
 use Rattle.throw_simulation.proofs.Specifications.{extent_out}
 
 pub extents_alike : CaughtListFollows → ExtentsAlike
-extents_alike laws l gives i d lt a b same fare empty missing makes at k c w s stands stay listed act body fares does =
+extents_alike laws l gives i d lt a b same fare empty makes at k c w s stands listed act body fares does =
     let types = map object_type listed in
     let inside = guarded_by (specification types) c in
     let agree = FlowAgrees l gives i (d + 1) in
@@ -37,7 +37,7 @@ extents_alike laws l gives i d lt a b same fare empty missing makes at k c w s s
     let standing = stands_guarded l.layout a.program at (specification types) c w s stands in
     alike_after l.layout a.program agree (FlowAgrees l gives i d) at k c w s (after_extent a types c (act inside w))
     (after_limit b (map type_number types) (context_of w.open_calls c) y) outwards (outwards_agrees l gives i d lt)
-    (extent_out laws l.layout a b same fare (faring_calls_are_barred a fare) empty missing makes agree (result_slot l + 1) (flows_steady l gives i (d + 1)) types c stay.outside stay.stopped stay.again
+    (extent_out laws l.layout a b same fare (faring_calls_are_barred a fare) empty makes agree (result_slot l + 1) (flows_steady l gives i (d + 1)) types c
     at k w s 0 (act inside w) y does (fares 0 w (omega arith) (orderly_sound inside w standing.sound)))
 
 numbers_of : (listed : List Ty) → map (λ t. type_number (object_type t)) listed ≡ map type_number (map object_type listed)
@@ -45,12 +45,12 @@ numbers_of [] = refl
 numbers_of (t ∷ listed) = ap (λ ns. type_number (object_type t) ∷ ns) (numbers_of listed)
 
 pub extents_do_alike : CaughtListFollows → ExtentsDoAlike
-extents_do_alike laws l own gives call b v c same stays stay fare empty missing makes n i d listed act rs lt fares does at w s stands scope =
+extents_do_alike laws l own gives call b v c same fare empty makes n i d listed act rs lt fares does at w s stands scope =
     subst (λ ns. Alike l.layout l.program at k c w s (FlowAgrees l gives i d) (under_specification a (Some listed) act c w)
     (regions b (regions_from (limit (in_order rs) ns ∷ [])) (context_of w.open_calls c) s)) (sym (numbers_of listed))
     (subst (λ z. Alike l.layout l.program at k c w s (FlowAgrees l gives i d) (under_specification a (Some listed) act c w) z)
     (sym (single b (limit (in_order rs) (map type_number types)) (context_of w.open_calls c) s))
-    (extents_alike laws l gives i d lt a b same fare empty missing makes at k c w s stands stay listed act (in_order rs) fares body))
+    (extents_alike laws l gives i d lt a b same fare empty makes at k c w s stands listed act (in_order rs) fares body))
   where
     a : SourceRunning
     a = source_running l call
@@ -73,15 +73,15 @@ extents_do_alike laws l own gives call b v c same stays stay fare empty missing 
         (regions b (regions_from rs) (context_of w.open_calls inside) s) outwards (outwards_agrees l gives i (d + 1) (omega (arith, lt))) h
 
 pub all_extents_do_alike : CaughtListFollows → AllExtentsDoAlike
-all_extents_do_alike laws l own gives call b v c same stays stay fare empty missing makes = record {
+all_extents_do_alike laws l own gives call b v c same fare empty makes = record {
   statements = λ ss n i d listed rs lt does.
-      extents_do_alike laws l own gives call b v c same stays stay fare empty missing makes n i d listed (source_statements r ss v) rs lt
+      extents_do_alike laws l own gives call b v c same fare empty makes n i d listed (source_statements r ss v) rs lt
       (statements_fares r ss v (guarded_by (specification (map object_type listed)) c) fare).at does;
   constructions = λ k f n i d listed rs lt does.
-      extents_do_alike laws l own gives call b v c same stays stay fare empty missing makes n i d listed (construction r k f v) rs lt
+      extents_do_alike laws l own gives call b v c same fare empty makes n i d listed (construction r k f v) rs lt
       (construction_fares r k f v (guarded_by (specification (map object_type listed)) c) fare).at does;
   destructions = λ k f this n i d listed rs lt does.
-      extents_do_alike laws l own gives call b v c same stays stay fare empty missing makes n i d listed (destruction r k f this) rs lt
+      extents_do_alike laws l own gives call b v c same fare empty makes n i d listed (destruction r k f this) rs lt
       (destruction_fares r k f this (guarded_by (specification (map object_type listed)) c) fare).at does;
 }
   where

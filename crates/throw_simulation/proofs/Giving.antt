@@ -1,7 +1,6 @@
 -- Exceptions are given back alike.
-use Rattle.std.proofs.Common.{◌≡◌, ℕ, zero, suc, Bool, true, false, List, [], ◌∷◌, ◌++◌, Some, refl, ap, ◌∙◌, arith, length}
-use Rattle.std.specs.Prelude.{◌==◌, not, cond, nat_lt, map, filter, slice_get}
-use Rattle.std.proofs.lemmas.Bool.Decides.{nat_tests}
+use Rattle.std.proofs.Common.{◌≡◌, ℕ, zero, suc, Bool, true, false, List, [], ◌∷◌, ◌++◌, Some, refl, ap, ◌∙◌, arith}
+use Rattle.std.specs.Prelude.{◌==◌, not, cond, map, filter, slice_get}
 use Rattle.cxx_ast.specs.Plain.{Checked}
 use Rattle.run_items.specs.declared.item.Item.{Item}
 use Rattle.run_items.specs.declared.item.Item.TheVariants.{Destroy, Free, Clean}
@@ -13,20 +12,20 @@ use Rattle.scope_rules.specs.Running.{Running as SourceRunning, destructor}
 use Rattle.scope_rules.specs.Construct.{destroy as source_destroy}
 use Rattle.scope_rules.specs.Handler.{after_destructor as source_after_destructor, give_back as source_give_back}
 use Rattle.region_forms.specs.Layout.{Layout}
-use Rattle.region_forms.specs.Numbering.{number_of, type_number, destructor_of}
-use Rattle.region_forms.specs.World.{of_exception, Live, World, address_word, object_address, with_item, without_exception}
+use Rattle.region_forms.specs.Numbering.{type_number, destructor_of}
+use Rattle.region_forms.specs.World.{of_exception, Live, World, object_address, with_item, without_exception}
 use Rattle.region_forms.specs.Effect.{freed, cleaned_up}
-use Rattle.region_forms.specs.Outcome.{State, Context, Result, pure, continued}
+use Rattle.region_forms.specs.Outcome.{State, Context, Result}
 use Rattle.region_forms.specs.Ending.{Running, empty_call, after_destructor, call_destructor, give_back}
 use Rattle.region_simulation.specs.Places.{Places, Refers}
-use Rattle.region_simulation.specs.Stands.{exception_of, live_of, world_of, IsSound, Stands, context_of}
+use Rattle.region_simulation.specs.Stands.{exception_of, live_of, world_of, IsOfProgram, IsSound, Stands, context_of}
 use Rattle.region_simulation.specs.Alike.{Follows, Alike}
-use Rattle.region_simulation.proofs.Following.{follows_now, follows_on, alike_on, alike_then}
+use Rattle.region_simulation.proofs.Following.{follows_now, follows_on, alike_on}
 use Rattle.region_simulation.proofs.Evaluating.{alike_map}
 use Rattle.throw_simulation.specs.Same.{RunAlike}
 use Rattle.throw_simulation.specs.Barred.{NotThrown, CallsAreBarred}
 use Rattle.throw_simulation.specs.Scopes.{Any}
-use Rattle.throw_simulation.specs.Handlers.{EmptyDestructor, MissingDestructors}
+use Rattle.throw_simulation.specs.Handlers.{EmptyDestructor}
 use Rattle.throw_simulation.proofs.Standing.{sound_later, all_old, stands_on, follows_changed}
 use Rattle.throw_simulation.proofs.Raises.{native_in}
 use Rattle.throw_simulation.proofs.Protecting.{destruction_barred, destructor_called}
@@ -107,36 +106,21 @@ object_refers l p at c w s i e o t kept stands there = record {
   address = refl;
 }
 
-module _ (l : Layout) (a : SourceRunning) (b : Running) (same : RunAlike l a b) (empty : EmptyDestructor l a b) (missing : MissingDestructors l a b)
+module _ (l : Layout) (a : SourceRunning) (b : Running) (same : RunAlike l a b) (empty : EmptyDestructor l a b)
     (at : Places) (m : ℕ) (c : SourceContext) (w : SourceWorld) (s : State) (stands : Stands l a.program at c w s) (e : ℕ) where
   abbrev ctx : Context
   ctx = context_of w.open_calls c
 
-  class_destroyed : (j o : ℕ) → Refers l a.program at (whole o) (class_type j) (object_address e)
-      → Alike l a.program at m c w s Any (source_destroy a (class_type j) (whole o) c w)
-      (continued (b.call (number_of a.program (destructor j)) (address_word (object_address e) ∷ []) ctx s) (λ v. pure (tt {0})))
-  class_destroyed j o refers = go (nat_lt j (length a.program.classes)) refl
-    where
-      go : (q : Bool) → nat_lt j (length a.program.classes) ≡ q
-          → Alike l a.program at m c w s Any (source_destroy a (class_type j) (whole o) c w)
-          (continued (b.call (number_of a.program (destructor j)) (address_word (object_address e) ∷ []) ctx s) (λ v. pure (tt {0})))
-      go true is = destructor_called l a b same at m c w s (whole o) j (object_address e) (grind (arith, nat_tests, is)) stands refers
-      go false is =
-          alike_then l a.program Any Any at m c w s (a.call (destructor j) (whole o) [] c w)
-          (b.call (number_of a.program (destructor j)) (address_word (object_address e) ∷ []) ctx s) (λ v. source_pure (tt {0})) (λ v. pure (tt {0}))
-          (missing j (grind (arith, nat_tests, is)) (whole o) (address_word (object_address e) ∷ []) at m c w s stands)
-          (λ v v2 w2 s2 h any. (tt, s2, refl, (follows_now l a.program h.places m c w2 s2 h.stands, tt)))
-
-  destroyed : (t : ObjectType) (o : ℕ) → Refers l a.program at (whole o) t (object_address e)
+  destroyed : (t : ObjectType) (o : ℕ) → IsOfProgram a.program t → Refers l a.program at (whole o) t (object_address e)
       → Alike l a.program at m c w s Any (source_destroy a t (whole o) c w) (call_destructor b (type_number t) (destructor_of a.program t) e ctx s)
-  destroyed int_type o refers = (tt, s, refl, (follows_now l a.program at m c w s stands, tt))
-  destroyed (class_type zero) o refers =
+  destroyed int_type o there refers = (tt, s, refl, (follows_now l a.program at m c w s stands, tt))
+  destroyed (class_type zero) o there refers =
       alike_map l a.program Any Any at m c w s (a.call (destructor 0) (whole o) [] c w) (empty_call b ctx s) (λ v. source_pure (tt {0}))
       (empty (whole o) at m c w s stands)
       (λ v v2 w2 s2 h any. (v2, s2, refl, (follows_now l a.program h.places m c w2 s2 h.stands, tt)))
-  destroyed (class_type (suc j)) o refers = class_destroyed (suc j) o refers
+  destroyed (class_type (suc j)) o there refers = destructor_called l a b same at m c w s (whole o) (suc j) (object_address e) there stands refers
 
-module _ (l : Layout) (a : SourceRunning) (b : Running) (same : RunAlike l a b) (empty : EmptyDestructor l a b) (missing : MissingDestructors l a b)
+module _ (l : Layout) (a : SourceRunning) (b : Running) (same : RunAlike l a b) (empty : EmptyDestructor l a b)
     (at : Places) (m : ℕ) (c : SourceContext) (w : SourceWorld) (s : State) (stands : Stands l a.program at c w s) (e : ℕ) where
   -- an exception is destroyed and freed, or cleaned up by its module
   pub gives_back_alike : (x : SourceException) → source_exception_at w e ≡ x → Alike l a.program at m c w s Any (source_give_back a e x c w) (give_back b e (exception_of a.program x) (context_of w.open_calls c) s)
@@ -152,7 +136,7 @@ module _ (l : Layout) (a : SourceRunning) (b : Running) (same : RunAlike l a b) 
       alike_on l a.program Any at m c c w s w2 s2 h (source_after_destructor e (source_destroy a t (whole o) c w2))
       (after_destructor e (call_destructor b (type_number t) (destructor_of a.program t) e (context_of w.open_calls c) s2))
       (freed_after l a.program at m c w2 s2 e (source_destroy a t (whole o) c w2) (call_destructor b (type_number t) (destructor_of a.program t) e (context_of w.open_calls c) s2)
-      (destroyed l a b same empty missing at m c w2 s2 stands2 e t o (object_refers l a.program at c w2 s2 i e o t kept stands2 there)))
+      (destroyed l a b same empty at m c w2 s2 stands2 e t o (stands.kept i e o t kept there).type (object_refers l a.program at c w2 s2 i e o t kept stands2 there)))
 
 -- behind a barrier no exception comes out where one is given back
 freed_barred : (e : ℕ) (x : SourceResult (Unit {0})) → NotThrown x → NotThrown (source_after_destructor e x)

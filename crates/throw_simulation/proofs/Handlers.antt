@@ -3,7 +3,7 @@ use Rattle.std.proofs.Common.{◌≡◌, ℕ, ◌+◌, ◌<◌, ℤ, Bool, true,
 use Rattle.std.specs.Prelude.{◌==◌, if◌then◌else◌}
 use Rattle.cxx_ast.specs.declared.name.Name.{Name}
 use Rattle.cxx_ast.specs.declared.types.Ty.{Ty}
-use Rattle.scope_rules.specs.Class.{object_type, contains}
+use Rattle.scope_rules.specs.Class.{object_type}
 use Rattle.scope_rules.specs.World.{World as SourceWorld, Reference, whole, nowhere, exception_at as source_exception_at}
 use Rattle.scope_rules.specs.Context.{Context as SourceContext, handling, with_travelling}
 use Rattle.scope_rules.specs.Frame.{Frame as SourceFrame, with_parameter, bound_as}
@@ -27,16 +27,15 @@ use Rattle.region_simulation.specs.Statements.{HasNumber}
 use Rattle.region_simulation.specs.Expressions.{source_running}
 use Rattle.region_simulation.proofs.Following.{follows_now}
 use Rattle.throw_simulation.specs.Same.{RunAlike}
-use Rattle.throw_simulation.specs.Raises.{StaysSound}
 use Rattle.throw_simulation.specs.Barred.{CallsAreBarred, StaysInside}
-use Rattle.throw_simulation.specs.Handlers.{EmptyDestructor, MissingDestructors}
+use Rattle.throw_simulation.specs.Handlers.{CanBeEntered, EmptyDestructor}
 use Rattle.throw_simulation.proofs.Standing.{stands_framed}
 use Rattle.throw_simulation.proofs.Parameters.{IsNoObject, Passed, parameter_then, body_alike}
 use Rattle.throw_simulation.proofs.Catching.{CaughtAs, IsReference, caught_reference, variable_newly, scope_parameter, follows_framed, slot_keeps, bound_there}
 
 module _ (laws : CaughtListFollows) (l : Lowering) (own : Option ℕ) (gives : Bool) (n i d : ℕ) (lt : i < d) (call : Callee → Reference → List SourceArgument → SourceContext → SourceAction ℤ) (b : Running)
     (same : RunAlike l.layout (source_running l call) b) (bar : CallsAreBarred (source_running l call)) (empty : EmptyDestructor l.layout (source_running l call) b)
-    (missing : MissingDestructors l.layout (source_running l call) b) (v : SourceFrame) (c : SourceContext) (e : ℕ) (stays : StaysSound c) (rests : contains c.travelling e ≡ false)
+    (v : SourceFrame) (c : SourceContext) (e : ℕ) (fresh : CanBeEntered c e)
     (body : SourceFrame → SourceContext → SourceAction SourceFlow) (rs : List Region) (at : Places) (w : SourceWorld) (s : State)
     (stands : Stands l.layout l.program at (with_travelling e c) w s) (inside : InScope l own n at v s) (slot : s.frame.slots (exception_slot l) ≡ address_word (object_address e)) where
   abbrev a : SourceRunning
@@ -56,13 +55,13 @@ module _ (laws : CaughtListFollows) (l : Lowering) (own : Option ℕ) (gives : B
   pub all_handled : DoesAlike l own gives b v (handling e c) n i (d + 2) (body v (handling e c)) rs
       → Alike l.layout l.program at k c w s (FlowAgrees l gives i d) (handle a e None None body v c w) (regions b (regions_from last) ctx s)
   all_handled does =
-      parameter_then laws l own gives n i d lt call b same bar empty missing v c e stays rests None None body at w s [] rs (exception_object (source_exception_at w e)) refl tt (
+      parameter_then laws l own gives n i d lt call b same bar empty v c e fresh None None body at w s [] rs (exception_object (source_exception_at w e)) refl tt (
         normal,
         s,
         refl,
         (
           follows_now l.layout l.program at k (with_travelling e c) w s stands,
-          (refl, slot, body_alike laws l own gives n i d lt call b same bar empty missing v c e stays rests None None body at w s nowhere n rs tt (omega arith) stands inside does),
+          (refl, slot, body_alike laws l own gives n i d lt call b same bar empty v c e fresh None None body at w s nowhere n rs tt (omega arith) stands inside does),
         ),
       )
 
@@ -87,11 +86,11 @@ module _ (laws : CaughtListFollows) (l : Lowering) (own : Option ℕ) (gives : B
         let inside1 = scope_parameter l own v n at w s (with_travelling e c) (with_travelling e c) w s1 stands h inside x numbered r there newly
         (λ o m z is base. (let less = inside.free o m z is base in omega (arith, less))) in
         let slot1 : s1.frame.slots (exception_slot l) ≡ address_word (object_address e) = bound_slot k (exception_slot l) in
-        parameter_then laws l own gives n i d lt call b same bar empty missing v c e stays rests (Some t) x body at w s (op (bind k (thrown_place l)) ∷ []) rs (whole y.object)
+        parameter_then laws l own gives n i d lt call b same bar empty v c e fresh (Some t) x body at w s (op (bind k (thrown_place l)) ∷ []) rs (whole y.object)
         (sym (ap exception_object y.is))
         (subst StaysInside (sym (catches (whole y.object) (with_travelling e c))) tt)
         (subst (λ z. Alike l.layout l.program at k (with_travelling e c) w s
-        (Passed laws l own gives n i d lt call b same bar empty missing v c e stays rests (Some t) x body rs) z
+        (Passed laws l own gives n i d lt call b same bar empty v c e fresh (Some t) x body rs) z
         (regions b (regions_from (op (bind k (thrown_place l)) ∷ [])) ctx s)) (sym (catches (whole y.object) (with_travelling e c))) (
           normal,
           s1,
@@ -101,7 +100,7 @@ module _ (laws : CaughtListFollows) (l : Lowering) (own : Option ℕ) (gives : B
             (
               refl,
               slot1,
-              body_alike laws l own gives n i d lt call b same bar empty missing v c e stays rests (Some t) x body at w s1 r (n + 1) rs plain (omega arith)
+              body_alike laws l own gives n i d lt call b same bar empty v c e fresh (Some t) x body at w s1 r (n + 1) rs plain (omega arith)
                   (stands_framed l.layout l.program at (with_travelling e c) w s s1.frame stands) inside1 (does r),
             ),
           ),

@@ -1,16 +1,14 @@
 -- Handlers do the same: the entry, what is done while the exception is handled, and the leaving.
-use Rattle.std.proofs.Common.{◌≡◌, ℕ, ◌+◌, ◌<◌, Bool, true, false, List, [], ◌∷◌, ◌++◌, refl, sym, ap, subst, arith}
-use Rattle.std.specs.Prelude.{◌==◌, ◌&&◌, ◌||◌, not, if◌then◌else◌}
-use Rattle.std.proofs.lemmas.Bool.Decides.{nat_tests}
+use Rattle.std.proofs.Common.{◌≡◌, ℕ, ◌+◌, ◌<◌, Bool, true, false, List, [], ◌∷◌, ◌++◌, refl, sym, ap, subst}
+use Rattle.std.specs.Prelude.{◌==◌, ◌&&◌, not, if◌then◌else◌}
 use Rattle.run_items.specs.declared.item.Item.TheVariants.{Enter}
-use Rattle.scope_rules.specs.Class.{some_of, contains}
+use Rattle.scope_rules.specs.Class.{some_of}
 use Rattle.scope_rules.specs.World.{World as SourceWorld, exception_at as source_exception_at}
 use Rattle.scope_rules.specs.Context.{Context as SourceContext, handling, with_travelling}
 use Rattle.scope_rules.specs.Outcome.{Result as SourceResult, done as source_done, stopped as source_stopped, thrown, cancelled, ended, undefined, out_of_turns, deep, Action as SourceAction, Flow as SourceFlow, emit, continued as source_continued, ◌>>◌}
 use Rattle.scope_rules.specs.Running.{Running as SourceRunning}
 use Rattle.scope_rules.specs.Terminate.{terminate as source_terminate}
 use Rattle.scope_rules.specs.Handler.{is_foreign as source_is_foreign, enter as source_enter, while_handled}
-use Rattle.region_forms.specs.Caught.{only_front}
 use Rattle.region_forms.specs.Form.{Region, op, enter, protect, leave_handler, in_order, regions_from}
 use Rattle.region_forms.specs.Laws.{CaughtListFollows}
 use Rattle.region_forms.specs.World.{address_word, object_address, exception_of, exception_in_slot, address_in}
@@ -26,26 +24,20 @@ use Rattle.region_simulation.specs.Flows.{FlowAgrees}
 use Rattle.region_simulation.proofs.Following.{alike_on}
 use Rattle.region_simulation.proofs.Flowing.{single}
 use Rattle.throw_simulation.specs.Same.{RunAlike}
-use Rattle.throw_simulation.specs.Raises.{StaysSound, Never}
+use Rattle.throw_simulation.specs.Raises.{Never}
 use Rattle.throw_simulation.specs.Barred.{CallsAreBarred}
-use Rattle.throw_simulation.specs.Handlers.{EmptyDestructor, MissingDestructors}
+use Rattle.throw_simulation.specs.Handlers.{CanBeEntered, EmptyDestructor}
 use Rattle.throw_simulation.proofs.Standing.{follows_changed}
 use Rattle.throw_simulation.proofs.Ends.{ends_out, terminates as terminates_out}
 use Rattle.throw_simulation.proofs.Entering.{entered_stands, tested}
 use Rattle.throw_simulation.proofs.LettingGo.{handlers_end_alike}
 
-itself : (e : ℕ) (es : List ℕ) → contains (e ∷ es) e ≡ true
-itself e es = let same : (e == e) ≡ true = grind (arith, nat_tests) in ap (λ b. b || contains es e) same
-
 module _ (laws : CaughtListFollows) (l : Lowering) (gives : Bool) (i d : ℕ) (lt : i < d) (a : SourceRunning) (b : Running) (same : RunAlike l.layout a b) (bar : CallsAreBarred a)
-    (empty : EmptyDestructor l.layout a b) (missing : MissingDestructors l.layout a b) (at : Places) (k : ℕ) (c : SourceContext) (w : SourceWorld) (s : State) (e : ℕ)
-    (stands : Stands l.layout a.program at (with_travelling e c) w s) (stays : StaysSound c) (rests : contains c.travelling e ≡ false)
+    (empty : EmptyDestructor l.layout a b) (at : Places) (k : ℕ) (c : SourceContext) (w : SourceWorld) (s : State) (e : ℕ)
+    (stands : Stands l.layout a.program at (with_travelling e c) w s) (fresh : CanBeEntered c e)
     (act : SourceContext → SourceAction SourceFlow) (inner : List Region) where
   abbrev ctx : Context
   ctx = context_of w.open_calls c
-
-  front : only_front e c.handled ≡ true
-  front = stands.sound.front e (itself e c.travelling)
 
   -- the world and the state behind the entry
   abbrev pub entered_world : SourceWorld
@@ -55,7 +47,7 @@ module _ (laws : CaughtListFollows) (l : Lowering) (gives : Bool) (i d : ℕ) (l
   entered_state = record s { world = entered e s.world }
 
   pub entry_stands : Stands l.layout a.program at (handling e c) entered_world entered_state
-  entry_stands = entered_stands l.layout a.program at c w s e stands stays rests front laws
+  entry_stands = entered_stands l.layout a.program at c w s e stands fresh.rests fresh.front laws
 
   abbrev behind : List Region
   behind = protect (in_order inner) leave_handler ∷ []
@@ -72,7 +64,7 @@ module _ (laws : CaughtListFollows) (l : Lowering) (gives : Bool) (i d : ℕ) (l
         (regions b (regions_from behind) ctx entered_state)
         (subst (λ z. Alike l.layout a.program at k c entered_world entered_state (FlowAgrees l gives i d) (while_handled a e c act entered_world) z)
         (sym (single b (protect (in_order inner) leave_handler) ctx entered_state))
-        (handlers_end_alike laws l gives i d lt a b same bar empty missing at k c entered_world entered_state e entry_stands rests act (in_order inner) does))
+        (handlers_end_alike laws l gives i d lt a b same bar empty at k c entered_world entered_state e entry_stands fresh.rests act (in_order inner) does))
 
     abbrev Entered : Bool → Bool → Type 0
     Entered x y = Alike l.layout a.program at k c w s (FlowAgrees l gives i d)
@@ -107,4 +99,4 @@ module _ (laws : CaughtListFollows) (l : Lowering) (gives : Bool) (i d : ℕ) (l
         let address : exception_in_slot s.frame (exception_slot l) ≡ e = ap (λ x. exception_of (address_in x)) slot in
         subst (λ m. Alike l.layout a.program at k c w s (FlowAgrees l gives i d) ((source_enter a e c >> while_handled a e c act) w)
         (continued (continued (perform b (enters m s.frame s.world) ctx s) (λ u. pure normal)) (followed (regions b (regions_from behind) ctx)))) (sym address)
-        (subst (Entered tests) (sym (tested l.layout a.program at c w s e stands stays rests front laws)) (entry tests))
+        (subst (Entered tests) (sym (tested l.layout a.program at c w s e stands fresh.rests fresh.front laws)) (entry tests))

@@ -14,7 +14,7 @@ use Rattle.region_forms.specs.Effect.{kept}
 use Rattle.region_forms.specs.Outcome.{State}
 use Rattle.region_simulation.specs.Typed.{Shaped}
 use Rattle.region_simulation.specs.Places.{Places}
-use Rattle.region_simulation.specs.Stands.{exception_of, live_of, world_of, AreHandlers, Stands}
+use Rattle.region_simulation.specs.Stands.{exception_of, live_of, world_of, AreHandlers, IsOfProgram, IsKept, Stands}
 use Rattle.region_simulation.proofs.Paths.{some_same}
 use Rattle.throw_simulation.proofs.Standing.{sound_later, stands_with}
 
@@ -63,8 +63,8 @@ module _ (l : Layout) (p : Checked) (at : Places) (c : SourceContext) (w : Sourc
   type_is : part_type (object_at w o) ≡ t
   type_is = shaped_type p t (object_at w o) (stands.memory.shaped o (record { base = of_exception e; type = t }) placed)
 
-  pub kept_on : Stands l p at c after_keeping (record s { world = kept e (type_number t) (destructor_of p t) s.world })
-  kept_on =
+  pub kept_on : IsOfProgram p t → Stands l p at c after_keeping (record s { world = kept e (type_number t) (destructor_of p t) s.world })
+  kept_on known =
       let x = source_native (part_type (object_at w o)) o w.installed in
       let world = world_of p c after_keeping s.world.memory s.world.calls in
       stands_with l p at c c w after_keeping s (kept e (type_number t) (destructor_of p t) s.world)
@@ -92,12 +92,12 @@ module _ (l : Layout) (p : Checked) (at : Places) (c : SourceContext) (w : Sourc
 
       natives : (f q : ℕ) (u : ObjectType) (handlers : Installed) (i : ℕ)
           → Replaces e (source_native (part_type (object_at w o)) o w.installed) w.live i (record { number = f; exception = source_native u q handlers })
-          → (at q ≡ Some (record { base = of_exception f; type = u })) × AreHandlers p handlers
+          → (at q ≡ Some (record { base = of_exception f; type = u })) × IsKept p u handlers
       natives f q u handlers i (is_old there) = (stands.exceptions i f q u handlers there, stands.kept i f q u handlers there)
       natives f q u handlers i (is_new y there number same) =
           let n : f ≡ e = exception_number _ _ same in
           let (types, objects, installed) = object_of u (part_type (object_at w o)) q o handlers w.installed (exception_there _ _ same) in (
             ap at objects ∙ placed ∙ ap (λ m. Some (record { base = of_exception m; type = t })) (sym n) ∙
                 ap (λ v. Some (record { base = of_exception f; type = v })) (sym (types ∙ type_is)),
-            subst (AreHandlers p) (sym installed) stands.handlers,
+            record { type = subst (IsOfProgram p) (sym (types ∙ type_is)) known; handlers = subst (AreHandlers p) (sym installed) stands.handlers },
           )

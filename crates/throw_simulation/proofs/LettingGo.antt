@@ -27,14 +27,14 @@ use Rattle.region_simulation.proofs.Flowing.{alike_after, outwards_agrees}
 use Rattle.throw_simulation.specs.Same.{RunAlike}
 use Rattle.throw_simulation.specs.Barred.{NotThrown, CallsAreBarred}
 use Rattle.throw_simulation.specs.Scopes.{Any}
-use Rattle.throw_simulation.specs.Handlers.{EmptyDestructor, MissingDestructors, HandlersEndAlike}
+use Rattle.throw_simulation.specs.Handlers.{EmptyDestructor, HandlersEndAlike}
 use Rattle.throw_simulation.proofs.Caught.{newest_is}
 use Rattle.throw_simulation.proofs.Standing.{sound_left, all_old, stands_on, stands_guarded, follows_changed}
 use Rattle.throw_simulation.proofs.Raises.{exception_same}
 use Rattle.throw_simulation.proofs.Giving.{gives_back_alike, giving_barred}
 use Rattle.throw_simulation.proofs.Scopes.{IsSteady, flows_steady, thrown_out, cancelled_out, done_out}
 
-module _ (l : Layout) (a : SourceRunning) (b : Running) (same : RunAlike l a b) (empty : EmptyDestructor l a b) (missing : MissingDestructors l a b) (laws : CaughtListFollows) where
+module _ (l : Layout) (a : SourceRunning) (b : Running) (same : RunAlike l a b) (empty : EmptyDestructor l a b) (laws : CaughtListFollows) where
   -- the newest handler is left, and its exception is given back or kept
   module _ (at : Places) (m : ℕ) (c : SourceContext) (w : SourceWorld) (s : State) (e : ℕ) (stands : Stands l a.program at (handling e c) w s) where
     abbrev ctx : Context
@@ -64,7 +64,7 @@ module _ (l : Layout) (a : SourceRunning) (b : Running) (same : RunAlike l a b) 
         subst (λ n. Alike l a.program at m c after_leaving state_after Any (source_give_back a e (source_exception_at w e) c after_leaving) (give_back b n (exception_at s.world n) ctx state_after)) (sym newest)
         (subst (λ x. Alike l a.program at m c after_leaving state_after Any (source_give_back a e (source_exception_at w e) c after_leaving) (give_back b e x ctx state_after))
         (sym (exception_same l a.program at (handling e c) w s stands e))
-        (gives_back_alike l a b same empty missing at m c after_leaving state_after left_stands e (source_exception_at w e) refl))
+        (gives_back_alike l a b same empty at m c after_leaving state_after left_stands e (source_exception_at w e) refl))
 
     lets_go : (kept : Bool) → gives_back (caught_of c.travelling (e ∷ c.handled)) ≡ not kept
         → Alike l a.program at m c w s Any (let_go a e kept c w) (leave_newest b ctx s)
@@ -133,9 +133,9 @@ module _ (l : Layout) (a : SourceRunning) (b : Running) (same : RunAlike l a b) 
     handler_ends (source_stopped deep w2) y (s2, is, h) = (s2, ap (after_scope b (context_of w.open_calls c) cleanup) is, h)
 
 pub handlers_end_alike : CaughtListFollows → HandlersEndAlike
-handlers_end_alike laws l gives i d lt a b same bar empty missing at k c w s e stands rests act body h =
+handlers_end_alike laws l gives i d lt a b same bar empty at k c w s e stands rests act body h =
     let ctx = context_of w.open_calls c in
     let agree = FlowAgrees l gives i (d + 1) in
     alike_after l.layout a.program agree (FlowAgrees l gives i d) at k c w s (after_handler a e c (act (handling e c) w))
     (after_scope b ctx (operation b leave) (region b body ctx s)) outwards (outwards_agrees l gives i d lt)
-    (handler_ends l.layout a b same empty missing laws bar agree (result_slot l + 1) (flows_steady l gives i (d + 1)) at k c w s e stands rests (act (handling e c) w) (region b body ctx s) h)
+    (handler_ends l.layout a b same empty laws bar agree (result_slot l + 1) (flows_steady l gives i (d + 1)) at k c w s e stands rests (act (handling e c) w) (region b body ctx s) h)

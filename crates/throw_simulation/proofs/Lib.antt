@@ -42,4 +42,3 @@ pub mod Leading
 pub mod BadExceptions
 pub mod Specifications
 pub mod Extents
-pub mod Apart

@@ -39,14 +39,14 @@ use Rattle.region_simulation.proofs.Joining.{joined}
 use Rattle.region_simulation.proofs.Builtins.{number_passed, ending, Next, seen_alike}
 use Rattle.region_simulation.proofs.Standard.{expressions_evaluate}
 use Rattle.throw_simulation.specs.Same.{RunAlike}
-use Rattle.throw_simulation.specs.Raises.{StaysSound, Never, ModulesAnswerAlike, AllExpressionsEvaluate}
+use Rattle.throw_simulation.specs.Raises.{Never, ModulesAnswerAlike, AllExpressionsEvaluate}
 use Rattle.throw_simulation.proofs.Standing.{all_old, stands_on, follows_changed}
 use Rattle.throw_simulation.proofs.Ends.{ends_out, never_on, terminates as terminates_out}
 use Rattle.throw_simulation.proofs.Raises.{raises as raises_out}
 use Rattle.throw_simulation.proofs.New.{newly, full_same, new_on, new_can}
 
 module _ (l : Lowering) (own : Option ℕ) (call : SourceCallee → Reference → List SourceArgument → SourceContext → SourceAction ℤ) (b : Running) (v : SourceFrame) (c : SourceContext)
-    (fit : KindsFit l b.kinds) (same : RunAlike l.layout (source_running l call) b) (stays : StaysSound c) (laws : CaughtListFollows) (t : ℕ) (high : first_temporary l ≤ t) where
+    (fit : KindsFit l b.kinds) (same : RunAlike l.layout (source_running l call) b) (laws : CaughtListFollows) (t : ℕ) (high : first_temporary l ≤ t) where
   -- what never is done comes out of an operation as it is
   stops_alike : {A : Type 0} (next : Agreement A Flow) (at : Places) (w : SourceWorld) (s : State) (x : SourceResult A) (y : Result (Unit {0}))
       → Alike l.layout l.program at t c w s Never x y → Alike l.layout l.program at t c w s next x (ending y)
@@ -108,7 +108,7 @@ module _ (l : Lowering) (own : Option ℕ) (call : SourceCallee → Reference �
               let h = follows_changed l.layout l.program at t c w (new n) s (after n) refl refl refl stands3 in
               alike_on l.layout l.program Never at t c c w s (new n) (record s { world = after n }) h
               (raise_exception a (w.last_number + 1) c (new n)) (raise b (w.last_number + 1) ctx (record s { world = after n }))
-              (raises_out l.layout a b same laws ℤ (Unit {0}) at c (new n) (record s { world = after n }) stands3 (w.last_number + 1) stays
+              (raises_out l.layout a b same laws ℤ (Unit {0}) at c (new n) (record s { world = after n }) stands3 (w.last_number + 1)
               (new_can l.layout l.program at c taken s2 standing (source_foreign k n) (made n w.last_number)) Never t)
 
           go : (z : Bool) → Alike l.layout l.program at t c w s (Next l own b v c fit t high)
@@ -167,31 +167,31 @@ module _ (l : Lowering) (own : Option ℕ) (call : SourceCallee → Reference �
       (does h.places w2 s2 given words h.stands passes)))))
 
 module _ (l : Lowering) (own : Option ℕ) (call : SourceCallee → Reference → List SourceArgument → SourceContext → SourceAction ℤ) (b : Running) (v : SourceFrame) (c : SourceContext)
-    (fit : KindsFit l b.kinds) (same : RunAlike l.layout (source_running l call) b) (stays : StaysSound c) (laws : CaughtListFollows) where
+    (fit : KindsFit l b.kinds) (same : RunAlike l.layout (source_running l call) b) (laws : CaughtListFollows) where
   terminate_same : SameBuiltin l own call b v c Terminate
   terminate_same object (expression_then e es) t high can passes = let n = some_same can.0 in absurd (omega (arith, n))
   terminate_same object no_expressions t high can passes =
       let a = source_running l call in
-      builtin_with l own call b v c fit same stays laws t high [] (source_pure []) (lower_arguments l no_expressions [] t) (builtin Terminate)
+      builtin_with l own call b v c fit same laws t high [] (source_pure []) (lower_arguments l no_expressions [] t) (builtin Terminate)
       (λ vs w. source_terminate a c w)
       (λ at w s given words stands ok.
-      stops_alike l own call b v c fit same stays laws t high (Next l own b v c fit t high) at w s (source_terminate a c w) (terminate b (context_of w.open_calls c) s)
+      stops_alike l own call b v c fit same laws t high (Next l own b v c fit t high) at w s (source_terminate a c w) (terminate b (context_of w.open_calls c) s)
       (ends_out l.layout a b same Never at t c w s (source_terminate a c w) (terminate b (context_of w.open_calls c) s) (terminates_out l.layout a b same ℤ (Unit {0}) at c w s stands))) passes
 
   module_same : SameBuiltin l own call b v c Module
   module_same object es t high can passes =
       let a = source_running l call in
-      builtin_with l own call b v c fit same stays laws t high (types_for [] es) (arguments a v es [] c) (lower_arguments l es [] t) (builtin Module)
+      builtin_with l own call b v c fit same laws t high (types_for [] es) (arguments a v es [] c) (lower_arguments l es [] t) (builtin Module)
       (λ vs. call_module a (value_at vs 0) c)
       (λ at w s given words stands ok.
       subst (λ m. Alike l.layout l.program at t c w s (Next l own b v c fit t high) (call_module a (value_at given 0) c w)
       (ending (perform b (module_called b.kinds (Some (slot_place t)) m s.frame s.world) (context_of w.open_calls c) s)))
       (sym (number_passed l.layout l.program at (types_for [] es) given words 0 ok))
-      (modules l own call b v c fit same stays laws t high at w s stands (value_at given 0))) passes
+      (modules l own call b v c fit same laws t high at w s stands (value_at given 0))) passes
 
 pub modules_answer_alike : CaughtListFollows → ModulesAnswerAlike
-modules_answer_alike laws l own call b v c fit same stays = (terminate_same l own call b v c fit same stays laws, module_same l own call b v c fit same stays laws)
+modules_answer_alike laws l own call b v c fit same = (terminate_same l own call b v c fit same laws, module_same l own call b v c fit same laws)
 
 pub all_expressions_evaluate : CaughtListFollows → AllExpressionsEvaluate
-all_expressions_evaluate laws l own call b v c fit same stays e t high typed =
-    expressions_evaluate l own call b v c fit same.calls (terminate_same l own call b v c fit same stays laws) (module_same l own call b v c fit same stays laws) e t high typed
+all_expressions_evaluate laws l own call b v c fit same e t high typed =
+    expressions_evaluate l own call b v c fit same.calls (terminate_same l own call b v c fit same laws) (module_same l own call b v c fit same laws) e t high typed

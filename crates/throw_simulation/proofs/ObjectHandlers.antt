@@ -1,9 +1,9 @@
 -- Handlers that catch an object by value: it is copied behind a barrier, and destroyed when the body is left.
-use Rattle.std.proofs.Common.{◌≡◌, ℕ, ◌+◌, ◌<◌, ℤ, Bool, false, List, [], ◌∷◌, ◌++◌, Option, Some, refl, sym, ap, ◌∙◌, subst, arith, length}
+use Rattle.std.proofs.Common.{◌≡◌, ℕ, ◌+◌, ◌<◌, ℤ, Bool, List, [], ◌∷◌, ◌++◌, Option, Some, refl, sym, ap, ◌∙◌, subst, arith, length}
 use Rattle.cxx_ast.specs.declared.name.Name.{Name}
 use Rattle.cxx_ast.specs.declared.types.Ty.TheVariants.{Object}
 use Rattle.run_items.specs.declared.item.Item.TheVariants.{Enter}
-use Rattle.scope_rules.specs.Class.{class_type, class_named, contains}
+use Rattle.scope_rules.specs.Class.{class_type, class_named}
 use Rattle.scope_rules.specs.Part.{unset}
 use Rattle.scope_rules.specs.World.{World as SourceWorld, Reference, whole, as_class}
 use Rattle.scope_rules.specs.Context.{Context as SourceContext, handling, with_travelling}
@@ -38,10 +38,9 @@ use Rattle.region_simulation.proofs.Flowing.{alike_seq, alike_after, outwards_ag
 use Rattle.region_simulation.proofs.Standing.{with_place, with_object, placed_new, one_more, follows_new}
 use Rattle.region_simulation.proofs.Declaring.{free_placed, variable_empty}
 use Rattle.throw_simulation.specs.Same.{RunAlike}
-use Rattle.throw_simulation.specs.Raises.{StaysSound}
 use Rattle.throw_simulation.specs.Barred.{CallsAreBarred, StaysInside}
 use Rattle.throw_simulation.specs.Scopes.{LeadsTo}
-use Rattle.throw_simulation.specs.Handlers.{EmptyDestructor, MissingDestructors}
+use Rattle.throw_simulation.specs.Handlers.{CanBeEntered, EmptyDestructor}
 use Rattle.throw_simulation.proofs.Unset.{unset_is_shaped, unset_is_not_set}
 use Rattle.throw_simulation.proofs.Constructing.{copied_both}
 use Rattle.throw_simulation.proofs.Scopes.{flows_steady}
@@ -53,7 +52,7 @@ use Rattle.throw_simulation.proofs.Handlers.{last}
 
 module _ (laws : CaughtListFollows) (l : Lowering) (own : Option ℕ) (gives : Bool) (n i d : ℕ) (lt : i < d) (call : Callee → Reference → List SourceArgument → SourceContext → SourceAction ℤ) (b : Running)
     (same : RunAlike l.layout (source_running l call) b) (bar : CallsAreBarred (source_running l call)) (empty : EmptyDestructor l.layout (source_running l call) b)
-    (missing : MissingDestructors l.layout (source_running l call) b) (v : SourceFrame) (c : SourceContext) (e : ℕ) (stays : StaysSound c) (rests : contains c.travelling e ≡ false)
+    (v : SourceFrame) (c : SourceContext) (e : ℕ) (fresh : CanBeEntered c e)
     (body : SourceFrame → SourceContext → SourceAction SourceFlow) (rs : List Region) (fit : KindsFit l b.kinds) (x : Option Name) (numbered : HasNumber x n)
     (there : n < length l.variables) (q : Name) (typed : variable_type l n ≡ Object q) (class_there : class_named q < length l.program.classes) where
   abbrev a : SourceRunning
@@ -82,15 +81,15 @@ module _ (laws : CaughtListFollows) (l : Lowering) (own : Option ℕ) (gives : B
   object_body : (at : Places) (w : SourceWorld) (s : State) (o : ℕ) → Stands l.layout l.program at (with_travelling e c) w s → InScope l own (n + 1) at (with_parameter x (whole o) v) s
       → at o ≡ Some (record { base = of_variable s.frame.call k; type = class_type j })
       → DoesAlike l own gives b (with_parameter x (whole o) v) (handling e c) (n + 1) i (d + 4) (body (with_parameter x (whole o) v) (handling e c)) rs
-      → BodyAlike laws l own gives n i d lt call b same bar empty missing v c e stays rests (Some (Object q)) x body scoped_regions (whole o) w at s
+      → BodyAlike laws l own gives n i d lt call b same bar empty v c e fresh (Some (Object q)) x body scoped_regions (whole o) w at s
   object_body at w s o stands scope placed does =
       let w2 = record w { items = w.items ++ Enter e ∷ [] } in
       let s2 = record s { world = entered e s.world } in
       let ctx = context_of w.open_calls c in
       let dd = handling e c in
       let act = body (with_parameter x (whole o) v) dd in
-      let standing = entry_stands laws l gives i d lt a b same bar empty missing at k c w s e stands stays rests
-      (in_handler laws l own gives n i d lt call b same bar empty missing v c e stays rests (Some (Object q)) x body (whole o)) scoped_regions in
+      let standing = entry_stands laws l gives i d lt a b same bar empty at k c w s e stands fresh
+      (in_handler laws l own gives n i d lt call b same bar empty v c e fresh (Some (Object q)) x body (whole o)) scoped_regions in
       let inside : InScope l own (n + 1) at (with_parameter x (whole o) v) s2 =
       record { reach = scope.reach; before = scope.before; free = scope.free; there = scope.there; running = scope.running } in
       let four : d + 4 ≡ d + 1 + 1 + 1 + 1 = omega arith in
@@ -164,7 +163,7 @@ module _ (laws : CaughtListFollows) (l : Lowering) (own : Option ℕ) (gives : B
         (h1 k).stands (leads_here (with_place at o stood) (first_temporary l) s.frame o (placed_new at o stood)) comes
 
     abbrev passed : Reference → Flow → SourceWorld → Places → State → Type 0
-    passed = Passed laws l own gives n i d lt call b same bar empty missing v c e stays rests (Some (Object q)) x body scoped_regions
+    passed = Passed laws l own gives n i d lt call b same bar empty v c e fresh (Some (Object q)) x body scoped_regions
 
     regrouped : (r : SourceResult (Unit {0})) → source_continued (source_continued r (λ u. source_pure o)) (λ z. source_pure (whole z)) ≡ source_continued r (λ u. source_pure (whole o))
     regrouped (source_done u z) = refl
@@ -202,9 +201,9 @@ module _ (laws : CaughtListFollows) (l : Lowering) (own : Option ℕ) (gives : B
 
     pub object_handled : Alike l.layout l.program at k c w s (FlowAgrees l gives i d) (handle a e (Some (Object q)) x body v c w)
         (regions b (regions_from (copied l j (slot_place k) (thrown_place l) ∷
-        last laws l own gives n i d lt call b same bar empty missing v c e stays rests body scoped_regions at w s stands inside slot)) ctx s)
+        last laws l own gives n i d lt call b same bar empty v c e fresh body scoped_regions at w s stands inside slot)) ctx s)
     object_handled =
-        parameter_then laws l own gives n i d lt call b same bar empty missing v c e stays rests (Some (Object q)) x body at w s P scoped_regions (whole y.object) (sym (ap exception_object y.is))
+        parameter_then laws l own gives n i d lt call b same bar empty v c e fresh (Some (Object q)) x body at w s P scoped_regions (whole y.object) (sym (ap exception_object y.is))
         (subst StaysInside (sym (regrouped copying)) (stays_on copying both.0))
         (subst (λ z. Alike l.layout l.program at k (with_travelling e c) w s passed z (regions b (regions_from P) ctx s)) (sym (regrouped copying))
         (subst (λ z. Alike l.layout l.program at k (with_travelling e c) w s passed (source_continued copying (λ u. source_pure (whole o))) z)

@@ -36,7 +36,6 @@ use Rattle.region_simulation.proofs.Expressions.{expression_evaluates}
 use Rattle.region_simulation.proofs.Standard.{builtins_same}
 use Rattle.throw_simulation.specs.Same.{RunAlike}
 use Rattle.throw_simulation.specs.Barred.{CallsAreBarred}
-use Rattle.throw_simulation.specs.Raises.{StaysSound}
 use Rattle.throw_simulation.specs.Throws.{IsBuilt, BuildsAlike}
 use Rattle.throw_simulation.specs.Operands.{LeavesUnbuilt, OperandsThrowAlike}
 use Rattle.throw_simulation.proofs.Kept.{shaped_type}
@@ -53,13 +52,13 @@ class_there p k implicit_default h = h.0
 class_there p k implicit_copy h = h
 
 module _ (laws : CaughtListFollows) (l : Lowering) (own : Option ℕ) (gives : Bool) (calls : Callee → Reference → List SourceArgument → SourceContext → SourceAction ℤ) (b : Running)
-    (v : SourceFrame) (c : SourceContext) (same : RunAlike l.layout (source_running l calls) b) (stays : StaysSound c) (fit : KindsFit l b.kinds)
+    (v : SourceFrame) (c : SourceContext) (same : RunAlike l.layout (source_running l calls) b) (fit : KindsFit l b.kinds)
     (bar : CallsAreBarred (source_running l calls)) (leaves : (e : Expression) → LeavesUnbuilt c (value_of (source_running l calls) v e c)) (n i d : ℕ) where
   abbrev a : SourceRunning
   a = source_running l calls
 
   builtins : SameBuiltins l own calls b v c
-  builtins = let h = modules_answer_alike laws l own calls b v c fit same stays in builtins_same l own calls b v c fit h.0 h.1
+  builtins = let h = modules_answer_alike laws l own calls b v c fit same in builtins_same l own calls b v c fit h.0 h.1
 
   int_builds : (e : Expression) → IsTyped l own v.variables e → BuildsAlike l own b v c int_type (source_int_thrown a v e c)
       ((lower l e (first_temporary l)).before ++ op (store (thrown_place l) (lower l e (first_temporary l)).value) ∷ [])
@@ -68,20 +67,21 @@ module _ (laws : CaughtListFollows) (l : Lowering) (own : Option ℕ) (gives : B
       (expression_evaluates l own calls b v c fit same.calls builtins e (first_temporary l) (omega arith) typed) (leaves e)
 
   int_case : (e : Expression) → IsTyped l own v.variables e → DoesAlike l own gives b v c n i d (throw_new a c (source_int_thrown a v e c)) (int_thrown l e)
-  int_case e typed = throws_alike laws l own gives calls b v c same stays n i d int_type (source_int_thrown a v e c)
-      ((lower l e (first_temporary l)).before ++ op (store (thrown_place l) (lower l e (first_temporary l)).value) ∷ []) (int_builds e typed)
+  int_case e typed = throws_alike laws l own gives calls b v c same n i d int_type (source_int_thrown a v e c)
+      ((lower l e (first_temporary l)).before ++ op (store (thrown_place l) (lower l e (first_temporary l)).value) ∷ []) tt (int_builds e typed)
 
   object_case : (k : ℕ) (es : Expressions) → CanConstruct l own v.variables k es → DoesAlike l own gives b v c n i d (throw_new a c (source_object_thrown a v k es c)) (object_thrown l k es)
   object_case k es can =
-      throws_alike laws l own gives calls b v c same stays n i d (class_type k) (source_object_thrown a v k es c) (lower_construct l k es (thrown_place l) (first_temporary l))
+      throws_alike laws l own gives calls b v c same n i d (class_type k) (source_object_thrown a v k es c) (lower_construct l k es (thrown_place l) (first_temporary l)) can.there
       (λ at w s e stands reach slot made unbuilt empty. object_built l own calls b v c fit same builtins at w s e stands reach slot made empty k can.there es can)
 
   -- what names stand for, of a type
   part_case : (e : Expression) (names : List Name) (t : ObjectType) → lvalue_type l names ≡ t → AreNamed l own v.variables names t → PartCanBeThrown l own v.variables e names t
       → DoesAlike l own gives b v c n i d (throw_new a c (source_lvalue_thrown a v e (Some names) c)) (part_thrown l e names t)
   part_case e names int_type is named can =
-      throws_alike laws l own gives calls b v c same stays n i d int_type (source_lvalue_thrown a v e (Some names) c)
+      throws_alike laws l own gives calls b v c same n i d int_type (source_lvalue_thrown a v e (Some names) c)
       ((lower l e (first_temporary l)).before ++ op (store (thrown_place l) (lower l e (first_temporary l)).value) ∷ [])
+      tt
       (λ at w s f stands reach slot made unbuilt empty.
       let x = names_addressed l own b.kinds v at c w s (result_slot l) (omega arith) fit reach stands names int_type named in
       let is_int = shaped_type l.program int_type (part_of w (lvalue l.program w v names)) (refers_shaped w stands.memory x.refers) in
@@ -89,7 +89,8 @@ module _ (laws : CaughtListFollows) (l : Lowering) (own : Option ℕ) (gives : B
       (regions b (regions_from ((lower l e (first_temporary l)).before ++ op (store (thrown_place l) (lower l e (first_temporary l)).value) ∷ [])) (context_of w.open_calls c) s))
       (sym is_int) (int_builds e can at w s f stands reach slot made unbuilt empty))
   part_case e names (class_type k) is named can =
-      throws_alike laws l own gives calls b v c same stays n i d (class_type k) (source_lvalue_thrown a v e (Some names) c) (copied l k (thrown_place l) (place_of l names) ∷ [])
+      throws_alike laws l own gives calls b v c same n i d (class_type k) (source_lvalue_thrown a v e (Some names) c) (copied l k (thrown_place l) (place_of l names) ∷ [])
+      (class_there l.program k (copy_constructor l.program k) can.1)
       (λ at w s f stands reach slot made unbuilt empty.
       let x = names_addressed l own b.kinds v at c w s (result_slot l) (omega arith) fit reach stands names (class_type k) named in
       let is_class = shaped_type l.program (class_type k) (part_of w (lvalue l.program w v names)) (refers_shaped w stands.memory x.refers) in
@@ -132,9 +133,9 @@ module _ (laws : CaughtListFollows) (l : Lowering) (own : Option ℕ) (gives : B
   operand_case (binary o x y) can = lvalue_case (binary o x y) (lvalue_of (binary o x y)) can
 
   pub throwing_case : (e : Option Expression) → CanThrow l own v.variables e → DoesAlike l own gives b v c n i d (source_throwing a v e c) (throwing l e)
-  throwing_case None can = rethrows_alike laws l own gives calls b v c same stays n i d
+  throwing_case None can = rethrows_alike laws l own gives calls b v c same n i d
   throwing_case (Some e) can = operand_case e can
 
 pub operands_throw_alike : CaughtListFollows → OperandsThrowAlike
-operands_throw_alike laws l own gives call b v c same stays fit bar leaves n i d e can =
-    throwing_case laws l own gives call b v c same stays fit bar leaves n i d e can
+operands_throw_alike laws l own gives call b v c same fit bar leaves n i d e can =
+    throwing_case laws l own gives call b v c same fit bar leaves n i d e can

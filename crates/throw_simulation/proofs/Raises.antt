@@ -28,10 +28,10 @@ use Rattle.region_simulation.proofs.Following.{Agreement}
 use Rattle.throw_simulation.specs.Doomed.{numbered}
 use Rattle.throw_simulation.specs.Same.{RunAlike}
 use Rattle.throw_simulation.specs.Ends.{EndsAlike}
-use Rattle.throw_simulation.specs.Raises.{StaysSound, CanBeRaised, RaisesAlike, Never}
+use Rattle.throw_simulation.specs.Raises.{CanBeRaised, RaisesAlike, Never}
 use Rattle.throw_simulation.proofs.Doomed.{doomed_alike}
 use Rattle.throw_simulation.proofs.Caught.{flown_front}
-use Rattle.throw_simulation.proofs.Standing.{sound_travelling, all_old, stands_on, seen, follows_changed}
+use Rattle.throw_simulation.proofs.Standing.{sound_handled, sound_travelling, all_old, stands_on, seen, follows_changed}
 use Rattle.throw_simulation.proofs.Ends.{ends_out, terminates_with, terminates}
 
 -- the exception with a number, by the numbers of its type and its destructor
@@ -78,24 +78,24 @@ module _ (l : Layout) (p : Checked) (at : Places) (c : SourceContext) (w : Sourc
       stands_on l p at c d w w s (flies e s.world)
       (ap (flies e) stands.world ∙ ap {A = ℕ} {B = World} (λ n. record world { uncaught = n; caught = flown_list e }) more ∙
       ap {B = World} (λ xs. record world { caught = xs }) (flown_front laws e c.travelling c.handled can.front))
-      refl refl (omega arith) (sound_travelling e c can.made can.front stands.sound) stands.handlers (all_old w.live) stands
+      refl refl (omega arith) (sound_travelling e c can.made stands.sound) stands.handlers (all_old w.live) stands
     where
       flown_list : ℕ → List Entry
       flown_list e = flown e (caught_of c.travelling c.handled)
 
   -- a doomed exception is entered
-  pub doomed_on : (e : ℕ) → StaysSound c → CanBeRaised c w e
+  pub doomed_on : (e : ℕ) → CanBeRaised c w e
       → Stands l p at (handling e c) (record w { items = w.items ++ Enter e ∷ [] }) (record s { world = entered_doomed e s.world })
-  doomed_on e stays can =
+  doomed_on e can =
       let d = handling e c in
       let w2 = record w { items = w.items ++ Enter e ∷ [] } in
       let world = world_of p d w2 s.world.memory s.world.calls in
       stands_on l p at c d w w2 s (entered_doomed e s.world)
       (ap (entered_doomed e) stands.world ∙ ap {B = World} (λ b. record world { caught = handled_on e b (caught_of c.travelling c.handled) }) (sym can.rests))
-      refl refl (omega arith) (stays e w.last_number w.live can.made can.rests can.front stands.sound) stands.handlers (all_old w.live) stands
+      refl refl (omega arith) (sound_handled e c can.made can.front stands.sound) stands.handlers (all_old w.live) stands
 
 module _ (l : Layout) (a : SourceRunning) (b : Running) (same : RunAlike l a b) (laws : CaughtListFollows) where
-  module _ (A B : Type 0) (at : Places) (c : SourceContext) (w : SourceWorld) (s : State) (stands : Stands l a.program at c w s) (e : ℕ) (stays : StaysSound c) (can : CanBeRaised c w e) where
+  module _ (A B : Type 0) (at : Places) (c : SourceContext) (w : SourceWorld) (s : State) (stands : Stands l a.program at c w s) (e : ℕ) (can : CanBeRaised c w e) where
     enters_and_terminates : (x : SourceException) → source_exception_at w e ≡ x
         → EndsAlike {A = A} {B = B} (source_enter_and_terminate a e x c w) (enter_and_terminate b e (exception_of a.program x) (context_of w.open_calls c) s)
     enters_and_terminates source_building is = terminates l a b same A B at c w s stands
@@ -103,7 +103,7 @@ module _ (l : Layout) (a : SourceRunning) (b : Running) (same : RunAlike l a b) 
     enters_and_terminates (source_native t o kept) is =
         let (i, there) = native_in w.live e o t kept is in
         terminates_with l a b same A B at (handling e c) (record w { items = w.items ++ Enter e ∷ [] }) (record s { world = entered_doomed e s.world })
-        (doomed_on l a.program at c w s stands e stays can) kept.terminate_handler (stands.kept i e o t kept there).0
+        (doomed_on l a.program at c w s stands e can) kept.terminate_handler (stands.kept i e o t kept there).handlers.0
 
     because : EndsAlike {A = A} {B = B} (source_terminate_because a e c w) (terminate_because b e (context_of w.open_calls c) s)
     because =
@@ -142,4 +142,4 @@ module _ (l : Layout) (a : SourceRunning) (b : Running) (same : RunAlike l a b) 
         )
 
 pub raises_alike : CaughtListFollows → RaisesAlike
-raises_alike laws l a b same at k c w s e stands stays can = raises l a b same laws ℤ ℤ at c w s stands e stays can Never k
+raises_alike laws l a b same at k c w s e stands can = raises l a b same laws ℤ ℤ at c w s stands e can Never k

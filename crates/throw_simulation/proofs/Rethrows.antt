@@ -24,7 +24,7 @@ use Rattle.region_simulation.specs.Flows.{FlowAgrees}
 use Rattle.region_simulation.specs.Expressions.{source_running}
 use Rattle.region_simulation.proofs.Following.{Agreement}
 use Rattle.throw_simulation.specs.Same.{RunAlike}
-use Rattle.throw_simulation.specs.Raises.{StaysSound, Never}
+use Rattle.throw_simulation.specs.Raises.{Never}
 use Rattle.throw_simulation.specs.Throws.{RethrowsAlike}
 use Rattle.throw_simulation.proofs.Ends.{ends_out, never_on, terminates as terminates_out}
 use Rattle.throw_simulation.proofs.Raises.{raises as raises_out}
@@ -48,7 +48,7 @@ itself : (e : ℕ) (es : List ℕ) → contains (e ∷ es) e ≡ true
 itself e es = let same : (e == e) ≡ true = grind (arith, nat_tests) in ap (λ b. b || contains es e) same
 
 module _ (l : Layout) (a : SourceRunning) (b : Running) (same : RunAlike l a b) (laws : CaughtListFollows) {A : Type 0} (agree : Agreement A Flow) (at : Places) (k : ℕ) (c : SourceContext)
-    (w : SourceWorld) (s : State) (stands : Stands l a.program at c w s) (stays : StaysSound c) where
+    (w : SourceWorld) (s : State) (stands : Stands l a.program at c w s) where
   abbrev ctx : Context
   ctx = context_of w.open_calls c
 
@@ -67,7 +67,7 @@ module _ (l : Layout) (a : SourceRunning) (b : Running) (same : RunAlike l a b) 
   again e es is false rests m xs =
       never_on l a b same agree at k c w s (raise_exception a e c w) (continued (raise {A = Unit {0}} b e ctx s) (λ u. pure normal)) (followed (pure normal))
       (never_on l a b same Never at k c w s (raise_exception a e c w) (raise {A = Unit {0}} b e ctx s) (λ u. pure normal)
-      (raises_out l a b same laws A (Unit {0}) at c w s stands e stays (record {
+      (raises_out l a b same laws A (Unit {0}) at c w s stands e (record {
         made = stands.sound.handled e (ap (λ hs. contains hs e) is ∙ itself e es);
         rests = rests;
         front = subst (λ hs. only_front e hs ≡ true) (sym is) (front_newest e es (subst AreTogether is stands.sound.together).0);
@@ -84,5 +84,5 @@ module _ (l : Layout) (a : SourceRunning) (b : Running) (same : RunAlike l a b) 
           subst (λ xs. Alike l a.program at k c w s agree (rethrow_newest a (e ∷ es) c w) (behind xs)) (sym x.is) (again e es is (contains c.travelling e) refl x.more x.others)
 
 pub rethrows_alike : CaughtListFollows → RethrowsAlike
-rethrows_alike laws l own gives call b v c same stays n i d at w s stands scope =
-    rethrown_out l.layout (source_running l call) b same laws (FlowAgrees l gives i d) at (variable_slot l n) c w s stands stays
+rethrows_alike laws l own gives call b v c same n i d at w s stands scope =
+    rethrown_out l.layout (source_running l call) b same laws (FlowAgrees l gives i d) at (variable_slot l n) c w s stands

@@ -20,7 +20,7 @@ use Rattle.throw_simulation.proofs.Scopes.{flows_steady}
 use Rattle.throw_simulation.proofs.Protecting.{scope_protects, part_protects}
 
 pub scopes_do_alike : ScopesDoAlike
-scopes_do_alike l own gives call b v c same stays fare n i d place target j lt leads act rs does =
+scopes_do_alike l own gives call b v c same fare n i d place target j lt leads act rs does =
     let a = source_running l call in
     let bar = faring_calls_are_barred a fare in
     let k = variable_slot l n in

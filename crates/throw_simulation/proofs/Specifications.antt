@@ -32,11 +32,11 @@ use Rattle.region_simulation.specs.Calls.{SameArguments}
 use Rattle.region_simulation.proofs.Following.{Agreement, alike_on}
 use Rattle.throw_simulation.specs.Same.{RunAlike}
 use Rattle.throw_simulation.specs.Ends.{EndsAlike}
-use Rattle.throw_simulation.specs.Raises.{StaysSound, CanBeRaised}
+use Rattle.throw_simulation.specs.Raises.{CanBeRaised}
 use Rattle.throw_simulation.specs.Barred.{CallsAreBarred}
 use Rattle.throw_simulation.specs.Scopes.{Any}
 use Rattle.throw_simulation.specs.Fares.{Fares, CallsFare}
-use Rattle.throw_simulation.specs.Handlers.{EmptyDestructor, MissingDestructors}
+use Rattle.throw_simulation.specs.Handlers.{EmptyDestructor}
 use Rattle.throw_simulation.specs.Extents.{EmptyConstructor}
 use Rattle.throw_simulation.proofs.Standing.{stands_guarded, stands_outside, follows_changed}
 use Rattle.throw_simulation.proofs.Barriers.{follows_outside, inside_then}
@@ -78,11 +78,11 @@ kept_handlers l p at c w s stands e = go (source_exception_at w e) refl
   where
     go : (x : SourceException) → source_exception_at w e ≡ x → AreHandlers p (source_kept_with x)
     go source_building is = (tt, tt)
-    go (source_native t o kept) is = let (i, there) = native_in w.live e o t kept is in stands.kept i e o t kept there
+    go (source_native t o kept) is = let (i, there) = native_in w.live e o t kept is in (stands.kept i e o t kept there).handlers
     go (source_foreign k t) is = (tt, tt)
 
 module _ (laws : CaughtListFollows) (l : Layout) (a : SourceRunning) (b : Running) (same : RunAlike l a b) (fare : CallsFare a) (bar : CallsAreBarred a) (empty : EmptyDestructor l a b)
-    (missing : MissingDestructors l a b) (makes : EmptyConstructor l a b) {A B : Type 0} (agree : Agreement A B) (m : ℕ) (steady : IsSteady agree m) (types : List ObjectType) where
+    (makes : EmptyConstructor l a b) {A B : Type 0} (agree : Agreement A B) (m : ℕ) (steady : IsSteady agree m) (types : List ObjectType) where
   abbrev numbers : List ℕ
   numbers = map type_number types
 
@@ -93,9 +93,9 @@ module _ (laws : CaughtListFollows) (l : Layout) (a : SourceRunning) (b : Runnin
       (doomed_alike a.program same.ordered (source_type_at w e)).allowed types
 
   -- an exception out of the unexpected handler is passed on
-  pass_out : (kept : Installed) → AreHandlers a.program kept → (at : Places) (k : ℕ) (d : SourceContext) (w : SourceWorld) (s : State) (f : ℕ) → Stands l a.program at d w s → StaysSound d
+  pass_out : (kept : Installed) → AreHandlers a.program kept → (at : Places) (k : ℕ) (d : SourceContext) (w : SourceWorld) (s : State) (f : ℕ) → Stands l a.program at d w s
       → CanBeRaised d w f → Alike l a.program at k d w s agree (source_pass_on a types kept f d w) (pass_on b numbers kept f (context_of w.open_calls d) s)
-  pass_out kept handlers at k d w s f stands stays can =
+  pass_out kept handlers at k d w s f stands can =
       let ctx = context_of w.open_calls d in
       subst (λ z. Alike l a.program at k d w s agree (source_pass_on a types kept f d w)
       ((if z then raise b f ctx else if contains numbers bad_row then throw_bad b ctx else terminate_with b kept.terminate_handler ctx) s)) (sym (allowed_same at d w s stands f))
@@ -107,13 +107,13 @@ module _ (laws : CaughtListFollows) (l : Layout) (a : SourceRunning) (b : Runnin
           ((if y then raise_exception {A = A} a f d else if z then throw_new a d (new_bad_exception a d) else source_terminate_with a kept.terminate_handler d) w)
           ((if y then raise {A = B} b f (context_of w.open_calls d) else
           if z then throw_bad b (context_of w.open_calls d) else terminate_with b kept.terminate_handler (context_of w.open_calls d)) s)
-      go true z = raises_out l a b same laws A B at d w s stands f stays can agree k
-      go false true = bad_out laws l a b same makes agree at k d w s stands stays
+      go true z = raises_out l a b same laws A B at d w s stands f can agree k
+      go false true = bad_out laws l a b same makes agree at k d w s stands
       go false false =
           ends_out l a b same agree at k d w s (source_terminate_with a kept.terminate_handler d w) (terminate_with b kept.terminate_handler (context_of w.open_calls d) s)
           (terminates_out l a b same A B at d w s stands kept.terminate_handler handlers.0)
 
-  module _ (kept : Installed) (handlers : AreHandlers a.program kept) (c : SourceContext) (stays : StaysSound c) (within : (f : ℕ) → contains c.travelling f ≡ false → StaysSound (handling f c)) where
+  module _ (kept : Installed) (handlers : AreHandlers a.program kept) (c : SourceContext) where
     abbrev stop_all : SourceGuard
     stop_all = try_block (catch_all ∷ [])
 
@@ -125,7 +125,7 @@ module _ (laws : CaughtListFollows) (l : Layout) (a : SourceRunning) (b : Runnin
         → Alike l a.program at k c w s agree (source_after_unexpected a types kept c (source_stopped (thrown f) w))
         (after_unexpected b numbers kept (context_of w.open_calls c) (stopped (thrown f) s))
     entered_out at k w s f stands rests front =
-        let (within_ends, enters_same) = enters_out l a b same at k c w s f stands stays rests front laws in
+        let (within_ends, enters_same) = enters_out l a b same at k c w s f stands rests front laws in
         inside_then l a.program Any agree at k (handling f c) c w s (source_enter a f c w) (perform b (enters f s.frame s.world) (context_of w.open_calls c) s)
         (λ u. source_while_handled a f c (source_pass_on a types kept f)) (λ u. while_handled b (context_of w.open_calls c) (pass_on b numbers kept f (context_of w.open_calls c))) within_ends enters_same
         (λ u v w3 s3 h z.
@@ -136,8 +136,8 @@ module _ (laws : CaughtListFollows) (l : Layout) (a : SourceRunning) (b : Runnin
         } in
         subst (λ n. Alike l a.program h.places k c w3 s3 agree (source_while_handled a f c (source_pass_on a types kept f) w3)
         (while_handled b (context_of n c) (pass_on b numbers kept f (context_of n c)) s3)) h.open_calls
-        (handler_ends l a b same empty missing laws bar agree m steady h.places k c w3 s3 f h.stands rests (source_pass_on a types kept f (handling f c) w3)
-        (pass_on b numbers kept f (context_of w3.open_calls c) s3) (pass_out kept handlers h.places k (handling f c) w3 s3 f h.stands (within f rests) can)))
+        (handler_ends l a b same empty laws bar agree m steady h.places k c w3 s3 f h.stands rests (source_pass_on a types kept f (handling f c) w3)
+        (pass_on b numbers kept f (context_of w3.open_calls c) s3) (pass_out kept handlers h.places k (handling f c) w3 s3 f h.stands can)))
 
     module _ (at : Places) (k : ℕ) (w : SourceWorld) (s : State) where
       abbrev ctx : Context
@@ -176,8 +176,7 @@ module _ (laws : CaughtListFollows) (l : Layout) (a : SourceRunning) (b : Runnin
           (same.calls at (function n) nowhere [] [] k inside w s is.0 standing (subst (λ ps. SameArguments l a.program at (types_of ps) [] []) (sym is.1) tt))
           (fare (function n) nowhere [] inside 0 w (omega arith) (orderly_sound inside w standing.sound))
 
-  module _ (c : SourceContext) (stays : StaysSound c) (within : (e : ℕ) → contains c.travelling e ≡ false → StaysSound (handling e c))
-      (again : (e f : ℕ) → contains c.travelling e ≡ false → contains c.travelling f ≡ false → StaysSound (handling f (handling e c))) where
+  module _ (c : SourceContext) where
     unexpected_out : (at : Places) (k : ℕ) (w : SourceWorld) (s : State) (e : ℕ) → Stands l a.program at (with_travelling e c) w s → contains c.travelling e ≡ false → only_front e c.handled ≡ true
         → source_is_foreign (source_exception_at w e) ≡ false
         → Alike l a.program at k c w s agree (source_unexpected a types e c w) (unexpected b numbers e (context_of w.open_calls c) s)
@@ -189,9 +188,9 @@ module _ (laws : CaughtListFollows) (l : Layout) (a : SourceRunning) (b : Runnin
         (subst (λ q. Alike l a.program at k c w s agree handled (while_handled b ctx (run_unexpected_handler b numbers q q.unexpected_handler ctx) s1))
         (sym (ap kept_with (exception_same l a.program at (with_travelling e c) w s stands e) ∙ kept_same a.program (source_exception_at w e)))
         (alike_on l a.program agree at k c (handling e c) w s w1 s1 (follows_changed l a.program at k (handling e c) w w1 s s1.world refl refl refl stands1) handled (while_handled b ctx (run_unexpected_handler b numbers kept kept.unexpected_handler ctx) s1)
-        (handler_ends l a b same empty missing laws bar agree m steady at k c w1 s1 e stands1 rests (source_run_unexpected a types kept kept.unexpected_handler (handling e c) w1)
+        (handler_ends l a b same empty laws bar agree m steady at k c w1 s1 e stands1 rests (source_run_unexpected a types kept kept.unexpected_handler (handling e c) w1)
         (run_unexpected_handler b numbers kept kept.unexpected_handler ctx s1)
-        (run_out kept handlers (handling e c) (within e rests) (λ f free. again e f rests free) at k w1 s1 stands1 kept.unexpected_handler handlers.1))))
+        (run_out kept handlers (handling e c) at k w1 s1 stands1 kept.unexpected_handler handlers.1))))
       where
         ctx : Context
         ctx = context_of w.open_calls c
@@ -209,7 +208,7 @@ module _ (laws : CaughtListFollows) (l : Layout) (a : SourceRunning) (b : Runnin
         s1 = record s { world = entered e s.world }
 
         stands1 : Stands l a.program at (handling e c) w1 s1
-        stands1 = entered_stands l a.program at c w s e stands stays rests front laws
+        stands1 = entered_stands l a.program at c w s e stands rests front laws
 
         handled : SourceResult A
         handled = source_while_handled a e c (source_run_unexpected a types kept kept.unexpected_handler) w1

@@ -1,18 +1,17 @@
 -- A state goes on standing for a world where neither memory nor an object is changed; what is handled and what travels may be.
 use Rattle.std.proofs.Common.{◌≡◌, ℕ, ◌≤◌, ◌⊎◌, inl, inr, Bool, true, false, List, ◌∷◌, Some, refl, sym, ap, ◌∙◌, subst, arith, length}
-use Rattle.std.specs.Prelude.{◌==◌, ◌||◌, not, slice_get, if◌then◌else◌}
+use Rattle.std.specs.Prelude.{◌==◌, ◌||◌, slice_get}
 use Rattle.std.proofs.lemmas.Bool.Decides.{nat_tests}
 use Rattle.cxx_ast.specs.Plain.{Checked}
 use Rattle.scope_rules.specs.Class.{ObjectType, contains}
 use Rattle.scope_rules.specs.World.{World as SourceWorld, Live as SourceLive, Installed, native}
 use Rattle.scope_rules.specs.Context.{Context as SourceContext, Guard, guarded_by, handling, with_travelling}
 use Rattle.region_forms.specs.Caught.{only_front}
-use Rattle.throw_simulation.proofs.Caught.{front_out}
 use Rattle.region_forms.specs.Layout.{Layout}
 use Rattle.region_forms.specs.World.{Base, of_global, of_variable, of_exception, Frame, World}
 use Rattle.region_forms.specs.Outcome.{State}
 use Rattle.region_simulation.specs.Places.{Places}
-use Rattle.region_simulation.specs.Stands.{world_of, IsMade, IsSound, AreHandlers, Stands}
+use Rattle.region_simulation.specs.Stands.{world_of, IsMade, IsSound, AreHandlers, IsKept, Stands}
 use Rattle.region_simulation.specs.Alike.{SameSeen, Follows}
 use Rattle.region_simulation.proofs.Following.{keeps_all}
 use Rattle.region_simulation.proofs.Builtins.{remembers_same}
@@ -35,13 +34,13 @@ holds e f es h = go (e == f)
 
 module _ {n : ℕ} {xs : List SourceLive} where
   pub sound_guarded : (g : Guard) (c : SourceContext) → IsSound c n xs → IsSound (guarded_by g c) n xs
-  sound_guarded g c h = record { handled = h.handled; travelling = h.travelling; live = h.live; together = h.together; front = h.front }
+  sound_guarded g c h = record { handled = h.handled; travelling = h.travelling; live = h.live; together = h.together }
 
   pub sound_outside : (g : Guard) (c : SourceContext) → IsSound (guarded_by g c) n xs → IsSound c n xs
-  sound_outside g c h = record { handled = h.handled; travelling = h.travelling; live = h.live; together = h.together; front = h.front }
+  sound_outside g c h = record { handled = h.handled; travelling = h.travelling; live = h.live; together = h.together }
 
   pub sound_ending : (c : SourceContext) → IsSound c n xs → IsSound (record c { ending = true }) n xs
-  sound_ending c h = record { handled = h.handled; travelling = h.travelling; live = h.live; together = h.together; front = h.front }
+  sound_ending c h = record { handled = h.handled; travelling = h.travelling; live = h.live; together = h.together }
 
   pub sound_left : (e : ℕ) (c : SourceContext) → IsSound (handling e c) n xs → IsSound c n xs
   sound_left e c h = record {
@@ -49,25 +48,31 @@ module _ {n : ℕ} {xs : List SourceLive} where
     travelling = h.travelling;
     live = h.live;
     together = h.together.1;
-    front = λ f is. front_out f e c.handled (h.front f is);
   }
 
-  pub sound_travelling : (e : ℕ) (c : SourceContext) → e ≤ n → only_front e c.handled ≡ true → IsSound c n xs → IsSound (with_travelling e c) n xs
-  sound_travelling e c made front h = record {
+  pub sound_handled : (e : ℕ) (c : SourceContext) → e ≤ n → only_front e c.handled ≡ true → IsSound c n xs → IsSound (handling e c) n xs
+  sound_handled e c made front h = record {
+    handled = λ f is. go f (held e f c.handled is);
+    travelling = h.travelling;
+    live = h.live;
+    together = (front, h.together);
+  }
+    where
+      go : (f : ℕ) → (f ≡ e) ⊎ (contains c.handled f ≡ true) → f ≤ n
+      go f (inl same) = omega (arith, same, made)
+      go f (inr is) = h.handled f is
+
+  pub sound_travelling : (e : ℕ) (c : SourceContext) → e ≤ n → IsSound c n xs → IsSound (with_travelling e c) n xs
+  sound_travelling e c made h = record {
     handled = h.handled;
     travelling = λ f is. go f (held e f c.travelling is);
     live = h.live;
     together = h.together;
-    front = λ f is. before f (held e f c.travelling is);
   }
     where
       go : (f : ℕ) → (f ≡ e) ⊎ (contains c.travelling f ≡ true) → f ≤ n
       go f (inl same) = omega (arith, same, made)
       go f (inr is) = h.travelling f is
-
-      before : (f : ℕ) → (f ≡ e) ⊎ (contains c.travelling f ≡ true) → only_front f c.handled ≡ true
-      before f (inl same) = subst (λ g. only_front g c.handled ≡ true) (sym same) front
-      before f (inr is) = h.front f is
 
   pub sound_resting : (e : ℕ) (c : SourceContext) → IsSound (with_travelling e c) n xs → IsSound c n xs
   sound_resting e c h = record {
@@ -75,7 +80,6 @@ module _ {n : ℕ} {xs : List SourceLive} where
     travelling = λ f is. h.travelling f (holds e f c.travelling is);
     live = h.live;
     together = h.together;
-    front = λ f is. h.front f (holds e f c.travelling is);
   }
 
 pub sound_later : (c : SourceContext) (m n : ℕ) (xs ys : List SourceLive) → m ≤ n → ((i : ℕ) (x : SourceLive) → slice_get ys i ≡ Some x → x.number ≤ n) → IsSound c m xs → IsSound c n ys
@@ -84,7 +88,6 @@ sound_later c m n xs ys le live h = record {
   travelling = λ e is. (let made = h.travelling e is in omega (arith, made, le));
   live = live;
   together = h.together;
-  front = h.front;
 }
 
 -- each native exception was native before
@@ -101,11 +104,11 @@ made_later calls m n (of_variable c s) le h = h
 made_later calls m n (of_exception e) le h = omega (arith, h, le)
 
 module _ (l : Layout) (p : Checked) (at : Places) where
-  -- where native exceptions are made too, it is said where their objects stand, and that the handlers kept with them can be called
+  -- where native exceptions are made too, it is said where their objects stand, and that what they are kept with can be called
   pub stands_with : (c d : SourceContext) (w w2 : SourceWorld) (s : State) (y : World) → y ≡ world_of p d w2 s.world.memory s.world.calls → w2.objects ≡ w.objects
       → w2.turns ≡ w.turns → w.last_number ≤ w2.last_number → IsSound d w2.last_number w2.live → AreHandlers p w2.installed
       → ((i e o : ℕ) (t : ObjectType) (kept : Installed) → slice_get w2.live i ≡ Some (record { number = e; exception = native t o kept })
-      → (at o ≡ Some (record { base = of_exception e; type = t })) × AreHandlers p kept)
+      → (at o ≡ Some (record { base = of_exception e; type = t })) × IsKept p t kept)
       → Stands l p at c w s → Stands l p at d w2 (record s { world = y })
   stands_with c d w w2 s y is objects turns later sound handlers natives h =
       subst (λ z. Stands l p at d w2 (record s { world = z })) (sym is) (record {
@@ -151,29 +154,8 @@ module _ (l : Layout) (p : Checked) (at : Places) where
   pub seen : (c : SourceContext) (w : SourceWorld) (s : State) → Stands l p at c w s → SameSeen w s
   seen c w s h = record { items = ap (λ y. y.items) h.world; replies = ap (λ y. y.replies) h.world; deepest = ap (λ y. y.deepest) h.world }
 
--- an exception that is entered leaves what is handled and what travels sound where none of both is there
 pub entries_stay_sound : EntriesStaySound
-entries_stay_sound c none e last lives made rests front h = record {
-  handled = λ f is. go f (held e f c.handled is);
-  travelling = h.travelling;
-  live = h.live;
-  together = (front, h.together);
-  front = λ f is. (ap (λ b. if b then only_front f c.handled else not (contains c.handled f)) (other f is) ∙ ap (λ b. not b) (none f is));
-}
-  where
-    go : (f : ℕ) → (f ≡ e) ⊎ (contains c.handled f ≡ true) → f ≤ last
-    go f (inl same) = omega (arith, same, made)
-    go f (inr is) = h.handled f is
-
-    other : (f : ℕ) → contains c.travelling f ≡ true → (e == f) ≡ false
-    other f is = which (e == f) refl
-      where
-        which : (b : Bool) → (e == f) ≡ b → b ≡ false
-        which true same = let number : f ≡ e = grind (arith, nat_tests, same) in absurd (true_not (sym is ∙ ap (contains c.travelling) number ∙ rests))
-          where
-            true_not : true ≡ false → ⊥
-            true_not e = cc e
-        which false same = refl
+entries_stay_sound c e last lives made front h = sound_handled e c made front h
 
 -- what follows where the world alone is changed, and no object
 abbrev pub follows_changed : (l : Layout) (p : Checked) (at : Places) (k : ℕ) (d : SourceContext) (w w2 : SourceWorld) (s : State) (y : World) → w2.objects ≡ w.objects

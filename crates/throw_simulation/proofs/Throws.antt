@@ -22,14 +22,14 @@ use Rattle.region_forms.specs.LowerExpression.{Lowering, result_slot, exception_
 use Rattle.region_forms.specs.LowerStatement.{variable_slot, thrown_as}
 use Rattle.region_simulation.specs.Places.{Places, Stood}
 use Rattle.region_simulation.specs.Reach.{Reaches}
-use Rattle.region_simulation.specs.Stands.{IsMade, Stands, context_of}
+use Rattle.region_simulation.specs.Stands.{IsMade, IsOfProgram, Stands, context_of}
 use Rattle.region_simulation.specs.Alike.{Keeps, Follows, Alike}
 use Rattle.region_simulation.specs.Flows.{FlowAgrees}
 use Rattle.region_simulation.specs.Expressions.{source_running}
 use Rattle.region_simulation.proofs.Following.{Agreement, follows_on, alike_less, alike_on, alike_then, reaches_kept}
 use Rattle.region_simulation.proofs.Storing.{same_number, other_number}
 use Rattle.throw_simulation.specs.Same.{RunAlike}
-use Rattle.throw_simulation.specs.Raises.{StaysSound, CanBeRaised, Never}
+use Rattle.throw_simulation.specs.Raises.{CanBeRaised, Never}
 use Rattle.throw_simulation.specs.Throws.{IsUnbuilt, IsBuilt, BuildsAlike, ThrowsAlike}
 use Rattle.throw_simulation.proofs.Standing.{stands_framed, follows_changed}
 use Rattle.throw_simulation.proofs.Ends.{ends_out, never_on, terminates as terminates_out}
@@ -44,7 +44,7 @@ abbrev freeing : ℕ → Result Flow → Result Flow
 freeing x y = continued (after_building x (continued y (λ flow. pure (outwards flow)))) (λ flow. pure (outwards flow))
 
 module _ (l : Lowering) (call : Callee → Reference → List SourceArgument → SourceContext → SourceAction ℤ) (b : Running) (c : SourceContext)
-    (same : RunAlike l.layout (source_running l call) b) (stays : StaysSound c) (laws : CaughtListFollows) where
+    (same : RunAlike l.layout (source_running l call) b) (laws : CaughtListFollows) where
   abbrev a : SourceRunning
   a = source_running l call
 
@@ -80,14 +80,14 @@ module _ (l : Lowering) (call : Callee → Reference → List SourceArgument →
   threw t ctx s = regions b (regions_from (op (throw_op (exception_slot l) (type_number t) (destructor_of l.program t)) ∷ [])) ctx s
 
   raised : {A : Type 0} (agree : Agreement A Flow) (t : ObjectType) (e o k : ℕ) (at : Places) (w : SourceWorld) (s : State) → Stands l.layout l.program at c w s
-      → s.frame.slots (exception_slot l) ≡ address_word (object_address e) → at o ≡ Some (record { base = of_exception e; type = t })
+      → s.frame.slots (exception_slot l) ≡ address_word (object_address e) → at o ≡ Some (record { base = of_exception e; type = t }) → IsOfProgram l.program t
       → contains c.travelling e ≡ false → contains c.handled e ≡ false
       → Alike l.layout l.program at k c w s agree ((keep e o >> raise_exception a e c) w) (threw t (context_of w.open_calls c) s)
-  raised {A} agree t e o k at w s stands slot placed rests unhandled =
+  raised {A} agree t e o k at w s stands slot placed known rests unhandled =
       let ctx = context_of w.open_calls c in
       let w2 = after_keeping l.layout l.program at c w s stands e o t placed in
       let after : ℕ → State = (λ n. record s { world = kept n (type_number t) (destructor_of l.program t) s.world }) in
-      let stands2 = kept_on l.layout l.program at c w s stands e o t placed in
+      let stands2 = kept_on l.layout l.program at c w s stands e o t placed known in
       let can : CanBeRaised c w2 e = record { made = stands.made o (record { base = of_exception e; type = t }) placed; rests = rests; front = front_unhandled e c.handled unhandled } in
       let address : exception_in_slot s.frame (exception_slot l) ≡ e = ap (λ x. exception_of (address_in x)) slot in
       let h = follows_changed l.layout l.program at k c w w2 s (after e).world refl refl refl stands2 in
@@ -97,10 +97,10 @@ module _ (l : Lowering) (call : Callee → Reference → List SourceArgument →
       (continued (continued (raise {A = Unit {0}} b e ctx (after e)) (λ u. pure normal)) (followed (pure normal)))
       (never_on l.layout a b same agree at k c w2 (after e) (raise_exception {A = A} a e c w2) (continued (raise {A = Unit {0}} b e ctx (after e)) (λ u. pure normal)) (followed (pure normal))
       (never_on l.layout a b same Never at k c w2 (after e) (raise_exception {A = A} a e c w2) (raise {A = Unit {0}} b e ctx (after e)) (λ u. pure normal)
-      (raises_out l.layout a b same laws A (Unit {0}) at c w2 (after e) stands2 e stays can Never k))))
+      (raises_out l.layout a b same laws A (Unit {0}) at c w2 (after e) stands2 e can Never k))))
 
   -- an exception object is made, then built, kept and raised
-  module _ (own : Option ℕ) (v : SourceFrame) (t : ObjectType) (build : SourceAction ℕ) (rs : List Region) (builds : BuildsAlike l own b v c t build rs)
+  module _ (own : Option ℕ) (v : SourceFrame) (t : ObjectType) (build : SourceAction ℕ) (rs : List Region) (known : IsOfProgram l.program t) (builds : BuildsAlike l own b v c t build rs)
       {A : Type 0} (agree : Agreement A Flow) (k : ℕ) (low : k ≤ exception_slot l)
       (at : Places) (w : SourceWorld) (s : State) (stands : Stands l.layout l.program at c w s) (reach : Reaches l own at v s.frame) where
     abbrev ctx : Context
@@ -172,7 +172,7 @@ module _ (l : Lowering) (call : Callee → Reference → List SourceArgument →
         (λ o flow w3 s3 h (fl, placed).
         subst (λ f. Alike l.layout l.program h.places (first_temporary l) c w3 s3 agree ((keep e o >> raise_exception a e c) w3) (followed (threw t ctx) f s3)) (sym fl)
         (subst (λ n. Alike l.layout l.program h.places (first_temporary l) c w3 s3 agree ((keep e o >> raise_exception a e c) w3) (threw t (context_of n c) s3)) h.open_calls
-        (raised agree t e o (first_temporary l) h.places w3 s3 h.stands (h.keeps.slots (exception_slot l) (omega arith) ∙ slot) placed
+        (raised agree t e o (first_temporary l) h.places w3 s3 h.stands (h.keeps.slots (exception_slot l) (omega arith) ∙ slot) placed known
         (new_number w.last_number c.travelling stands.sound.travelling) (new_number w.last_number c.handled stands.sound.handled)))))
 
     abbrev thrown_regions : Bool → Result Flow
@@ -199,6 +199,6 @@ module _ (l : Lowering) (call : Callee → Reference → List SourceArgument →
             (source_continued (source_after_building e (build made)) (λ o. keep e o >> raise_exception a e c)) (regions b (regions_from rest) ctx s2) building_on)
 
 pub throws_alike : CaughtListFollows → ThrowsAlike
-throws_alike laws l own gives call b v c same stays n i d t build rs builds at w s stands scope =
+throws_alike laws l own gives call b v c same n i d t build rs known builds at w s stands scope =
     let there = scope.there in
-    thrown_out l call b c same stays laws own v t build rs builds (FlowAgrees l gives i d) (variable_slot l n) (omega (arith, there)) at w s stands scope.reach
+    thrown_out l call b c same laws own v t build rs known builds (FlowAgrees l gives i d) (variable_slot l n) (omega (arith, there)) at w s stands scope.reach

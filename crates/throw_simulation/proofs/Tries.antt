@@ -20,12 +20,12 @@ use Rattle.region_simulation.specs.Flows.{FlowAgrees, InScope, DoesAlike}
 use Rattle.region_simulation.proofs.Following.{alike_on}
 use Rattle.region_simulation.proofs.Leaving.{follows_forgetting, scope_left}
 use Rattle.region_simulation.proofs.Flowing.{alike_after, outwards_agrees, single}
-use Rattle.throw_simulation.specs.Tries.{RestsBefore, CatchesAlike, TriesAlike}
+use Rattle.throw_simulation.specs.Tries.{CanBeCaught, CatchesAlike, TriesAlike}
 use Rattle.throw_simulation.proofs.Standing.{stands_guarded, stands_outside}
 use Rattle.throw_simulation.proofs.Barriers.{follows_outside}
 
 module _ (l : Lowering) (own : Option ℕ) (gives : Bool) (b : Running) (v : SourceFrame) (c : SourceContext) (n i d : ℕ) (lt : i < d) (clauses : List Clause) (cs : Clauses)
-    (act : SourceAction SourceFlow) (rs : List Region) (handled : ℕ → SourceAction SourceFlow) (rests : RestsBefore (guarded_by (try_block clauses) c) act)
+    (act : SourceAction SourceFlow) (rs : List Region) (handled : ℕ → SourceAction SourceFlow) (fresh : CanBeCaught (guarded_by (try_block clauses) c) act)
     (does : DoesAlike l own gives b v (guarded_by (try_block clauses) c) n i (d + 2) act rs) (catches : CatchesAlike l own gives b v c n i (d + 1) handled cs)
     (at : Places) (w : SourceWorld) (s : State) (stands : Stands l.layout l.program at c w s) (scope : InScope l own n at v s) where
   abbrev k : ℕ
@@ -57,12 +57,13 @@ module _ (l : Lowering) (own : Option ℕ) (gives : Bool) (b : Running) (v : Sou
   tried (source_done u w2) is y (flow, s2, same, (h, agrees)) =
       (flow, s2, ap (after_try (caught b cs ctx)) same, (follows_outside l.layout l.program (try_block clauses) at k w s c w2 s2 h, agrees))
   tried (source_stopped (thrown e) w2) is y (s2, same, h) =
+      let comes = fresh w w2 e stands_inside.sound is in
       let g = follows_forgetting l.layout l.program at k inside w s (with_travelling e inside) w2 s2 h in
       let standing = stands_outside l.layout l.program g.places (try_block clauses) (with_travelling e c) w2 s2 g.stands in
       subst (λ z. Alike l.layout l.program at k c w s (FlowAgrees l gives i (d + 1)) (handled e w2) z) (sym (ap (after_try (caught b cs ctx)) same))
       (alike_on l.layout l.program (FlowAgrees l gives i (d + 1)) at k c (with_travelling e inside) w s w2 s2 g (handled e w2) (caught b cs ctx e s2)
       (subst (λ m. Alike l.layout l.program g.places k c w2 s2 (FlowAgrees l gives i (d + 1)) (handled e w2) (caught b cs (context_of m c) e s2)) h.open_calls
-      (catches e g.places w2 s2 standing (scope_left l own v n at w s inside (with_travelling e inside) w2 s2 stands_inside h scope) (rests w w2 e stands_inside.sound is))))
+      (catches e g.places w2 s2 standing (scope_left l own v n at w s inside (with_travelling e inside) w2 s2 stands_inside h scope) (record { rests = comes.rests; front = comes.front }))))
   tried (source_stopped (cancelled q) w2) is y (s2, same, h) = (s2, ap (after_try (caught b cs ctx)) same, follows_outside l.layout l.program (try_block clauses) at k w s c w2 s2 h)
   tried (source_stopped undefined w2) is y h = tt
   tried (source_stopped (ended x) w2) is y (s2, same, h) = (s2, ap (after_try (caught b cs ctx)) same, h)
@@ -79,5 +80,5 @@ module _ (l : Lowering) (own : Option ℕ) (gives : Bool) (b : Running) (v : Sou
       (outwards_agrees l gives i d lt) (tried (act w) refl inner body)))
 
 pub tries_alike : TriesAlike
-tries_alike l own gives b v c n i d lt clauses cs types act rs handled rests does catches at w s stands scope =
-    try_done l own gives b v c n i d lt clauses cs act rs handled rests does catches at w s stands scope types
+tries_alike l own gives b v c n i d lt clauses cs types act rs handled fresh does catches at w s stands scope =
+    try_done l own gives b v c n i d lt clauses cs act rs handled fresh does catches at w s stands scope types

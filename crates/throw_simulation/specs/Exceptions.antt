@@ -29,7 +29,7 @@ use Rattle.region_simulation.specs.Statements.{CanThrow, AreTypedStatements, Are
 use Rattle.throw_simulation.specs.Throws.{InEachContext}
 use Rattle.throw_simulation.specs.Scopes.{LeadsTo}
 use Rattle.throw_simulation.specs.Fares.{CallsFare}
-use Rattle.throw_simulation.specs.Handlers.{EmptyDestructor, MissingDestructors}
+use Rattle.throw_simulation.specs.Handlers.{EmptyDestructor}
 use Rattle.throw_simulation.specs.Catches.{BlockDoes, BlocksDo}
 
 -- every throw does the same
@@ -41,7 +41,7 @@ AllThrowsDoAlike = InEachContext (λ l own gives call b v c.
 -- every try block does, where its statements and those of its handlers do
 abbrev pub AllTriesDoAlike : Type 0
 AllTriesDoAlike = InEachContext (λ l own gives call b v c.
-    KindsFit l b.kinds → CallsFare (source_running l call) → EmptyDestructor l.layout (source_running l call) b → MissingDestructors l.layout (source_running l call) b
+    KindsFit l b.kinds → CallsFare (source_running l call) → EmptyDestructor l.layout (source_running l call) b
     → (n i d : ℕ) (ss : Statements) (hs : Handlers) → i < d → BlockDoes l own gives call b ss → BlocksDo l own gives call b hs
     → AreTypedStatements l own gives ss v.variables n → AreTypedHandlers l own gives hs v.variables (n + length (all_declared_in ss))
     → DoesAlike l own gives b v c n i d

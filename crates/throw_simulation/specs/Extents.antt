@@ -1,10 +1,10 @@
 -- That what a specification does with an exception that it stops comes out alike (ISO/IEC 14882:2003, 15.5.2).
-use Rattle.std.specs.Prelude.{◌≡◌, ℕ, ◌+◌, ◌<◌, ℤ, Bool, true, false, List, [], ◌∷◌, map, Option, Some}
+use Rattle.std.specs.Prelude.{ℕ, ◌+◌, ◌<◌, ℤ, Bool, List, [], ◌∷◌, map, Option, Some}
 use Rattle.cxx_ast.specs.declared.types.Ty.{Ty}
 use Rattle.cxx_ast.specs.Plain.{Function, Statements}
-use Rattle.scope_rules.specs.Class.{contains, object_type}
+use Rattle.scope_rules.specs.Class.{object_type}
 use Rattle.scope_rules.specs.World.{World as SourceWorld, Reference}
-use Rattle.scope_rules.specs.Context.{Context as SourceContext, specification, guarded_by, handling}
+use Rattle.scope_rules.specs.Context.{Context as SourceContext, specification, guarded_by}
 use Rattle.scope_rules.specs.Outcome.{Action as SourceAction, Flow as SourceFlow}
 use Rattle.scope_rules.specs.Frame.{Frame as SourceFrame}
 use Rattle.scope_rules.specs.Running.{Running as SourceRunning, Argument as SourceArgument, Callee, constructor}
@@ -27,9 +27,9 @@ use Rattle.region_simulation.specs.Alike.{Alike}
 use Rattle.region_simulation.specs.Flows.{FlowAgrees, DoesAlike}
 use Rattle.region_simulation.specs.Expressions.{source_running}
 use Rattle.throw_simulation.specs.Same.{RunAlike}
-use Rattle.throw_simulation.specs.Raises.{StaysSound, Never}
+use Rattle.throw_simulation.specs.Raises.{Never}
 use Rattle.throw_simulation.specs.Scopes.{Any}
-use Rattle.throw_simulation.specs.Handlers.{EmptyDestructor, MissingDestructors}
+use Rattle.throw_simulation.specs.Handlers.{EmptyDestructor}
 use Rattle.throw_simulation.specs.Throws.{InEachContext}
 use Rattle.throw_simulation.specs.Fares.{FaresIn, CallsFare}
 
@@ -43,26 +43,16 @@ EmptyConstructor l a b =
 abbrev pub BadExceptionsAlike : Type 0
 BadExceptionsAlike =
     (l : Layout) (a : SourceRunning) (b : Running) → RunAlike l a b → EmptyConstructor l a b → (at : Places) (k : ℕ) (c : SourceContext) (w : SourceWorld) (s : State)
-    → Stands l a.program at c w s → StaysSound c
+    → Stands l a.program at c w s
     → Alike l a.program at k c w s Never (throw_new {A = ℤ} a c (new_bad_exception a c) w) (throw_bad {A = ℤ} b (context_of w.open_calls c) s)
-
--- Entries stay sound, also of an exception that a specification stops, and in its handler of another that came out of the unexpected handler.
-pub record StaySoundWithin (c : SourceContext) : Type 0 where
-  pub outside : StaysSound c
-  pub stopped : (e : ℕ) → contains c.travelling e ≡ false → StaysSound (handling e c)
-  pub again : (e f : ℕ) → contains c.travelling e ≡ false → contains c.travelling f ≡ false → StaysSound (handling f (handling e c))
-
--- so it is where no exception that travels is handled
-abbrev pub ExtentsStaySound : Type 0
-ExtentsStaySound = (c : SourceContext) → ((e : ℕ) → contains c.travelling e ≡ true → contains c.handled e ≡ false) → StaySoundWithin c
 
 -- What is done under a specification: an exception that it does not allow is entered, the unexpected handler kept with it is called, and what
 -- comes out of that is thrown on, or a bad_exception in its place, or terminate is called.
 abbrev pub ExtentsAlike : Type 0
 ExtentsAlike =
     (l : Lowering) (gives : Bool) (i d : ℕ) → i < d → (a : SourceRunning) (b : Running) → RunAlike l.layout a b → CallsFare a
-    → EmptyDestructor l.layout a b → MissingDestructors l.layout a b → EmptyConstructor l.layout a b
-    → (at : Places) (k : ℕ) (c : SourceContext) (w : SourceWorld) (s : State) → Stands l.layout a.program at c w s → StaySoundWithin c
+    → EmptyDestructor l.layout a b → EmptyConstructor l.layout a b
+    → (at : Places) (k : ℕ) (c : SourceContext) (w : SourceWorld) (s : State) → Stands l.layout a.program at c w s
     → (listed : List Ty) (act : SourceContext → SourceAction SourceFlow) (body : Region)
     → FaresIn a.program (guarded_by (specification (map object_type listed)) c) (act (guarded_by (specification (map object_type listed)) c))
     → Alike l.layout a.program at k (guarded_by (specification (map object_type listed)) c) w s (FlowAgrees l gives i (d + 1))
@@ -73,7 +63,7 @@ ExtentsAlike =
 -- so the extent of a specification in a function does the same
 abbrev pub ExtentsDoAlike : Type 0
 ExtentsDoAlike = InEachContext (λ l own gives call b v c.
-    StaySoundWithin c → CallsFare (source_running l call) → EmptyDestructor l.layout (source_running l call) b → MissingDestructors l.layout (source_running l call) b
+    CallsFare (source_running l call) → EmptyDestructor l.layout (source_running l call) b
     → EmptyConstructor l.layout (source_running l call) b
     → (n i d : ℕ) (listed : List Ty) (act : SourceContext → SourceAction SourceFlow) (rs : List Region) → i < d
     → FaresIn l.program (guarded_by (specification (map object_type listed)) c) (act (guarded_by (specification (map object_type listed)) c))
@@ -97,5 +87,5 @@ pub record SpecificationsDo (l : Lowering) (own : Option ℕ) (gives : Bool) (ca
 -- every extent does the same, where calls of the source keep what is known of exceptions
 abbrev pub AllExtentsDoAlike : Type 0
 AllExtentsDoAlike = InEachContext (λ l own gives call b v c.
-    StaySoundWithin c → CallsFare (source_running l call) → EmptyDestructor l.layout (source_running l call) b → MissingDestructors l.layout (source_running l call) b
+    CallsFare (source_running l call) → EmptyDestructor l.layout (source_running l call) b
     → EmptyConstructor l.layout (source_running l call) b → SpecificationsDo l own gives call b v c)

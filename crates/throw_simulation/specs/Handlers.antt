@@ -1,5 +1,5 @@
 -- That exceptions are entered and left alike (ISO/IEC 14882:2003, 15.1, 15.3; Itanium C++ ABI: Exception Handling, 2.5.3, 2.5.4).
-use Rattle.std.specs.Prelude.{◌≡◌, ℕ, ◌+◌, ◌<◌, ◌≤◌, Bool, true, false, List, [], length}
+use Rattle.std.specs.Prelude.{◌≡◌, ℕ, ◌+◌, ◌<◌, Bool, true, false, []}
 use Rattle.scope_rules.specs.Class.{contains}
 use Rattle.scope_rules.specs.World.{World as SourceWorld, Reference}
 use Rattle.scope_rules.specs.Context.{Context as SourceContext, handling, with_travelling}
@@ -9,8 +9,7 @@ use Rattle.scope_rules.specs.Handler.{enter as source_enter, while_handled}
 use Rattle.region_forms.specs.Caught.{only_front}
 use Rattle.region_forms.specs.Form.{enter, leave_handler, Region, protect}
 use Rattle.region_forms.specs.Layout.{Layout}
-use Rattle.region_forms.specs.World.{Word, exception_in_slot}
-use Rattle.region_forms.specs.Numbering.{number_of}
+use Rattle.region_forms.specs.World.{exception_in_slot}
 use Rattle.region_forms.specs.LowerExpression.{Lowering}
 use Rattle.region_forms.specs.Outcome.{State}
 use Rattle.region_forms.specs.Ending.{Running, empty_call}
@@ -20,15 +19,19 @@ use Rattle.region_simulation.specs.Stands.{Stands, context_of}
 use Rattle.region_simulation.specs.Alike.{Alike}
 use Rattle.region_simulation.specs.Flows.{FlowAgrees}
 use Rattle.throw_simulation.specs.Same.{RunAlike}
-use Rattle.throw_simulation.specs.Raises.{StaysSound}
 use Rattle.throw_simulation.specs.Barred.{StaysInside, CallsAreBarred}
 use Rattle.throw_simulation.specs.Scopes.{Any}
+
+-- an exception can be entered where it comes out: it travelled not before, and if it is handled, its handlers are the newest
+pub record CanBeEntered (c : SourceContext) (e : ℕ) : Type 0 where
+  pub rests : contains c.travelling e ≡ false
+  pub front : only_front e c.handled ≡ true
 
 -- an exception that came out, and travels, is entered; entering a foreign one while another is handled terminates
 abbrev pub EntersAlike : Type 0
 EntersAlike =
     (l : Layout) (a : SourceRunning) (b : Running) → RunAlike l a b → (at : Places) (k : ℕ) (c : SourceContext) (w : SourceWorld) (s : State) (e slot : ℕ)
-    → Stands l a.program at (with_travelling e c) w s → StaysSound c → contains c.travelling e ≡ false → only_front e c.handled ≡ true → exception_in_slot s.frame slot ≡ e
+    → Stands l a.program at (with_travelling e c) w s → CanBeEntered c e → exception_in_slot s.frame slot ≡ e
     → StaysInside (source_enter a e c w) ×
     Alike l a.program at k (handling e c) w s Any (source_enter a e c w) (operation b (enter slot) (context_of w.open_calls c) s)
 
@@ -38,19 +41,12 @@ EmptyDestructor l a b =
     (this : Reference) (at : Places) (k : ℕ) (c : SourceContext) (w : SourceWorld) (s : State) → Stands l a.program at c w s
     → Alike l a.program at k c w s Any (a.call (destructor 0) this [] c w) (empty_call b (context_of w.open_calls c) s)
 
--- a call of the destructor of a class that is not there does nothing, on either side
-abbrev pub MissingDestructors : Layout → SourceRunning → Running → Type 0
-MissingDestructors l a b =
-    (j : ℕ) → length a.program.classes ≤ j → (this : Reference) (given : List Word) (at : Places) (k : ℕ) (c : SourceContext) (w : SourceWorld) (s : State)
-    → Stands l a.program at c w s
-    → Alike l a.program at k c w s Any (a.call (destructor j) this [] c w) (b.call (number_of a.program (destructor j)) given (context_of w.open_calls c) s)
-
 -- What is done while an exception is handled, and then its leaving: it is given back where no handler of it is left and it does not travel
 -- again.
 abbrev pub HandlersEndAlike : Type 0
 HandlersEndAlike =
     (l : Lowering) (gives : Bool) (i d : ℕ) → i < d → (a : SourceRunning) (b : Running) → RunAlike l.layout a b → CallsAreBarred a
-    → EmptyDestructor l.layout a b → MissingDestructors l.layout a b
+    → EmptyDestructor l.layout a b
     → (at : Places) (k : ℕ) (c : SourceContext) (w : SourceWorld) (s : State) (e : ℕ) → Stands l.layout a.program at (handling e c) w s → contains c.travelling e ≡ false
     → (act : SourceContext → SourceAction SourceFlow) (body : Region)
     → Alike l.layout a.program at k (handling e c) w s (FlowAgrees l gives i (d + 1)) (act (handling e c) w) (region b body (context_of w.open_calls c) s)

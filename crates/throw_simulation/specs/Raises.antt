@@ -24,14 +24,10 @@ use Rattle.region_simulation.specs.Evaluates.{Evaluates}
 use Rattle.region_simulation.specs.Expressions.{source_running, SameBuiltin}
 use Rattle.throw_simulation.specs.Same.{RunAlike}
 
--- where an exception is entered that was made, does not travel, and has no handler beneath others, what is handled and what travels stays sound
-abbrev pub StaysSound : SourceContext → Type 0
-StaysSound c =
-    (e last : ℕ) (lives : List Live) → e ≤ last → contains c.travelling e ≡ false → only_front e c.handled ≡ true → IsSound c last lives → IsSound (handling e c) last lives
-
--- so it is where no exception that travels is handled
+-- where an exception is entered that was made, and has no handler beneath those of others, what is handled and what travels stays sound
 abbrev pub EntriesStaySound : Type 0
-EntriesStaySound = (c : SourceContext) → ((e : ℕ) → contains c.travelling e ≡ true → contains c.handled e ≡ false) → StaysSound c
+EntriesStaySound =
+    (c : SourceContext) (e last : ℕ) (lives : List Live) → e ≤ last → only_front e c.handled ≡ true → IsSound c last lives → IsSound (handling e c) last lives
 
 -- an exception can be raised: it was made, it does not travel, and if it is handled, its handlers are the newest
 pub record CanBeRaised (c : SourceContext) (w : SourceWorld) (e : ℕ) : Type 0 where
@@ -47,19 +43,19 @@ Never a b w at s = ⊥
 abbrev pub RaisesAlike : Type 0
 RaisesAlike =
     (l : Layout) (a : SourceRunning) (b : Running) → RunAlike l a b → (at : Places) (k : ℕ) (c : SourceContext) (w : SourceWorld) (s : State) (e : ℕ)
-    → Stands l a.program at c w s → StaysSound c → CanBeRaised c w e
+    → Stands l a.program at c w s → CanBeRaised c w e
     → Alike l a.program at k c w s Never (raise_exception {A = ℤ} a e c w) (raise {A = ℤ} b e (context_of w.open_calls c) s)
 
 -- the two built-in functions that may raise or terminate do the same
 abbrev pub ModulesAnswerAlike : Type 0
 ModulesAnswerAlike =
     (l : Lowering) (own : Option ℕ) (call : Callee → Reference → List SourceArgument → SourceContext → SourceAction ℤ) (b : Running) (v : SourceFrame) (c : SourceContext)
-    → KindsFit l b.kinds → RunAlike l.layout (source_running l call) b → StaysSound c
+    → KindsFit l b.kinds → RunAlike l.layout (source_running l call) b
     → SameBuiltin l own call b v c Terminate × SameBuiltin l own call b v c Module
 
 -- so every typed expression evaluates to what it means, with nothing asked of built-in functions
 abbrev pub AllExpressionsEvaluate : Type 0
 AllExpressionsEvaluate =
     (l : Lowering) (own : Option ℕ) (call : Callee → Reference → List SourceArgument → SourceContext → SourceAction ℤ) (b : Running) (v : SourceFrame) (c : SourceContext)
-    → KindsFit l b.kinds → RunAlike l.layout (source_running l call) b → StaysSound c → (e : Expression) (t : ℕ) → first_temporary l ≤ t → IsTyped l own v.variables e
+    → KindsFit l b.kinds → RunAlike l.layout (source_running l call) b → (e : Expression) (t : ℕ) → first_temporary l ≤ t → IsTyped l own v.variables e
     → Evaluates l own b v c t (value_of (source_running l call) v e c) (lower l e t)

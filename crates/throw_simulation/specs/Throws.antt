@@ -16,12 +16,11 @@ use Rattle.region_forms.specs.LowerExpression.{Lowering, exception_slot, first_t
 use Rattle.region_forms.specs.LowerStatement.{thrown_as}
 use Rattle.region_simulation.specs.Places.{Places, Stood}
 use Rattle.region_simulation.specs.Reach.{Reaches}
-use Rattle.region_simulation.specs.Stands.{Stands, context_of}
+use Rattle.region_simulation.specs.Stands.{IsOfProgram, Stands, context_of}
 use Rattle.region_simulation.specs.Alike.{Alike}
 use Rattle.region_simulation.specs.Expressions.{source_running}
 use Rattle.region_simulation.specs.Flows.{DoesAlike}
 use Rattle.throw_simulation.specs.Same.{RunAlike}
-use Rattle.throw_simulation.specs.Raises.{StaysSound}
 
 -- the object that is the answer is that of exception e, of type t
 abbrev pub IsBuilt : ℕ → ObjectType → ℕ → Flow → SourceWorld → Places → State → Type 0
@@ -39,17 +38,17 @@ BuildsAlike l own b v c t build rs =
     → s.frame.slots (exception_slot l) ≡ address_word (object_address e) → e ≤ w.last_number → IsUnbuilt e w → ((o : ℕ) (x : Stood) → at o ≡ Some x → x.base ≡ of_exception e → ⊥)
     → Alike l.layout l.program at (first_temporary l) c w s (IsBuilt e t) (build w) (regions b (regions_from rs) (context_of w.open_calls c) s)
 
--- what is said in each call of each function, in every context in which entries stay sound
+-- what is said in each call of each function, in every context
 abbrev pub InEachContext : (Lowering → (own : Option ℕ) → (gives : Bool) → (Callee → Reference → List SourceArgument → SourceContext → SourceAction ℤ) → Running → SourceFrame → SourceContext → Type 0) → Type 0
 InEachContext said =
     (l : Lowering) (own : Option ℕ) (gives : Bool) (call : Callee → Reference → List SourceArgument → SourceContext → SourceAction ℤ) (b : Running) (v : SourceFrame) (c : SourceContext)
-    → RunAlike l.layout (source_running l call) b → StaysSound c → said l own gives call b v c
+    → RunAlike l.layout (source_running l call) b → said l own gives call b v c
 
--- An object is thrown as it is built: an exception object is made, built, kept as one of the type, and raised. Where building exits by an
+-- An object of a type of the program is thrown as it is built: an exception object is made, built, kept as one of the type, and raised. Where building exits by an
 -- exception or a forced unwind, the exception object is freed.
 abbrev pub ThrowsAlike : Type 0
 ThrowsAlike = InEachContext (λ l own gives call b v c.
-    (n i d : ℕ) (t : ObjectType) (build : SourceAction ℕ) (rs : List Region) → BuildsAlike l own b v c t build rs
+    (n i d : ℕ) (t : ObjectType) (build : SourceAction ℕ) (rs : List Region) → IsOfProgram l.program t → BuildsAlike l own b v c t build rs
     → DoesAlike l own gives b v c n i d (throw_new (source_running l call) c build) (thrown_as l t rs))
 
 -- the newest handled exception is thrown again

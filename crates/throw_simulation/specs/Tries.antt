@@ -1,6 +1,5 @@
 -- That try blocks do the same (ISO/IEC 14882:2003, 15.3).
-use Rattle.std.specs.Prelude.{◌≡◌, ℕ, ◌+◌, ◌<◌, Bool, false, List, [], ◌∷◌, map, Option}
-use Rattle.scope_rules.specs.Class.{contains}
+use Rattle.std.specs.Prelude.{◌≡◌, ℕ, ◌+◌, ◌<◌, Bool, List, [], ◌∷◌, map, Option}
 use Rattle.scope_rules.specs.World.{World as SourceWorld}
 use Rattle.scope_rules.specs.Context.{Context as SourceContext, Clause, try_block, guarded_by, with_travelling}
 use Rattle.scope_rules.specs.Frame.{Frame as SourceFrame}
@@ -17,15 +16,16 @@ use Rattle.region_simulation.specs.Places.{Places}
 use Rattle.region_simulation.specs.Stands.{clause_of, context_of, IsSound, Stands}
 use Rattle.region_simulation.specs.Alike.{Alike}
 use Rattle.region_simulation.specs.Flows.{FlowAgrees, InScope, DoesAlike}
+use Rattle.throw_simulation.specs.Handlers.{CanBeEntered}
 
--- an exception that comes out travelled not before, wherever what is live, handled or travelling was made
-abbrev pub RestsBefore : {A : Type 0} → SourceContext → SourceAction A → Type 0
-RestsBefore c act = (w w2 : SourceWorld) (e : ℕ) → IsSound c w.last_number w.live → act w ≡ stopped (thrown e) w2 → contains c.travelling e ≡ false
+-- an exception that comes out of an action can be entered, wherever what is live, handled or travelling was made
+abbrev pub CanBeCaught : {A : Type 0} → SourceContext → SourceAction A → Type 0
+CanBeCaught c act = (w w2 : SourceWorld) (e : ℕ) → IsSound c w.last_number w.live → act w ≡ stopped (thrown e) w2 → CanBeEntered c e
 
 -- clauses do with an exception that comes out, and travels, what an action does
 abbrev pub CatchesAlike : Lowering → (own : Option ℕ) → (gives : Bool) → Running → SourceFrame → SourceContext → (n i d : ℕ) → (ℕ → SourceAction SourceFlow) → Clauses → Type 0
 CatchesAlike l own gives b v c n i d handled cs =
-    (e : ℕ) (at : Places) (w : SourceWorld) (s : State) → Stands l.layout l.program at (with_travelling e c) w s → InScope l own n at v s → contains c.travelling e ≡ false
+    (e : ℕ) (at : Places) (w : SourceWorld) (s : State) → Stands l.layout l.program at (with_travelling e c) w s → InScope l own n at v s → CanBeEntered c e
     → Alike l.layout l.program at (variable_slot l n) c w s (FlowAgrees l gives i d) (handled e w) (caught b cs (context_of w.open_calls c) e s)
 
 -- so a try block does the same, over whatever is done in it and whatever is done with what comes out
@@ -33,6 +33,6 @@ abbrev pub TriesAlike : Type 0
 TriesAlike =
     (l : Lowering) (own : Option ℕ) (gives : Bool) (b : Running) (v : SourceFrame) (c : SourceContext) (n i d : ℕ) → i < d
     → (clauses : List Clause) (cs : Clauses) → types_of cs ≡ map clause_of clauses → (act : SourceAction SourceFlow) (rs : List Region) (handled : ℕ → SourceAction SourceFlow)
-    → RestsBefore (guarded_by (try_block clauses) c) act → DoesAlike l own gives b v (guarded_by (try_block clauses) c) n i (d + 2) act rs
+    → CanBeCaught (guarded_by (try_block clauses) c) act → DoesAlike l own gives b v (guarded_by (try_block clauses) c) n i (d + 2) act rs
     → CatchesAlike l own gives b v c n i (d + 1) handled cs
     → DoesAlike l own gives b v c n i d (λ w. after_try handled (act w)) (catch (in_order rs) cs ∷ [])

@@ -4,7 +4,7 @@ ghost use Rattle.throw_simulation.specs.Copies.{CopiesAlike};
 ghost use Rattle.throw_simulation.specs.Doomed.{CheckedClassesAreOrdered, DoomedAlike};
 ghost use Rattle.throw_simulation.specs.Ends.{TerminatesAlike};
 ghost use Rattle.throw_simulation.specs.Exceptions.{AllPlacesLead, AllThrowsDoAlike, AllTriesDoAlike, ScopesDoAlike};
-ghost use Rattle.throw_simulation.specs.Extents.{AllExtentsDoAlike, BadExceptionsAlike, ExtentsAlike, ExtentsDoAlike, ExtentsStaySound};
+ghost use Rattle.throw_simulation.specs.Extents.{AllExtentsDoAlike, BadExceptionsAlike, ExtentsAlike, ExtentsDoAlike};
 ghost use Rattle.throw_simulation.specs.Fares.{AllCallsFare, FaringCallsAreBarred};
 ghost use Rattle.throw_simulation.specs.Handlers.{EntersAlike, HandlersEndAlike};
 ghost use Rattle.throw_simulation.specs.Operands.{OperandsThrowAlike};
@@ -31,7 +31,7 @@ pub fn terminates_alike()
     ensures { TerminatesAlike }
 {}
 
-/// Where no exception that travels is handled, one that is entered leaves what is handled and what travels sound.
+/// An exception that is entered leaves what is handled and what travels sound, where it has no handler beneath those of others.
 pub fn entries_stay_sound()
     ensures { EntriesStaySound }
 {}
@@ -97,7 +97,7 @@ pub fn handlers_end_alike()
     caught_list_follows();
 }
 
-/// An object is thrown alike, over whatever builds it: an exception object is made, built, kept as one of its type, and raised. It is freed where
+/// An object of a type of the program is thrown alike, over whatever builds it: an exception object is made, built, kept as one of its type, and raised. It is freed where
 /// building exits by an exception or a forced unwind; where as many exceptions are live as can be, terminate is called.
 pub fn throws_alike()
     ensures { ThrowsAlike }
@@ -138,7 +138,7 @@ pub fn handlers_catch_alike()
     caught_list_follows();
 }
 
-/// A try block of statements with handlers does the same, where no exception that travels comes out of its statements.
+/// A try block of statements with handlers does the same, where each exception that comes out of its statements can be entered.
 pub fn try_blocks_do_alike()
     ensures { TryBlocksDoAlike }
 {
@@ -210,8 +210,3 @@ pub fn all_extents_do_alike()
 {
     caught_list_follows();
 }
-
-/// Entries stay sound under a specification too, where no exception that travels is handled.
-pub fn extents_stay_sound()
-    ensures { ExtentsStaySound }
-{}
