@@ -1,2 +1,3 @@
 pub mod Scopes
 pub mod Destructors
+pub mod Lowered

@@ -1,5 +1,6 @@
 // Laws of lowering: calls of no effect, whose contracts state what holds of every program.
 ghost use Rattle.source_simulation.specs.Destructors.{EmptyDestructorsAreSame};
+ghost use Rattle.source_simulation.specs.Lowered.{ProgramsAreLowered};
 ghost use Rattle.source_simulation.specs.Scopes.{ObjectScopesAreSame, PartsAreSame};
 
 /// Scopes of parts of objects, and what is done until an object is complete, are the same, with calls that do the same.
@@ -15,4 +16,10 @@ pub fn object_scopes_are_same()
 /// So is the destruction of a `std::bad_exception`, with any fuel: a call that does nothing but open and close.
 pub fn empty_destructors_are_same()
     ensures { EmptyDestructorsAreSame }
+{}
+
+/// Each callee of a program has its number among the functions of regions that the program is lowered to, main as one that stores 0 behind its
+/// body.
+pub fn programs_are_lowered()
+    ensures { ProgramsAreLowered }
 {}
