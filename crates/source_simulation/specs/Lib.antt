@@ -1,3 +1,5 @@
 pub mod Scopes
 pub mod Destructors
 pub mod Lowered
+pub mod Forms
+pub mod Sources

@@ -1,5 +1,6 @@
 // Laws of lowering: calls of no effect, whose contracts state what holds of every program.
-ghost use Rattle.source_simulation.specs.Destructors.{EmptyDestructorsAreSame};
+ghost use Rattle.source_simulation.specs.Destructors.{EmptyConstructorsAreSame, EmptyDestructorsAreSame};
+ghost use Rattle.source_simulation.specs.Forms.{CheckedProgramsAreOrdered};
 ghost use Rattle.source_simulation.specs.Lowered.{ProgramsAreLowered};
 ghost use Rattle.source_simulation.specs.Scopes.{ObjectScopesAreSame, PartsAreSame};
 
@@ -22,4 +23,14 @@ pub fn empty_destructors_are_same()
 /// body.
 pub fn programs_are_lowered()
     ensures { ProgramsAreLowered }
+{}
+
+/// The classes of a checked program stand behind those of their parts, `std::bad_exception` in front of all.
+pub fn checked_programs_are_ordered()
+    ensures { CheckedProgramsAreOrdered }
+{}
+
+/// A `std::bad_exception` is built, with any fuel, by a call that does nothing but open and close.
+pub fn empty_constructors_are_same()
+    ensures { EmptyConstructorsAreSame }
 {}
