@@ -2,7 +2,7 @@
 use Rattle.std.proofs.Common.{ℕ, ◌+◌, Bool, [], Option, Some, arith, map, length}
 use Rattle.scope_rules.specs.Call.{statements_in, body_of as source_body_of, construction, destruction}
 use Rattle.scope_rules.specs.Class.{object_type, parts_of}
-use Rattle.scope_rules.specs.Context.{Context as SourceContext, specification, guarded_by}
+use Rattle.scope_rules.specs.Context.{specification, guarded_by}
 use Rattle.scope_rules.specs.Frame.{Frame as SourceFrame}
 use Rattle.scope_rules.specs.Statement.{statements as source_statements}
 use Rattle.region_forms.specs.Ending.{Running}
@@ -14,22 +14,22 @@ use Rattle.region_simulation.specs.Expressions.{source_running}
 use Rattle.statement_simulation.specs.Calls.{SameExtents}
 use Rattle.statement_simulation.specs.Members.{SameMemberExtents}
 use Rattle.statement_simulation.specs.Statements.{SourceCalls}
-use Rattle.throw_simulation.specs.Extents.{StaySoundWithin, EmptyConstructor}
+use Rattle.throw_simulation.specs.Extents.{EmptyConstructor}
 use Rattle.throw_simulation.specs.Fares.{CallsFare}
-use Rattle.throw_simulation.specs.Handlers.{EmptyDestructor, MissingDestructors}
+use Rattle.throw_simulation.specs.Handlers.{EmptyDestructor}
 use Rattle.throw_simulation.specs.Same.{RunAlike}
 use Rattle.throw_simulation.proofs.Extents.{extents_do_alike}
 use Rattle.throw_simulation.proofs.FaringCalls.{construction_fares, destroy_parts_fares}
 use Rattle.throw_simulation.proofs.FaringTrees.{statements_fares}
 
-module _ (laws : CaughtListFollows) (stays : (c : SourceContext) → StaySoundWithin c) (l : Lowering) (call : SourceCalls) (b : Running) (run : RunAlike l.layout (source_running l call) b)
-    (fare : CallsFare (source_running l call)) (empty : EmptyDestructor l.layout (source_running l call) b) (missing : MissingDestructors l.layout (source_running l call) b)
+module _ (laws : CaughtListFollows) (l : Lowering) (call : SourceCalls) (b : Running) (run : RunAlike l.layout (source_running l call) b)
+    (fare : CallsFare (source_running l call)) (empty : EmptyDestructor l.layout (source_running l call) b)
     (built : EmptyConstructor l.layout (source_running l call) b) where
   pub extents : (own : Option ℕ) (gives : Bool) → SameExtents l own gives call b
   extents own gives v c n listed ss does typed =
       let r = source_running l call in
       let inside = guarded_by (specification (map object_type listed)) c in
-      extents_do_alike laws l own gives call b v c run (stays c).outside (stays c) fare empty missing built n 0 1 listed (source_statements r ss v) (statements l ss 0 n (1 + 2)) (omega arith)
+      extents_do_alike laws l own gives call b v c run fare empty built n 0 1 listed (source_statements r ss v) (statements l ss 0 n (1 + 2)) (omega arith)
       (statements_fares r ss v inside fare).at (does v inside n 0 (1 + 2) (omega arith) typed)
 
   pub member_extents : (k : ℕ) (gives : Bool) → SameMemberExtents l k gives call b
@@ -38,12 +38,12 @@ module _ (laws : CaughtListFollows) (stays : (c : SourceContext) → StaySoundWi
       record {
         constructions = λ v c f listed does.
             let inside = guarded_by (specification (map object_type listed)) c in
-            extents_do_alike laws l (Some k) gives call b v c run (stays c).outside (stays c) fare empty missing built (length f.parameters) 0 1 listed (construction r k f v)
+            extents_do_alike laws l (Some k) gives call b v c run fare empty built (length f.parameters) 0 1 listed (construction r k f v)
             (body_of l f.kind k f (1 + 2)) (omega arith) (construction_fares r k f v inside fare).at (does inside (1 + 2) (omega arith));
         destructions = λ v c f listed does.
             let inside = guarded_by (specification (map object_type listed)) c in
             let frame : SourceFrame = record { this = v.this; variables = [] } in
-            extents_do_alike laws l (Some k) gives call b v c run (stays c).outside (stays c) fare empty missing built (length f.parameters) 0 1 listed (destruction r k f v.this)
+            extents_do_alike laws l (Some k) gives call b v c run fare empty built (length f.parameters) 0 1 listed (destruction r k f v.this)
             (body_of l f.kind k f (1 + 2)) (omega arith)
             (destroy_parts_fares r v.this 0 (parts_of l.program k) inside (source_body_of r f frame inside) fare (statements_fares r (statements_in f.body) frame inside fare)).at
             (does inside (1 + 2) (omega arith));

@@ -14,7 +14,6 @@ use Rattle.region_forms.specs.Ending.{Running}
 use Rattle.region_forms.specs.Numbering.{type_rows}
 use Rattle.region_simulation.specs.Calls.{SameCalls}
 use Rattle.region_simulation.specs.Reach.{KindsFit}
-use Rattle.scope_rules.specs.Context.{Context as SourceContext}
 use Rattle.statement_simulation.specs.Calls.{regions_running, SameExtents}
 use Rattle.statement_simulation.specs.Fueled.{fueled, fueled_call}
 use Rattle.statement_simulation.specs.Members.{SameMemberExtents}
@@ -22,8 +21,8 @@ use Rattle.statement_simulation.specs.Parts.{SameParts}
 use Rattle.statement_simulation.specs.Statements.{SourceCalls, SameExceptions, HandlersDo}
 use Rattle.statement_simulation.proofs.Objects.{objects_do_alike}
 use Rattle.throw_simulation.specs.Catches.{BlocksDo}
-use Rattle.throw_simulation.specs.Extents.{StaySoundWithin, EmptyConstructor}
-use Rattle.throw_simulation.specs.Handlers.{EmptyDestructor, MissingDestructors}
+use Rattle.throw_simulation.specs.Extents.{EmptyConstructor}
+use Rattle.throw_simulation.specs.Handlers.{EmptyDestructor}
 use Rattle.throw_simulation.specs.Same.{RunAlike}
 use Rattle.throw_simulation.proofs.Exceptions.{all_throws_do_alike, all_tries_do_alike}
 use Rattle.throw_simulation.proofs.Faring.{faring_calls_are_barred}
@@ -40,8 +39,7 @@ blocks_do : (l : Lowering) (own : Option ℕ) (gives : Bool) (call : SourceCalls
 blocks_do l own gives call b no_handlers h = tt
 blocks_do l own gives call b (handler_then t x ss place hs) h = (h.0, blocks_do l own gives call b hs h.1)
 
-module _ (laws : CaughtListFollows) (stays : (c : SourceContext) → StaySoundWithin c) (p : Checked) (layout : Layout) (q : Regions) (limit fuel : ℕ) (ordered : IsOrderedProgram p) (types : q.types ≡ type_rows p)
-    (missing : (kinds : Kinds) → MissingDestructors layout (fueled p limit fuel) (regions_running q limit fuel kinds))
+module _ (laws : CaughtListFollows) (p : Checked) (layout : Layout) (q : Regions) (limit fuel : ℕ) (ordered : IsOrderedProgram p) (types : q.types ≡ type_rows p)
     (same : SameCalls layout (fueled p limit fuel) (regions_running q limit fuel (λ s. help_slot))) (kinds : Kinds) where
   alike : RunAlike layout (fueled p limit fuel) (regions_running q limit fuel kinds)
   alike = record { types = types; ordered = ordered.ordered; calls = same }
@@ -66,21 +64,21 @@ module _ (laws : CaughtListFollows) (stays : (c : SourceContext) → StaySoundWi
       let fare = fueled_fares p limit fuel in
       let barred = faring_calls_are_barred (fueled p limit fuel) fare in
       record {
-        terminates = λ v c. (modules_answer_alike laws l own call b v c fit alike (stays c).outside).0;
-        modules = λ v c. (modules_answer_alike laws l own call b v c fit alike (stays c).outside).1;
-        throws = λ v c n i d e lt can. all_throws_do_alike laws l own gives call b v c alike (stays c).outside fit fare n i d e can;
+        terminates = λ v c. (modules_answer_alike laws l own call b v c fit alike).0;
+        modules = λ v c. (modules_answer_alike laws l own call b v c fit alike).1;
+        throws = λ v c n i d e lt can. all_throws_do_alike laws l own gives call b v c alike fit fare n i d e can;
         objects = λ v c n i d k x es rest ys lt declares can next.
-            objects_do_alike l own gives call b fit same (λ v c. (modules_answer_alike laws l own call b v c fit alike (stays c).outside).0)
-            (λ v c. (modules_answer_alike laws l own call b v c fit alike (stays c).outside).1) (unset_is_shaped p ordered.ordered)
+            objects_do_alike l own gives call b fit same (λ v c. (modules_answer_alike laws l own call b v c fit alike).0)
+            (λ v c. (modules_answer_alike laws l own call b v c fit alike).1) (unset_is_shaped p ordered.ordered)
             (object_scopes_are_same l own gives call b alike barred fit) v c n i d k x es rest ys lt declares can next;
         tries = λ v c n i d ss hs lt block handlers typed caught.
-            all_tries_do_alike laws l own gives call b v c alike (stays c).outside fit fare destroyed (missing kinds) n i d ss hs lt block (blocks_do l own gives call b hs handlers) typed caught;
+            all_tries_do_alike laws l own gives call b v c alike fit fare destroyed n i d ss hs lt block (blocks_do l own gives call b hs handlers) typed caught;
       }
 
   specified : (is_member : Bool) (variables : List Ty) (own : Option ℕ) (gives : Bool)
       → SameExtents (lowering p layout is_member variables) own gives (fueled_call p limit fuel) (regions_running q limit fuel kinds)
   specified is_member variables own gives =
-      extents laws stays (lowering p layout is_member variables) (fueled_call p limit fuel) (regions_running q limit fuel kinds) alike (fueled_fares p limit fuel) destroyed (missing kinds) built own gives
+      extents laws (lowering p layout is_member variables) (fueled_call p limit fuel) (regions_running q limit fuel kinds) alike (fueled_fares p limit fuel) destroyed built own gives
 
   in_function : (is_member : Bool) (variables : List Ty) (own : Option ℕ) (gives : Bool) → KindsFit (lowering p layout is_member variables) kinds
       → SameExceptions (lowering p layout is_member variables) own gives (fueled_call p limit fuel) (regions_running q limit fuel kinds) ×
@@ -98,13 +96,12 @@ module _ (laws : CaughtListFollows) (stays : (c : SourceContext) → StaySoundWi
       let fare = fueled_fares p limit fuel in (
         exceptions true variables (Some k) gives fit,
         parts_are_same l k gives call b alike (faring_calls_are_barred (fueled p limit fuel) fare) lt,
-        member_extents laws stays l call b alike fare destroyed (missing kinds) built k gives,
+        member_extents laws l call b alike fare destroyed built k gives,
       )
 
-pub forms_are_same : CaughtListFollows → ((c : SourceContext) → StaySoundWithin c) →
-    ((p : Checked) (layout : Layout) (q : Regions) (limit fuel : ℕ) (kinds : Kinds) → MissingDestructors layout (fueled p limit fuel) (regions_running q limit fuel kinds)) → FormsAreSame
-forms_are_same laws stays missing p layout q limit ordered types = record {
-  functions = λ fuel n same lt kinds fit. in_function laws stays p layout q limit fuel ordered types (missing p layout q limit fuel) same kinds false _ None _ fit;
-  methods = λ fuel k i same lt within kinds fit. in_function laws stays p layout q limit fuel ordered types (missing p layout q limit fuel) same kinds true _ (Some k) _ fit;
-  members = λ fuel k gives variables same lt kinds fit. in_member laws stays p layout q limit fuel ordered types (missing p layout q limit fuel) same kinds variables k gives lt fit;
+pub forms_are_same : CaughtListFollows → FormsAreSame
+forms_are_same laws p layout q limit ordered types = record {
+  functions = λ fuel n same lt kinds fit. in_function laws p layout q limit fuel ordered types same kinds false _ None _ fit;
+  methods = λ fuel k i same lt within kinds fit. in_function laws p layout q limit fuel ordered types same kinds true _ (Some k) _ fit;
+  members = λ fuel k gives variables same lt kinds fit. in_member laws p layout q limit fuel ordered types same kinds variables k gives lt fit;
 }

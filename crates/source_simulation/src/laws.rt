@@ -1,8 +1,11 @@
 // Laws of lowering: calls of no effect, whose contracts state what holds of every program.
 ghost use Rattle.source_simulation.specs.Destructors.{EmptyConstructorsAreSame, EmptyDestructorsAreSame};
-ghost use Rattle.source_simulation.specs.Forms.{CheckedProgramsAreOrdered};
+ghost use Rattle.source_simulation.specs.Forms.{CheckedProgramsAreOrdered, FormsAreSame};
 ghost use Rattle.source_simulation.specs.Lowered.{ProgramsAreLowered};
 ghost use Rattle.source_simulation.specs.Scopes.{ObjectScopesAreSame, PartsAreSame};
+ghost use Rattle.source_simulation.specs.Sources.{CheckedProgramsMeanTheSame, CheckedSourcesMeanTheSame};
+
+use region_forms::laws::caught_list_follows;
 
 /// Scopes of parts of objects, and what is done until an object is complete, are the same, with calls that do the same.
 pub fn parts_are_same()
@@ -34,3 +37,27 @@ pub fn checked_programs_are_ordered()
 pub fn empty_constructors_are_same()
     ensures { EmptyConstructorsAreSame }
 {}
+
+/// In each function of a program whose classes stand in order the forms that raise exceptions, or clean up behind them, do the same with calls of
+/// any fuel that do: throws, try blocks, scopes of objects, parts of objects and extents of specifications.
+pub fn forms_are_same()
+    ensures { FormsAreSame }
+{
+    caught_list_follows();
+}
+
+/// The regions of each checked program mean what the program means: the same items and end, the same greatest number of open calls, the same
+/// outcome of main and the same replies left, for every input, all replies, every number of turns and every limit of open calls, where the program
+/// comes to nothing that is undefined.
+pub fn checked_programs_mean_the_same()
+    ensures { CheckedProgramsMeanTheSame }
+{
+    caught_list_follows();
+}
+
+/// So do those of each valid source, with no other premise.
+pub fn checked_sources_mean_the_same()
+    ensures { CheckedSourcesMeanTheSame }
+{
+    caught_list_follows();
+}
