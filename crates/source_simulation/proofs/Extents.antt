@@ -18,6 +18,7 @@ use Rattle.throw_simulation.specs.Extents.{EmptyConstructor}
 use Rattle.throw_simulation.specs.Fares.{CallsFare}
 use Rattle.throw_simulation.specs.Handlers.{EmptyDestructor}
 use Rattle.throw_simulation.specs.Same.{RunAlike}
+use Rattle.source_simulation.specs.Extents.{ExtentsAreSame}
 use Rattle.throw_simulation.proofs.Extents.{extents_do_alike}
 use Rattle.throw_simulation.proofs.FaringCalls.{construction_fares, destroy_parts_fares}
 use Rattle.throw_simulation.proofs.FaringTrees.{statements_fares}
@@ -48,3 +49,6 @@ module _ (laws : CaughtListFollows) (l : Lowering) (call : SourceCalls) (b : Run
             (destroy_parts_fares r v.this 0 (parts_of l.program k) inside (source_body_of r f frame inside) fare (statements_fares r (statements_in f.body) frame inside fare)).at
             (does inside (1 + 2) (omega arith));
       }
+
+pub extents_are_same : CaughtListFollows → ExtentsAreSame
+extents_are_same laws l call b run fare empty built = record { functions = extents laws l call b run fare empty built; members = member_extents laws l call b run fare empty built }

@@ -1,5 +1,6 @@
 // Laws of lowering: calls of no effect, whose contracts state what holds of every program.
 ghost use Rattle.source_simulation.specs.Destructors.{EmptyConstructorsAreSame, EmptyDestructorsAreSame};
+ghost use Rattle.source_simulation.specs.Extents.{ExtentsAreSame};
 ghost use Rattle.source_simulation.specs.Forms.{CheckedProgramsAreOrdered, FormsAreSame};
 ghost use Rattle.source_simulation.specs.Lowered.{ProgramsAreLowered};
 ghost use Rattle.source_simulation.specs.Scopes.{ObjectScopesAreSame, PartsAreSame};
@@ -37,6 +38,14 @@ pub fn checked_programs_are_ordered()
 pub fn empty_constructors_are_same()
     ensures { EmptyConstructorsAreSame }
 {}
+
+/// The extents of exception specifications of functions, constructors and destructors are the same in every context, where calls of the source keep
+/// what is known of exceptions.
+pub fn extents_are_same()
+    ensures { ExtentsAreSame }
+{
+    caught_list_follows();
+}
 
 /// In each function of a program whose classes stand in order the forms that raise exceptions, or clean up behind them, do the same with calls of
 /// any fuel that do: throws, try blocks, scopes of objects, parts of objects and extents of specifications.
