@@ -1,0 +1,7 @@
+// Laws of the runtime's own functions on the ABI machine: calls of no effect, whose contracts state what holds of every program.
+ghost use Rattle.stub_simulation.specs.Terminate.{TerminateRuns};
+
+/// Terminate calls its handler, if it has one, and aborts.
+pub fn terminate_runs()
+    ensures { TerminateRuns }
+{}
