@@ -17,9 +17,13 @@ use Rattle.code_simulation.specs.Turning.{Reaches}
 use Rattle.code_simulation.proofs.Fetching.{pieces_still}
 use Rattle.code_simulation.proofs.Turning.{executes_turns}
 use Rattle.code_simulation.specs.UnitAt.{routine_pieces}
-use Rattle.stub_simulation.specs.Stretches.{stub_ground, StubAt, Beside, AtRuntimeCall, AtAddress}
+use Rattle.stub_simulation.specs.Stretches.{stub_ground, StubAt, Room, Beside, AtRuntimeCall, AtAddress}
 use Rattle.stub_simulation.proofs.Walking.{Path, Walks, WalksOut, room_still}
 use Rattle.emission_forms.specs.StubCode.{stub_routine}
+
+-- where one of the runtime's own functions stands
+abbrev pub path : (u : UnitCode) (base : ℕ) (f : Function) (low size : ℕ) (s : State) → Room low size s.memory → Path
+path u base f low size s room = record { ground = stub_ground u base f; first = s; low = low; size = size; room = room }
 
 -- ---- a walk that ends at an address
 

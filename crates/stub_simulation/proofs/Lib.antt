@@ -1,3 +1,4 @@
 pub mod Walking
 pub mod Ending
 mod Terminate
+mod EndCatch

@@ -6,15 +6,12 @@ use Rattle.rv64_isa.specs.Step.{x}
 use Rattle.linear_forms.specs.Linear.{UnitCode}
 use Rattle.linear_forms.specs.Stub.{terminating}
 use Rattle.code_simulation.specs.Standing.{address}
-use Rattle.stub_simulation.specs.Stretches.{stub_ground, stub_word, Room, Stands}
+use Rattle.stub_simulation.specs.Stretches.{stub_ground, stub_word, Stands}
 use Rattle.stub_simulation.specs.Terminate.{TerminateRuns}
-use Rattle.stub_simulation.proofs.Walking.{Path, Walks, update, walk_begins, walk_addi, walk_load, walk_store, slot_there, walk_same, walk_not_same, walk_call, walk_out, down, up, small_number, no_room}
-use Rattle.stub_simulation.proofs.Ending.{ends_at, ends_aborted}
+use Rattle.stub_simulation.proofs.Walking.{Walks, update, walk_begins, walk_addi, walk_load, walk_store, slot_there, walk_same, walk_not_same, walk_call, walk_out, down, up, small_number, no_room}
+use Rattle.stub_simulation.proofs.Ending.{path, ends_at, ends_aborted}
 
 -- ---- up to the test of the handler
-
-abbrev path : (u : UnitCode) (base low size : ℕ) (s : State) → Room low size s.memory → Path
-path u base low size s room = record { ground = stub_ground u base terminating; first = s; low = low; size = size; room = room }
 
 abbrev first_file : State → ℕ → ℕ → ℕ → ℕ
 first_file s low h = update 10 h (update 2 low (λ r. x s r))
@@ -23,9 +20,9 @@ abbrev first_memory : State → ℕ → ℕ → List Part
 first_memory s low h = with_value (with_value s.memory (low + 8) 8 (x s 1)) (low + 24) 8 h
 
 tested : (u : UnitCode) (base h low : ℕ) (s : State) → low ≡ x s 2 - 32 → 32 ≤ x s 2 → (stands : Stands u base terminating 0 low 32 s) → x s 10 ≡ h → h < 2 ^ 64 →
-    Walks (path u base low 32 s stands.room) 4 (address (stub_ground u base terminating) 8) (first_file s low h) (first_memory s low h)
+    Walks (path u base terminating low 32 s stands.room) 4 (address (stub_ground u base terminating) 8) (first_file s low h) (first_memory s low h)
 tested u base h low s is room stands handler small =
-    let p = path u base low 32 s stands.room in
+    let p = path u base terminating low 32 s stands.room in
     let code = stands.code in
     let below = stands.room.below in
     let file1 : ℕ → ℕ = update 2 low (λ r. x s r) in
@@ -43,7 +40,7 @@ terminate_runs = record {
   calls_the_handler = λ image u base h w enough stands is some aligned small.
       let s : State = w.hart in
       let low : ℕ = x s 2 - 32 in
-      let p = path u base low 32 s stands.room in
+      let p = path u base terminating low 32 s stands.room in
       let file = first_file s low h in
       let parts = first_memory s low h in
       let w4 = tested u base h low s refl enough stands is small in
@@ -54,7 +51,7 @@ terminate_runs = record {
   aborts_without = λ image pick n u base w enough stands is many.
       let s : State = w.hart in
       let low : ℕ = x s 2 - 32 in
-      let p = path u base low 32 s stands.room in
+      let p = path u base terminating low 32 s stands.room in
       let file = first_file s low 0 in
       let parts = first_memory s low 0 in
       let code = stands.code.1.1.1.1.1.1 in
@@ -65,7 +62,7 @@ terminate_runs = record {
       ends_aborted image pick n 6 n 12 p w (update 17 16 file) parts refl many out refl;
   aborts_behind = λ image pick n u base w at regs code many.
       let s : State = w.hart in
-      let p = path u base 0 0 s (no_room s.memory) in
+      let p = path u base terminating 0 0 s (no_room s.memory) in
       let rest = code.1.1.1.1.1.1 in
       let file : ℕ → ℕ = update 17 16 (λ r. x s r) in
       let w0 = walk_begins p 10 at regs in

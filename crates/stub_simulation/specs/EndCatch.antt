@@ -10,7 +10,7 @@ use Rattle.emission_forms.specs.RuntimeCall.{end_catch_call, free_call, resume_c
 use Rattle.emission_forms.specs.Shape.{return_offset}
 use Rattle.code_simulation.specs.Frames.{AddressAt}
 use Rattle.code_simulation.specs.Turning.{Reaches}
-use Rattle.stub_simulation.specs.Stretches.{stub_word, frame_size, slot_at, Stands, AtRuntimeCall, AtAddress}
+use Rattle.stub_simulation.specs.Stretches.{BackStays, stub_word, frame_size, slot_at, Stands, AtRuntimeCall, AtAddress}
 
 -- the slots of the object and of its destructor, and those of what a pad gets
 abbrev pub object_slot : ℕ
@@ -30,16 +30,16 @@ pub record EndCatchRuns : Type 0 where
       frame_size end_catch ≤ x s sp → Stands u base end_catch 0 low (frame_size end_catch) s → x s ra < 2 ^ 64 →
       Reaches image 3 w [] (AtRuntimeCall u base end_catch end_catch_call 4 low low (frame_size end_catch) w (λ t. AddressAt t.memory (low + return_offset) (x s ra)))
   pub returns_at_once : (image : Image) (u : UnitCode) (base back : ℕ) (w : World) → let s = w.hart in let low = x s sp in
-      Stands u base end_catch 4 low (frame_size end_catch) s → x s a0 ≡ 0 → x s a1 < 2 ^ 64 → AddressAt s.memory (low + return_offset) back → back % 4 ≡ 0 → back < 2 ^ 64 →
+      Stands u base end_catch 4 low (frame_size end_catch) s → x s a0 ≡ 0 → AddressAt s.memory (low + return_offset) back → back % 4 ≡ 0 → back < 2 ^ 64 →
       Reaches image 8 w [] (AtAddress back (low + frame_size end_catch) low (frame_size end_catch) w (λ t. x t a0 ≡ 0))
   pub destroys : (image : Image) (u : UnitCode) (base object destructor : ℕ) (w : World) → let s = w.hart in let low = x s sp - 8 in
       8 ≤ x s sp → Stands u base end_catch 4 low (8 + frame_size end_catch) s → x s a0 ≡ object → object ≢ 0 → object < 2 ^ 64 → x s a1 ≡ destructor → destructor ≢ 0 →
       destructor % 4 ≡ 0 → destructor < 2 ^ 64 →
       Reaches image 8 w [] (AtAddress destructor (x s sp) low (8 + frame_size end_catch) w
-      (λ t. (x t ra ≡ stub_word base end_catch 13) × AddressAt t.memory low object × AddressAt t.memory (x s sp + object_slot) object))
+      (λ t. (x t ra ≡ stub_word base end_catch 13) × AddressAt t.memory low object × AddressAt t.memory (x s sp + object_slot) object × BackStays (x s sp) s.memory t.memory))
   pub frees_at_once : (image : Image) (u : UnitCode) (base object : ℕ) (w : World) → let s = w.hart in let low = x s sp in
       Stands u base end_catch 4 low (frame_size end_catch) s → x s a0 ≡ object → object ≢ 0 → object < 2 ^ 64 → x s a1 ≡ 0 →
-      Reaches image 7 w [] (AtRuntimeCall u base end_catch free_call 16 low low (frame_size end_catch) w (λ t. x t a0 ≡ object))
+      Reaches image 7 w [] (AtRuntimeCall u base end_catch free_call 16 low low (frame_size end_catch) w (λ t. (x t a0 ≡ object) × BackStays low s.memory t.memory))
   pub frees : (image : Image) (u : UnitCode) (base object : ℕ) (w : World) → let s = w.hart in let low = x s sp in
       Stands u base end_catch 13 low (frame_size end_catch) s → AddressAt s.memory (low + object_slot) object →
       Reaches image 2 w [] (AtRuntimeCall u base end_catch free_call 16 low low (frame_size end_catch) w (λ t. (t.memory ≡ s.memory) × (x t a0 ≡ object)))

@@ -8,11 +8,12 @@ use Rattle.cxa_runtime.specs.World.{World}
 use Rattle.linear_forms.specs.Linear.{UnitCode}
 use Rattle.linear_forms.specs.Stub.{Function}
 use Rattle.emission_forms.specs.Registers.{sp, a7}
-use Rattle.emission_forms.specs.Shape.{slot_offset}
+use Rattle.emission_forms.specs.Shape.{slot_offset, return_offset}
 use Rattle.emission_forms.specs.StubCode.{stub_shape, stub_first, stub_routine}
 use Rattle.emission_forms.specs.Emitted.{stub_target}
 use Rattle.code_simulation.specs.Memory.{Written, Holds, MayWrite, Apart}
 use Rattle.code_simulation.specs.Standing.{Ground, PiecesAt}
+use Rattle.code_simulation.specs.Frames.{AddressAt}
 use Rattle.code_simulation.specs.Turning.{SameRuntime}
 use Rattle.code_simulation.specs.UnitAt.{routine_ground, routine_pieces}
 
@@ -45,6 +46,10 @@ pub record Room (low size : ℕ) (memory : List Part) : Type 0 where
 pub record Beside (low size : ℕ) (old new : List Part) : Type 0 where
   pub written : Written old new
   pub others : (b n v : ℕ) → Apart low size b n → Holds old b n v → Holds new b n v
+
+-- a return address that a frame holds stays there
+abbrev pub BackStays : ℕ → List Part → List Part → Type 0
+BackStays stack old new = (back : ℕ) → AddressAt old (stack + return_offset) back → AddressAt new (stack + return_offset) back
 
 -- a hart at the k-th word of one of the runtime's own functions, which stands in memory, with bytes for its frame
 pub record Stands (u : UnitCode) (base : ℕ) (f : Function) (k low size : ℕ) (s : State) : Type 0 where

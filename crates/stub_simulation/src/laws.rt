@@ -1,7 +1,13 @@
 // Laws of the runtime's own functions on the ABI machine: calls of no effect, whose contracts state what holds of every program.
+ghost use Rattle.stub_simulation.specs.EndCatch.{EndCatchRuns};
 ghost use Rattle.stub_simulation.specs.Terminate.{TerminateRuns};
 
 /// Terminate calls its handler, if it has one, and aborts.
 pub fn terminate_runs()
     ensures { TerminateRuns }
+{}
+
+/// End_catch leaves the newest handler, destroys and frees what it must, and returns, or resumes what came out of the destructor.
+pub fn end_catch_runs()
+    ensures { EndCatchRuns }
 {}
