@@ -2,3 +2,5 @@ pub mod Walking
 pub mod Ending
 mod Terminate
 mod EndCatch
+mod Start
+mod Placed

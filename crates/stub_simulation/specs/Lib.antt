@@ -1,3 +1,5 @@
 pub mod Stretches
 pub mod Terminate
 pub mod EndCatch
+pub mod Start
+pub mod Words

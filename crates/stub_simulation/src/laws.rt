@@ -1,6 +1,8 @@
 // Laws of the runtime's own functions on the ABI machine: calls of no effect, whose contracts state what holds of every program.
 ghost use Rattle.stub_simulation.specs.EndCatch.{EndCatchRuns};
+ghost use Rattle.stub_simulation.specs.Start.{StartRuns};
 ghost use Rattle.stub_simulation.specs.Terminate.{TerminateRuns};
+ghost use Rattle.stub_simulation.specs.Words.{StubsStand};
 
 /// Terminate calls its handler, if it has one, and aborts.
 pub fn terminate_runs()
@@ -10,4 +12,14 @@ pub fn terminate_runs()
 /// End_catch leaves the newest handler, destroys and frees what it must, and returns, or resumes what came out of the destructor.
 pub fn end_catch_runs()
     ensures { EndCatchRuns }
+{}
+
+/// Start calls the unit, and the run exits with what main gives.
+pub fn start_runs()
+    ensures { StartRuns }
+{}
+
+/// Where the words of a unit stand, the runtime's own functions stand in front of it.
+pub fn stubs_stand()
+    ensures { StubsStand }
 {}
