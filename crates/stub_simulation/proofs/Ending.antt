@@ -1,5 +1,6 @@
 -- A walk over words as turns of the ABI machine.
-use Rattle.std.proofs.Common.{◌≡◌, ◌∙◌, sym, ap, subst, arith, ℕ, suc, ◌+◌, ◌-◌, ◌≤◌, List, [], length}
+use Rattle.std.proofs.Common.{◌≡◌, ◌∙◌, sym, ap, subst, arith, ℕ, zero, suc, ◌+◌, ◌-◌, ◌≤◌, List, [], ◌∷◌, length, Some}
+use Rattle.std.specs.Prelude.{slice_get}
 use Rattle.rv64_isa.specs.declared.step.Step.TheVariants.{Ecall}
 use Rattle.rv64_isa.specs.State.{State, Part}
 use Rattle.rv64_isa.specs.Step.{step_of, x}
@@ -10,16 +11,16 @@ use Rattle.cxa_runtime.specs.Call.{numbered, call_effect}
 use Rattle.cxa_runtime.specs.Run.{Ran, called, stepped, turn, and_more, run}
 use Rattle.linear_forms.specs.Linear.{UnitCode}
 use Rattle.linear_forms.specs.Stub.{Function}
+use Rattle.emission_forms.specs.Piece.{Piece}
 use Rattle.emission_forms.specs.Registers.{sp, a7}
-use Rattle.emission_forms.specs.StubCode.{stub_first}
-use Rattle.code_simulation.specs.Standing.{address}
+use Rattle.emission_forms.specs.StubCode.{stub_first, stub_routine}
+use Rattle.code_simulation.specs.Standing.{Ground, address, PieceAt, PiecesAt}
 use Rattle.code_simulation.specs.Turning.{Reaches}
 use Rattle.code_simulation.proofs.Fetching.{pieces_still}
 use Rattle.code_simulation.proofs.Turning.{executes_turns}
 use Rattle.code_simulation.specs.UnitAt.{routine_pieces}
-use Rattle.stub_simulation.specs.Stretches.{stub_ground, StubAt, Room, Beside, AtRuntimeCall, AtAddress}
+use Rattle.stub_simulation.specs.Stretches.{stub_ground, StubAt, Room, Beside, Stands, AtRuntimeCall, AtAddress}
 use Rattle.stub_simulation.proofs.Walking.{Path, Walks, WalksOut, room_still}
-use Rattle.emission_forms.specs.StubCode.{stub_routine}
 
 -- where one of the runtime's own functions stands
 abbrev pub path : (u : UnitCode) (base : ℕ) (f : Function) (low size : ℕ) (s : State) → Room low size s.memory → Path
@@ -97,3 +98,16 @@ ends_aborted image pick most n k here p w file parts is few h asks =
     let whole = ap (λ i. run image pick i w) count ∙ ran.turns.run pick (suc left) in
     let last = abort_ends image pick left ran.after h.behind (ap step_of ran.hart ∙ h.asks) (h.hart.regs a7 ∙ asks) in
     (ap (λ (r : Ran). r.items) whole ∙ last.0, ap (λ (r : Ran). r.end) whole ∙ last.1)
+
+-- ---- a word of one of the runtime's own functions
+
+piece_of : (memory : List Part) (g : Ground) (here : ℕ) (ys : List Piece) (n : ℕ) (y : Piece) → PiecesAt memory g here ys → slice_get ys n ≡ Some y → PieceAt memory g (here + n) y
+piece_of memory g here [] n y h e = absurd (cc e)
+piece_of memory g here (z ∷ ys) zero y h e =
+    let same : z ≡ y = cc e in
+    subst (λ i. PieceAt memory g i y) (omega arith) (subst (PieceAt memory g here) same h.0)
+piece_of memory g here (z ∷ ys) (suc n) y h e = subst (λ i. PieceAt memory g i y) (omega arith) (piece_of memory g (here + 1) ys n y h.1 e)
+
+pub word_at : {u : UnitCode} {base : ℕ} {f : Function} {k low size : ℕ} {s : State} (stands : Stands u base f k low size s) (n : ℕ) {y : Piece} → slice_get (routine_pieces (stub_routine f)) n ≡ Some y →
+    PieceAt s.memory (stub_ground u base f) (stub_first f + n) y
+word_at {u} {base} {f} {k} {low} {size} {s} stands n {y} e = piece_of s.memory (stub_ground u base f) (stub_first f) (routine_pieces (stub_routine f)) n y stands.code e

@@ -1,6 +1,12 @@
 pub mod Walking
 pub mod Ending
+pub mod Reaching
 mod Terminate
 mod EndCatch
 mod Start
 mod Placed
+mod UnexpectedBegins
+mod UnexpectedChecks
+mod UnexpectedEnds
+mod UnexpectedAnswers
+mod Calls

@@ -9,7 +9,7 @@ use Rattle.code_simulation.specs.Standing.{address}
 use Rattle.stub_simulation.specs.Stretches.{stub_ground, stub_word, Stands}
 use Rattle.stub_simulation.specs.Terminate.{TerminateRuns}
 use Rattle.stub_simulation.proofs.Walking.{Walks, update, walk_begins, walk_addi, walk_load, walk_store, slot_there, walk_same, walk_not_same, walk_call, walk_out, down, up, small_number, no_room}
-use Rattle.stub_simulation.proofs.Ending.{path, ends_at, ends_aborted}
+use Rattle.stub_simulation.proofs.Ending.{path, word_at, ends_at, ends_aborted}
 
 -- ---- up to the test of the handler
 
@@ -23,16 +23,15 @@ tested : (u : UnitCode) (base h low : ℕ) (s : State) → low ≡ x s 2 - 32 �
     Walks (path u base terminating low 32 s stands.room) 4 (address (stub_ground u base terminating) 8) (first_file s low h) (first_memory s low h)
 tested u base h low s is room stands handler small =
     let p = path u base terminating low 32 s stands.room in
-    let code = stands.code in
     let below = stands.room.below in
     let file1 : ℕ → ℕ = update 2 low (λ r. x s r) in
     let m1 : List Part = with_value s.memory (low + 8) 8 (x s 1) in
     let m2 : List Part = with_value m1 (low + 24) 8 h in
     let w0 = walk_begins p 4 stands.pc stands.registers in
-    let w1 = walk_addi p 0 4 2 2 4064 low (λ r. x s r) s.memory (omega arith) (omega arith) w0 code.0 (down (x s 2) 32 (omega arith) (omega arith) room (omega (arith, below, is)) ∙ omega (arith, is)) in
-    let w2 = walk_store p 1 5 2 1 8 8 (x s 1) file1 s.memory w1 code.1.0 (up low 8 (omega arith) (omega (arith, below))) refl refl (omega arith) in
-    let w3 = walk_store p 2 6 2 10 24 24 h file1 m1 w2 code.1.1.0 (up low 24 (omega arith) (omega (arith, below))) handler refl (omega arith) in
-    walk_load p 3 7 10 2 24 (low + 24) h file1 m2 (omega arith) (omega arith) w3 code.1.1.1.0 (up low 24 (omega arith) (omega (arith, below)))
+    let w1 = walk_addi p 0 4 2 2 4064 low (λ r. x s r) s.memory (omega arith) (omega arith) w0 (word_at stands 0 refl) (down (x s 2) 32 (omega arith) (omega arith) room (omega (arith, below, is)) ∙ omega (arith, is)) in
+    let w2 = walk_store p 1 5 2 1 8 8 (x s 1) file1 s.memory w1 (word_at stands 1 refl) (up low 8 (omega arith) (omega (arith, below))) refl refl (omega arith) in
+    let w3 = walk_store p 2 6 2 10 24 24 h file1 m1 w2 (word_at stands 2 refl) (up low 24 (omega arith) (omega (arith, below))) handler refl (omega arith) in
+    walk_load p 3 7 10 2 24 (low + 24) h file1 m2 (omega arith) (omega arith) w3 (word_at stands 3 refl) (up low 24 (omega arith) (omega (arith, below)))
     (slot_there p 2 (address p.ground 6) 24 h file1 m1 w2 refl (omega arith) small)
 
 pub terminate_runs : TerminateRuns
@@ -44,8 +43,8 @@ terminate_runs = record {
       let file = first_file s low h in
       let parts = first_memory s low h in
       let w4 = tested u base h low s refl enough stands is small in
-      let w5 = walk_not_same p 4 8 10 0 4 file parts w4 stands.code.1.1.1.1.0 (ne_eqb h 0 some) in
-      let w6 = walk_call p 5 9 10 h file parts w5 stands.code.1.1.1.1.1.0 refl aligned small in
+      let w5 = walk_not_same p 4 8 10 0 4 file parts w4 (word_at stands 4 refl) (ne_eqb h 0 some) in
+      let w6 = walk_call p 5 9 10 h file parts w5 (word_at stands 5 refl) refl aligned small in
       let back : ℕ = stub_word base terminating 6 in
       ends_at image p w 6 6 h low (update 1 back file) parts (λ t. (x t 1 ≡ back) × (x t 10 ≡ h)) refl (omega arith) w6 refl (w6.hart.regs 1, w6.hart.regs 10);
   aborts_without = λ image pick n u base w enough stands is many.
@@ -54,11 +53,10 @@ terminate_runs = record {
       let p = path u base terminating low 32 s stands.room in
       let file = first_file s low 0 in
       let parts = first_memory s low 0 in
-      let code = stands.code.1.1.1.1.1.1 in
       let w4 = tested u base 0 low s refl enough stands is (omega arith) in
-      let w5 = walk_same p 4 8 10 0 2 file parts w4 stands.code.1.1.1.1.0 (omega arith) (omega (arith, code.0.word.below)) refl in
-      let w6 = walk_addi p 5 10 17 0 16 16 file parts (omega arith) (omega arith) w5 code.0 (small_number 16 (omega arith)) in
-      let out = walk_out p 6 11 (update 17 16 file) parts w6 code.1.0 in
+      let w5 = walk_same p 4 8 10 0 2 file parts w4 (word_at stands 4 refl) (omega arith) (omega (arith, (word_at stands 6 refl).word.below)) refl in
+      let w6 = walk_addi p 5 10 17 0 16 16 file parts (omega arith) (omega arith) w5 (word_at stands 6 refl) (small_number 16 (omega arith)) in
+      let out = walk_out p 6 11 (update 17 16 file) parts w6 (word_at stands 7 refl) in
       ends_aborted image pick n 6 n 12 p w (update 17 16 file) parts refl many out refl;
   aborts_behind = λ image pick n u base w at regs code many.
       let s : State = w.hart in

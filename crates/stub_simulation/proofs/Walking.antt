@@ -43,7 +43,7 @@ room_still low size old new w h = record { aligned = h.aligned; below = h.below;
 abbrev pub update : ℕ → ℕ → (ℕ → ℕ) → ℕ → ℕ
 update rd v file r = if r == rd then v else file r
 
-file_set : (regs : List ℕ) (rd v : ℕ) (file : ℕ → ℕ) → rd ≢ 0 → rd < length regs → ((r : ℕ) → reg_of regs r ≡ file r) → (r : ℕ) → reg_of (with_reg regs rd v) r ≡ update rd v file r
+pub file_set : (regs : List ℕ) (rd v : ℕ) (file : ℕ → ℕ) → rd ≢ 0 → rd < length regs → ((r : ℕ) → reg_of regs r ≡ file r) → (r : ℕ) → reg_of (with_reg regs rd v) r ≡ update rd v file r
 file_set regs rd v file some inside is r =
     cond_both (r == rd) v (file r) (λ z. reg_of (with_reg regs rd v) r ≡ z)
     (λ e. ap (reg_of (with_reg regs rd v)) (eqb-true r rd e) ∙ read_same regs rd v some inside)
@@ -78,14 +78,14 @@ pub walk_begins : (p : Path) (here : ℕ) → p.first.pc ≡ address p.ground he
 walk_begins p here at regs = record { after = p.first; runs = no_steps p.first; hart = record { pc = at; all = regs; regs = λ r. refl; memory = refl }; beside = beside_none p.low p.size p.first.memory }
 
 -- a word still stands where a walk has come to
-piece_there : (p : Path) (n place here : ℕ) (file : ℕ → ℕ) (parts : List Part) (y : Piece) (h : Walks p n place file parts) → PieceAt p.first.memory p.ground here y → PieceAt h.after.memory p.ground here y
+pub piece_there : (p : Path) (n place here : ℕ) (file : ℕ → ℕ) (parts : List Part) (y : Piece) (h : Walks p n place file parts) → PieceAt p.first.memory p.ground here y → PieceAt h.after.memory p.ground here y
 piece_there p n place here file parts y h code =
     subst (λ ps. PieceAt ps p.ground here y) (sym h.hart.memory)
     (record { inside = code.inside; fits = code.fits; word = word_still p.first.memory parts (address p.ground here) _ h.beside.written code.word })
 
 -- ---- words that set a register
 
-walk_sets : (p : Path) (n here rd v : ℕ) (file : ℕ → ℕ) (parts : List Part) (y : Piece) → 0 < rd → rd < 32 → (h : Walks p n (address p.ground here) file parts) → PieceAt p.first.memory p.ground here y →
+pub walk_sets : (p : Path) (n here rd v : ℕ) (file : ℕ → ℕ) (parts : List Part) (y : Piece) → 0 < rd → rd < 32 → (h : Walks p n (address p.ground here) file parts) → PieceAt p.first.memory p.ground here y →
     done (placed p.ground.places here y) h.after ≡ sets h.after rd v → Walks p (n + 1) (address p.ground (here + 1)) (update rd v file) parts
 walk_sets p n here rd v file parts y some small h code does =
     let t : State = h.after in
@@ -166,7 +166,7 @@ slot_stays low o v k u parts apart h = record {
 -- ---- words that jump
 
 -- one more step, which changes the pc and perhaps a register
-walk_moves : (p : Path) (n place target : ℕ) (file new : ℕ → ℕ) (parts : List Part) (h : Walks p n place file parts) (regs : List ℕ) → step_of h.after ≡ (Done, state target regs h.after.memory) → length regs ≡ 32 →
+pub walk_moves : (p : Path) (n place target : ℕ) (file new : ℕ → ℕ) (parts : List Part) (h : Walks p n place file parts) (regs : List ℕ) → step_of h.after ≡ (Done, state target regs h.after.memory) → length regs ≡ 32 →
     ((r : ℕ) → reg_of regs r ≡ new r) → Walks p (n + 1) target new parts
 walk_moves p n place target file new parts h regs step all is = record {
   after = state target regs h.after.memory;

@@ -3,3 +3,5 @@ pub mod Terminate
 pub mod EndCatch
 pub mod Start
 pub mod Words
+pub mod CallUnexpected
+pub mod Calls

@@ -1,4 +1,6 @@
 // Laws of the runtime's own functions on the ABI machine: calls of no effect, whose contracts state what holds of every program.
+ghost use Rattle.stub_simulation.specs.Calls.{CallsAreMade};
+ghost use Rattle.stub_simulation.specs.CallUnexpected.{UnexpectedAnswers, UnexpectedBegins, UnexpectedChecks, UnexpectedEnds};
 ghost use Rattle.stub_simulation.specs.EndCatch.{EndCatchRuns};
 ghost use Rattle.stub_simulation.specs.Start.{StartRuns};
 ghost use Rattle.stub_simulation.specs.Terminate.{TerminateRuns};
@@ -22,4 +24,29 @@ pub fn start_runs()
 /// Where the words of a unit stand, the runtime's own functions stand in front of it.
 pub fn stubs_stand()
     ensures { StubsStand }
+{}
+
+/// Call_unexpected enters the exception that was stopped and calls the unexpected handler, or terminates.
+pub fn unexpected_begins()
+    ensures { UnexpectedBegins }
+{}
+
+/// What comes out of the unexpected handler is entered, and the list is asked about it.
+pub fn unexpected_checks()
+    ensures { UnexpectedChecks }
+{}
+
+/// By the answer, what was thrown is thrown again, a bad_exception is thrown in its place, or the program terminates.
+pub fn unexpected_answers()
+    ensures { UnexpectedAnswers }
+{}
+
+/// What is thrown in the end leaves both exceptions and goes on.
+pub fn unexpected_ends()
+    ensures { UnexpectedEnds }
+{}
+
+/// A turn at an ECALL makes the runtime call of the number in a7.
+pub fn calls_are_made()
+    ensures { CallsAreMade }
 {}
