@@ -1,22 +1,21 @@
 -- Assignments.
-use Rattle.std.proofs.Common.{◌≡◌, ℕ, ◌+◌, ◌≤◌, ℤ, List, [], ◌∷◌, ◌++◌, Option, Some, refl, sym, ap, ◌∙◌, subst, arith, length}
+use Rattle.std.proofs.Common.{◌≡◌, ℤ, List, [], ◌∷◌, Some, refl, sym, ap, ◌∙◌, subst, arith}
 use Rattle.cxx_ast.specs.declared.name.Name.{Name}
 use Rattle.scope_rules.specs.Class.{int_type}
-use Rattle.scope_rules.specs.World.{World as SourceWorld, Reference, object_at, written as source_written}
+use Rattle.scope_rules.specs.World.{object_at, written as source_written}
 use Rattle.scope_rules.specs.Part.{cell, with_part_at}
-use Rattle.scope_rules.specs.Context.{Context as SourceContext}
-use Rattle.scope_rules.specs.Frame.{Frame as SourceFrame, lvalue}
-use Rattle.scope_rules.specs.Outcome.{done as source_done, Action as SourceAction, write}
+use Rattle.scope_rules.specs.Frame.{lvalue}
+use Rattle.scope_rules.specs.Outcome.{Action as SourceAction, write}
 use Rattle.region_forms.specs.Form.{Value, op, store, regions_from}
 use Rattle.region_forms.specs.World.{Address, written}
 use Rattle.region_forms.specs.Evaluation.{in_memory, locate, value_in}
 use Rattle.region_forms.specs.Effect.{if_some, stored_at}
 use Rattle.region_forms.specs.Outcome.{State, Context, Flow, normal, done, continued, pure}
 use Rattle.region_forms.specs.Ending.{Running, perform}
-use Rattle.region_forms.specs.Meaning.{followed, operation, regions}
+use Rattle.region_forms.specs.Meaning.{followed, operation}
+use Rattle.linear_simulation.specs.Watched.{watched_all as regions}
 use Rattle.region_forms.specs.LowerExpression.{Lowering, place_of}
-use Rattle.region_simulation.specs.Places.{Places}
-use Rattle.region_simulation.specs.Stands.{Stands, context_of}
+use Rattle.region_simulation.specs.Stands.{context_of}
 use Rattle.region_simulation.specs.Alike.{Follows, Alike}
 use Rattle.region_simulation.specs.Evaluates.{IsComputed}
 use Rattle.region_simulation.specs.Writing.{WritesStand, assigned, AssignmentsStore}

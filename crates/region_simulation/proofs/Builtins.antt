@@ -1,32 +1,30 @@
 -- Built-in functions that neither raise nor terminate.
-use Rattle.std.proofs.Common.{◌≡◌, ℕ, zero, suc, ◌+◌, ◌<◌, ◌≤◌, ℤ, pos, Bool, true, false, List, [], ◌∷◌, ◌++◌, Option, Some, None, refl, sym, ap, ◌∙◌, subst, arith, length}
-use Rattle.std.specs.Prelude.{slice_get, unwrap_or, ◌==◌, not}
-use Rattle.std.proofs.lemmas.Bool.Decides.{nat_tests}
+use Rattle.std.proofs.Common.{◌≡◌, ℕ, zero, suc, ◌<◌, ◌≤◌, ℤ, List, [], ◌∷◌, ◌++◌, Option, Some, None, refl, sym, ap, ◌∙◌, subst, arith, length}
+use Rattle.std.specs.Prelude.{slice_get, unwrap_or}
 use Rattle.cxx_ast.specs.declared.types.Ty.{Ty}
 use Rattle.cxx_ast.specs.Plain.{Checked}
-use Rattle.run_items.specs.declared.item.Item.TheVariants.{Line}
-use Rattle.scope_rules.specs.Arithmetic.{truth}
-use Rattle.scope_rules.specs.Part.{Part, cell, part_at}
-use Rattle.scope_rules.specs.World.{World as SourceWorld, Reference, native}
+use Rattle.scope_rules.specs.Part.{cell, part_at}
+use Rattle.scope_rules.specs.World.{World as SourceWorld, native}
 use Rattle.scope_rules.specs.Context.{Context as SourceContext}
 use Rattle.scope_rules.specs.Frame.{Frame as SourceFrame}
 use Rattle.scope_rules.specs.Running.{Argument as SourceArgument, by_value, by_reference}
-use Rattle.scope_rules.specs.Outcome.{Result as SourceResult, done as source_done, stopped as source_stopped, ended, exit, cancelled, Action as SourceAction, ◌>>=◌}
-use Rattle.scope_rules.specs.Expression.{value_at, next_byte, is_travelling}
-use Rattle.region_forms.specs.Form.{Value, load, call_value, Callee, Argument, arguments_from, Region, regions_from}
+use Rattle.scope_rules.specs.Outcome.{done as source_done, Action as SourceAction, ◌>>=◌}
+use Rattle.scope_rules.specs.Expression.{value_at}
+use Rattle.region_forms.specs.Form.{load, call_value, Callee, arguments_from, regions_from}
 use Rattle.region_forms.specs.Layout.{Layout}
-use Rattle.region_forms.specs.World.{Address, Word, number_word, World, with_slot, with_item}
-use Rattle.region_forms.specs.Evaluation.{slot_location, words_in}
-use Rattle.region_forms.specs.Effect.{if_some, called, finished, stored_at, number_at, byte_of, bytes_after, some_travel}
-use Rattle.region_forms.specs.Outcome.{State, Context, Flow, normal, Result, done, stopped, continued, pure}
-use Rattle.region_forms.specs.Ending.{Running, perform, settled}
-use Rattle.region_forms.specs.Meaning.{followed, regions}
-use Rattle.region_forms.specs.LowerExpression.{Lowering, result_slot, first_temporary, LoweredArguments, in_temporary, slot_place, stored_in}
+use Rattle.region_forms.specs.World.{Address, Word, World}
+use Rattle.region_forms.specs.Evaluation.{slot_location}
+use Rattle.region_forms.specs.Effect.{if_some, called, finished, stored_at, number_at}
+use Rattle.region_forms.specs.Outcome.{State, Context, Flow, normal, Result, continued, pure}
+use Rattle.region_forms.specs.Ending.{Running, perform}
+use Rattle.region_forms.specs.Meaning.{followed}
+use Rattle.linear_simulation.specs.Watched.{watched_all as regions}
+use Rattle.region_forms.specs.LowerExpression.{Lowering, first_temporary, LoweredArguments, in_temporary, slot_place, stored_in}
 use Rattle.region_simulation.specs.Typed.{Shaped}
-use Rattle.region_simulation.specs.Places.{Places, Stood, address_along, Remembers}
-use Rattle.region_simulation.specs.Reach.{Reaches, KindsFit}
+use Rattle.region_simulation.specs.Places.{Places, Remembers}
+use Rattle.region_simulation.specs.Reach.{KindsFit}
 use Rattle.region_simulation.specs.Stands.{world_of, IsMade, IsSound, AreHandlers, Stands, context_of}
-use Rattle.region_simulation.specs.Alike.{Keeps, Follows, Alike}
+use Rattle.region_simulation.specs.Alike.{Follows, Alike}
 use Rattle.region_simulation.specs.Calls.{SameArguments}
 use Rattle.region_simulation.specs.Evaluates.{IsComputed, Evaluates}
 use Rattle.region_simulation.specs.Passes.{IsGiven, Passes}

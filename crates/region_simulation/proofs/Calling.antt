@@ -1,25 +1,25 @@
 -- Calls whose values are stored.
-use Rattle.std.proofs.Common.{◌≡◌, ℕ, ◌+◌, ◌≤◌, ℤ, List, [], ◌∷◌, ◌++◌, Option, Some, None, refl, sym, ap, ◌∙◌, subst, arith}
+use Rattle.std.proofs.Common.{◌≡◌, ℕ, ◌≤◌, ℤ, List, [], ◌∷◌, ◌++◌, Option, Some, refl, sym, ap, ◌∙◌, subst, arith}
 use Rattle.cxx_ast.specs.declared.types.Ty.{Ty}
-use Rattle.cxx_ast.specs.Plain.{Checked}
 use Rattle.scope_rules.specs.World.{Reference, World as SourceWorld}
 use Rattle.scope_rules.specs.Context.{Context as SourceContext}
 use Rattle.scope_rules.specs.Frame.{Frame as SourceFrame}
-use Rattle.scope_rules.specs.Running.{Running as SourceRunning, Argument as SourceArgument, Callee}
+use Rattle.scope_rules.specs.Running.{Argument as SourceArgument, Callee}
 use Rattle.scope_rules.specs.Outcome.{Result as SourceResult, done as source_done, stopped as source_stopped, thrown, cancelled, ended, undefined, out_of_turns, deep, Action as SourceAction, ◌>>=◌}
-use Rattle.region_forms.specs.Form.{Value, load, call_value, defined, Argument, arguments_from, Region, regions_from}
+use Rattle.region_forms.specs.Form.{load, call_value, defined, Argument, arguments_from, regions_from}
 use Rattle.region_forms.specs.World.{Word}
 use Rattle.region_forms.specs.Evaluation.{slot_location, words_in}
 use Rattle.region_forms.specs.Effect.{if_some, called, finished, stored_at}
-use Rattle.region_forms.specs.Outcome.{State, Context, Flow, normal, Result, done, stopped, continued, pure}
+use Rattle.region_forms.specs.Outcome.{State, Flow, normal, Result, continued, pure}
 use Rattle.region_forms.specs.Ending.{Running, perform, settled}
-use Rattle.region_forms.specs.Meaning.{followed, regions}
+use Rattle.region_forms.specs.Meaning.{followed}
+use Rattle.linear_simulation.specs.Watched.{watched_all as regions}
 use Rattle.region_forms.specs.Numbering.{number_of}
-use Rattle.region_forms.specs.LowerExpression.{Lowering, result_slot, first_temporary, LoweredArguments, in_temporary, slot_place, stored_in}
+use Rattle.region_forms.specs.LowerExpression.{Lowering, first_temporary, LoweredArguments, in_temporary, slot_place, stored_in}
 use Rattle.region_simulation.specs.Places.{Places}
-use Rattle.region_simulation.specs.Reach.{Reaches, KindsFit}
-use Rattle.region_simulation.specs.Stands.{Stands, context_of}
-use Rattle.region_simulation.specs.Alike.{Follows, Alike}
+use Rattle.region_simulation.specs.Reach.{KindsFit}
+use Rattle.region_simulation.specs.Stands.{context_of}
+use Rattle.region_simulation.specs.Alike.{Alike}
 use Rattle.region_simulation.specs.Calls.{IsCallable, SameArguments, SamePassed, SameCalls}
 use Rattle.region_simulation.specs.Evaluates.{IsComputed, Evaluates, Everywhere}
 use Rattle.region_simulation.specs.Passes.{IsGiven, Passes}

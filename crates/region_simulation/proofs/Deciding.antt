@@ -1,6 +1,6 @@
 -- `&&` and `||` whose right side makes calls.
 use Rattle.std.proofs.Common.{◌≡◌, ℕ, zero, suc, ◌+◌, ◌≤◌, ℤ, pos, negsuc, Bool, true, false, List, [], ◌∷◌, ◌++◌, Option, Some, None, refl, sym, ap, ◌∙◌, subst, arith}
-use Rattle.std.specs.Prelude.{not, int_le, if◌then◌else◌}
+use Rattle.std.specs.Prelude.{not, if◌then◌else◌}
 use Rattle.std.proofs.lemmas.Bool.Decides.{nat_tests}
 use Rattle.cxx_ast.specs.declared.expression.BinaryOp.{BinaryOp}
 use Rattle.cxx_ast.specs.declared.expression.BinaryOp.TheVariants.{And, Or, NotEqual}
@@ -9,19 +9,20 @@ use Rattle.scope_rules.specs.World.{World as SourceWorld}
 use Rattle.scope_rules.specs.Context.{Context as SourceContext}
 use Rattle.scope_rules.specs.Frame.{Frame as SourceFrame}
 use Rattle.scope_rules.specs.Expression.{with_right_side}
-use Rattle.scope_rules.specs.Outcome.{Result as SourceResult, done as source_done, Action as SourceAction, continued as source_continued, ◌>>=◌}
-use Rattle.region_forms.specs.Form.{Value, number, load, Region, seq, branch, RegionList, regions_from, in_order}
+use Rattle.scope_rules.specs.Outcome.{Result as SourceResult, done as source_done, Action as SourceAction, ◌>>=◌}
+use Rattle.region_forms.specs.Form.{Value, number, load, Region, branch, regions_from, in_order}
 use Rattle.region_forms.specs.World.{Frame, World}
 use Rattle.region_forms.specs.Evaluation.{with_some, with_right, value_in}
 use Rattle.region_forms.specs.Form.{Kinds}
-use Rattle.region_forms.specs.Outcome.{State, Context, Flow, normal, leaves, Result, done, Action, continued, pure, some}
+use Rattle.region_forms.specs.Outcome.{State, Context, normal, continued, pure, some}
 use Rattle.region_forms.specs.Ending.{Running}
-use Rattle.region_forms.specs.Meaning.{outwards, followed, region, regions}
-use Rattle.region_forms.specs.LowerExpression.{Lowering, result_slot, first_temporary, Lowered, slot_place, stored_in, truth_of, if_true, if_false}
+use Rattle.region_forms.specs.Meaning.{outwards, followed}
+use Rattle.linear_simulation.specs.Watched.{watched as region, watched_all as regions}
+use Rattle.region_forms.specs.LowerExpression.{Lowering, first_temporary, Lowered, slot_place, stored_in, truth_of, if_true, if_false}
 use Rattle.region_simulation.specs.Places.{Places}
 use Rattle.region_simulation.specs.Reach.{Reaches, KindsFit}
 use Rattle.region_simulation.specs.Stands.{Stands, context_of}
-use Rattle.region_simulation.specs.Alike.{Follows, Alike}
+use Rattle.region_simulation.specs.Alike.{Alike}
 use Rattle.region_simulation.specs.Evaluates.{IsComputed, Evaluates}
 use Rattle.region_simulation.proofs.Following.{alike_then, reaches_kept}
 use Rattle.region_simulation.proofs.Joining.{joined}

@@ -1,27 +1,25 @@
 -- Values whose operands may make calls.
-use Rattle.std.proofs.Common.{◌≡◌, ℕ, zero, suc, ◌+◌, ◌<◌, ◌≤◌, ℤ, pos, negsuc, Bool, true, false, List, [], ◌∷◌, ◌++◌, Option, Some, None, refl, sym, ap, ◌∙◌, subst, arith, length}
-use Rattle.std.specs.Prelude.{not, if◌then◌else◌}
-use Rattle.std.proofs.lemmas.Bool.Decides.{nat_tests}
+use Rattle.std.proofs.Common.{◌≡◌, ℕ, ◌+◌, ◌≤◌, ℤ, List, [], ◌∷◌, Option, Some, None, refl, sym, ap, ◌∙◌, subst, arith}
 use Rattle.cxx_ast.specs.declared.expression.UnaryOp.{UnaryOp}
 use Rattle.cxx_ast.specs.declared.expression.BinaryOp.{BinaryOp}
-use Rattle.cxx_ast.specs.declared.expression.BinaryOp.TheVariants.{And, Or, NotEqual}
 use Rattle.cxx_ast.specs.Plain.{Checked}
-use Rattle.scope_rules.specs.Arithmetic.{is_zero, truth, int_equal, unary_value, binary_value, decided}
+use Rattle.scope_rules.specs.Arithmetic.{unary_value, binary_value, decided}
 use Rattle.scope_rules.specs.World.{World as SourceWorld}
 use Rattle.scope_rules.specs.Context.{Context as SourceContext}
 use Rattle.scope_rules.specs.Frame.{Frame as SourceFrame}
 use Rattle.scope_rules.specs.Expression.{with_right_side}
-use Rattle.scope_rules.specs.Outcome.{Result as SourceResult, done as source_done, stopped as source_stopped, thrown, cancelled, ended, undefined, out_of_turns, deep, Action as SourceAction, continued as source_continued, pure as source_pure, ◌>>=◌}
-use Rattle.region_forms.specs.Form.{Kinds, Value, number, load, unary, binary, help_slot, Region, seq, branch, RegionList, regions_from, in_order}
+use Rattle.scope_rules.specs.Outcome.{Result as SourceResult, done as source_done, stopped as source_stopped, thrown, cancelled, ended, undefined, out_of_turns, deep, Action as SourceAction, continued as source_continued, ◌>>=◌}
+use Rattle.region_forms.specs.Form.{Value, load, unary, binary, help_slot, Region, regions_from}
 use Rattle.region_forms.specs.Layout.{Layout}
 use Rattle.region_forms.specs.World.{number_word}
 use Rattle.region_forms.specs.Evaluation.{with_some, unary_result, binary_result, with_right, value_in}
-use Rattle.region_forms.specs.Outcome.{State, Context, Flow, normal, leaves, Result, done, stopped, Action, continued, pure, some}
+use Rattle.region_forms.specs.Outcome.{State, Context, Flow, normal, Result, done, stopped, Action, continued, pure}
 use Rattle.region_forms.specs.Ending.{Running}
-use Rattle.region_forms.specs.Meaning.{outwards, bounded, followed, region, regions, value_of}
-use Rattle.region_forms.specs.LowerExpression.{Lowering, result_slot, first_temporary, Lowered, slot_place, stored_in, in_temporary, truth_of, if_true, if_false, left_stored}
+use Rattle.region_forms.specs.Meaning.{followed}
+use Rattle.linear_simulation.specs.Watched.{watched_all as regions}
+use Rattle.region_forms.specs.LowerExpression.{Lowering, result_slot, first_temporary, Lowered, slot_place, stored_in, left_stored}
 use Rattle.region_simulation.specs.Places.{Places}
-use Rattle.region_simulation.specs.Reach.{Reaches, KindsFit}
+use Rattle.region_simulation.specs.Reach.{KindsFit}
 use Rattle.region_simulation.specs.Stands.{Stands, context_of}
 use Rattle.region_simulation.specs.Value.{IsValue}
 use Rattle.region_simulation.specs.Alike.{Follows, Alike}

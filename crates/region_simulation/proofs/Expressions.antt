@@ -1,6 +1,5 @@
 -- What an expression is lowered to evaluates to what it means.
-use Rattle.std.proofs.Common.{◌≡◌, ℕ, zero, suc, ◌+◌, ◌≤◌, ℤ, Bool, true, false, List, [], ◌∷◌, ◌++◌, Option, Some, None, refl, sym, ap, ◌∙◌, subst, arith, length}
-use Rattle.std.specs.Prelude.{◌||◌}
+use Rattle.std.proofs.Common.{◌≡◌, ℕ, ◌+◌, ◌≤◌, ℤ, Bool, true, false, List, [], ◌∷◌, Option, None, refl, sym, ap, subst, arith, length}
 use Rattle.cxx_ast.specs.declared.expression.BinaryOp.{BinaryOp}
 use Rattle.cxx_ast.specs.declared.expression.BinaryOp.TheVariants.{Add, Subtract, Multiply, Divide, Remainder, Less, Greater, LessEqual, GreaterEqual, Equal, NotEqual, And, Or}
 use Rattle.cxx_ast.specs.declared.name.Bound.{Bound}
@@ -10,18 +9,18 @@ use Rattle.cxx_ast.specs.declared.name.Name.{Name}
 use Rattle.cxx_ast.specs.declared.types.Ty.{Ty}
 use Rattle.cxx_ast.specs.declared.types.Ty.TheVariants.{Int, Void, Object, IntRef, ObjectRef}
 use Rattle.cxx_ast.specs.Plain.{Expression, number, path, paren, unary, binary, call, std_call, Expressions, no_expressions, expression_then}
-use Rattle.scope_rules.specs.Arithmetic.{unary_value, decided}
-use Rattle.scope_rules.specs.Class.{int_type, class_named, function_at, method_at}
-use Rattle.scope_rules.specs.World.{Reference, World as SourceWorld, nowhere, as_class}
+use Rattle.scope_rules.specs.Arithmetic.{decided}
+use Rattle.scope_rules.specs.Class.{int_type, class_named}
+use Rattle.scope_rules.specs.World.{Reference, nowhere, as_class}
 use Rattle.scope_rules.specs.Context.{Context as SourceContext}
 use Rattle.scope_rules.specs.Frame.{Frame as SourceFrame, lvalue}
 use Rattle.scope_rules.specs.Running.{Argument as SourceArgument, Callee, function, method}
 use Rattle.scope_rules.specs.Outcome.{Action as SourceAction, ◌>>=◌}
-use Rattle.scope_rules.specs.Expression.{lvalue_of, names_of, count_of, callee_bound, receiver, types_of, parameter_types, with_right_side, value_of, arguments, called}
+use Rattle.scope_rules.specs.Expression.{lvalue_of, names_of, count_of, callee_bound, receiver, parameter_types, with_right_side, value_of, arguments, called}
 use Rattle.region_forms.specs.Form.{address_argument}
 use Rattle.region_forms.specs.World.{address_word}
 use Rattle.region_forms.specs.Ending.{Running}
-use Rattle.region_forms.specs.LowerExpression.{Lowering, result_slot, first_temporary, Lowered, LoweredArguments, place_of, has_call, some_call, both, int_passed, lower, lower_arguments, left_stored, call_of, call_stored}
+use Rattle.region_forms.specs.LowerExpression.{Lowering, first_temporary, place_of, has_call, some_call, both, int_passed, lower, lower_arguments, left_stored, call_of, call_stored}
 use Rattle.region_simulation.specs.Reach.{KindsFit}
 use Rattle.region_simulation.specs.Typing.{IsStandard, UnlessHandler, CanCall, IsTyped, AreTyped, types_for}
 use Rattle.region_simulation.specs.Calls.{SameArguments, SameCalls}

@@ -11,13 +11,14 @@ use Rattle.region_forms.specs.Layout.{Layout}
 use Rattle.region_forms.specs.Form.{Region, regions_from, in_order}
 use Rattle.region_forms.specs.Outcome.{State, Context, Flow, normal, leaves, Result, done, stopped, Action, continued, pure}
 use Rattle.region_forms.specs.Ending.{Running}
-use Rattle.region_forms.specs.Meaning.{outwards, followed, region, regions}
+use Rattle.region_forms.specs.Meaning.{outwards, followed}
+use Rattle.linear_simulation.specs.Watched.{watched as region, watched_all as regions}
 use Rattle.region_forms.specs.LowerExpression.{Lowering}
 use Rattle.region_forms.specs.LowerStatement.{variable_slot}
 use Rattle.region_simulation.specs.Places.{Places}
-use Rattle.region_simulation.specs.Stands.{Stands, context_of}
+use Rattle.region_simulation.specs.Stands.{context_of}
 use Rattle.region_simulation.specs.Alike.{Follows, Alike}
-use Rattle.region_simulation.specs.Flows.{FlowAgrees, InScope, DoesAlike}
+use Rattle.region_simulation.specs.Flows.{FlowAgrees, DoesAlike}
 use Rattle.region_simulation.proofs.Following.{Agreement, alike_less, alike_on}
 use Rattle.region_simulation.proofs.Joining.{joined}
 use Rattle.region_simulation.proofs.Leaving.{follows_forgetting, scope_left}

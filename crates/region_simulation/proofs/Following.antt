@@ -1,5 +1,5 @@
 -- How actions that come out alike follow one another.
-use Rattle.std.proofs.Common.{◌≡◌, ℕ, ◌+◌, ◌<◌, ◌≤◌, true, Option, Some, None, refl, sym, ap, ◌∙◌, subst, arith, length}
+use Rattle.std.proofs.Common.{ℕ, ◌+◌, ◌<◌, ◌≤◌, Option, Some, None, refl, sym, ap, ◌∙◌, subst, arith}
 use Rattle.cxx_ast.specs.declared.types.Ty.{Ty}
 use Rattle.cxx_ast.specs.declared.types.Ty.TheVariants.{Int, Void, Object, IntRef, ObjectRef}
 use Rattle.cxx_ast.specs.Plain.{Checked}
@@ -11,11 +11,11 @@ use Rattle.scope_rules.specs.Outcome.{Result as SourceResult, done as source_don
 use Rattle.region_forms.specs.Layout.{Layout}
 use Rattle.region_forms.specs.LowerExpression.{Lowering, variable_type, result_slot}
 use Rattle.region_forms.specs.World.{Address, Frame}
-use Rattle.region_forms.specs.Outcome.{State, Result, done, stopped, Action, continued}
-use Rattle.region_simulation.specs.Places.{Places, Stood, Refers}
-use Rattle.region_simulation.specs.Reach.{is_in_reach, slot_address, IsReachedBy, VariableStands, OwnStands, ThisStands, Reaches}
+use Rattle.region_forms.specs.Outcome.{State, Result, Action, continued}
+use Rattle.region_simulation.specs.Places.{Places, Refers}
+use Rattle.region_simulation.specs.Reach.{slot_address, IsReachedBy, ThisStands, Reaches}
 use Rattle.region_simulation.specs.Stands.{Stands}
-use Rattle.region_simulation.specs.Alike.{Keeps, Follows, SameSeen, Alike}
+use Rattle.region_simulation.specs.Alike.{Keeps, Follows, Alike}
 
 abbrev pub Agreement : Type 0 → Type 0 → Type 1
 Agreement A B = A → B → SourceWorld → Places → State → Type 0

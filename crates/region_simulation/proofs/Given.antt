@@ -1,5 +1,5 @@
 -- Arguments before others that make calls, and references.
-use Rattle.std.proofs.Common.{◌≡◌, ℕ, ◌+◌, ◌≤◌, ℤ, true, List, [], ◌∷◌, ◌++◌, Option, Some, None, refl, sym, ap, ◌∙◌, subst, arith}
+use Rattle.std.proofs.Common.{◌≡◌, ℕ, ◌+◌, ◌≤◌, ℤ, true, List, [], ◌∷◌, ◌++◌, Option, refl, sym, ◌∙◌, subst, arith}
 use Rattle.cxx_ast.specs.declared.types.Ty.{Ty}
 use Rattle.cxx_ast.specs.declared.types.Ty.TheVariants.{Int}
 use Rattle.cxx_ast.specs.declared.name.Name.{Name}
@@ -9,20 +9,19 @@ use Rattle.scope_rules.specs.World.{Reference, World as SourceWorld}
 use Rattle.scope_rules.specs.Context.{Context as SourceContext}
 use Rattle.scope_rules.specs.Frame.{Frame as SourceFrame}
 use Rattle.scope_rules.specs.Running.{Argument as SourceArgument, by_value, by_reference}
-use Rattle.scope_rules.specs.Outcome.{Action as SourceAction, continued as source_continued, pure as source_pure, ◌>>=◌}
-use Rattle.region_forms.specs.Form.{Kinds, Value, load, Argument, int_argument, address_argument, arguments_from, Region, regions_from}
+use Rattle.scope_rules.specs.Outcome.{Action as SourceAction, pure as source_pure, ◌>>=◌}
+use Rattle.region_forms.specs.Form.{load, Argument, int_argument, address_argument, arguments_from, regions_from}
 use Rattle.region_forms.specs.World.{number_word, address_word}
 use Rattle.region_forms.specs.Evaluation.{words_in}
-use Rattle.region_forms.specs.Outcome.{State, Context, Flow, normal}
+use Rattle.region_forms.specs.Outcome.{normal}
 use Rattle.region_forms.specs.Ending.{Running}
-use Rattle.region_forms.specs.Meaning.{followed, regions}
-use Rattle.region_forms.specs.LowerExpression.{Lowering, result_slot, first_temporary, Lowered, LoweredArguments, slot_place, stored_in, place_of, address_passed}
-use Rattle.region_simulation.specs.Places.{Places, Refers}
-use Rattle.region_simulation.specs.Reach.{Reaches, KindsFit}
-use Rattle.region_simulation.specs.Stands.{Stands, context_of}
-use Rattle.region_simulation.specs.Alike.{Follows, Alike, Keeps}
-use Rattle.region_simulation.specs.Calls.{SameArgument, SameArguments}
-use Rattle.region_simulation.specs.Evaluates.{IsComputed, Evaluates, Everywhere}
+use Rattle.region_forms.specs.Meaning.{followed}
+use Rattle.linear_simulation.specs.Watched.{watched_all as regions}
+use Rattle.region_forms.specs.LowerExpression.{Lowering, first_temporary, Lowered, LoweredArguments, slot_place, stored_in, place_of, address_passed}
+use Rattle.region_simulation.specs.Reach.{KindsFit}
+use Rattle.region_simulation.specs.Stands.{context_of}
+use Rattle.region_simulation.specs.Alike.{Alike}
+use Rattle.region_simulation.specs.Evaluates.{Evaluates, Everywhere}
 use Rattle.region_simulation.specs.Passes.{IsGiven, Passes, GivesMeant}
 use Rattle.region_simulation.proofs.Following.{keeps_all, alike_less, alike_on, alike_then, reaches_kept, refers_kept}
 use Rattle.region_simulation.proofs.Joining.{joined}

@@ -1,9 +1,10 @@
 -- Regions one after the other.
-use Rattle.std.proofs.Common.{◌≡◌, ℕ, List, [], ◌∷◌, ◌++◌, refl, sym, ap, ◌∙◌}
-use Rattle.region_forms.specs.Form.{Op, Region, op, RegionList, regions_from}
-use Rattle.region_forms.specs.Outcome.{State, Context, Flow, normal, leaves, Result, done, stopped, Action, continued, pure}
+use Rattle.std.proofs.Common.{◌≡◌, List, [], ◌∷◌, ◌++◌, refl}
+use Rattle.region_forms.specs.Form.{Op, Region, op, regions_from}
+use Rattle.region_forms.specs.Outcome.{State, Context, Flow, normal, leaves, Result, done, stopped, continued, pure}
 use Rattle.region_forms.specs.Ending.{Running}
-use Rattle.region_forms.specs.Meaning.{followed, operation, region, regions}
+use Rattle.region_forms.specs.Meaning.{followed}
+use Rattle.linear_simulation.specs.Watched.{watched_operation as operation, watched as region, watched_all as regions}
 
 -- regions in two parts
 pub joined : (b : Running) (c : Context) (xs ys : List Region) (s : State)

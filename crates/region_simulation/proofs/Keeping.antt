@@ -1,15 +1,15 @@
 -- A place stays where it is while its frame's first slots are kept.
-use Rattle.std.proofs.Common.{◌≡◌, ℕ, ◌+◌, ◌<◌, ◌≤◌, List, [], ◌∷◌, Option, Some, None, refl, sym, ap, ◌∙◌, subst, arith}
+use Rattle.std.proofs.Common.{◌≡◌, ℕ, ◌+◌, ◌<◌, ◌≤◌, List, [], ◌∷◌, Option, Some, None, refl, ap, ◌∙◌, arith}
 use Rattle.cxx_ast.specs.declared.name.Bound.{Bound}
 use Rattle.cxx_ast.specs.declared.name.Bound.TheVariants.{Free, Global, Local, Field, Class, Func, Method, Builtin}
 use Rattle.cxx_ast.specs.declared.name.Name.{Name}
 use Rattle.cxx_ast.specs.declared.types.Ty.{Ty}
 use Rattle.cxx_ast.specs.declared.types.Ty.TheVariants.{Int, Void, Object, IntRef, ObjectRef}
-use Rattle.scope_rules.specs.Class.{ObjectType, int_type, class_type, class_named}
+use Rattle.scope_rules.specs.Class.{ObjectType, class_type}
 use Rattle.scope_rules.specs.World.{Reference, World as SourceWorld, as_class}
 use Rattle.scope_rules.specs.Context.{Context as SourceContext}
 use Rattle.scope_rules.specs.Frame.{Frame as SourceFrame, lvalue}
-use Rattle.region_forms.specs.Form.{Kinds, Root, in_slot, through, in_global}
+use Rattle.region_forms.specs.Form.{Kinds, Root, through}
 use Rattle.region_forms.specs.World.{Address, address_in, Frame}
 use Rattle.region_forms.specs.Evaluation.{slot_location, location_behind, location_address, root_location, locate, address_of, with_some}
 use Rattle.region_forms.specs.Outcome.{State}

@@ -1,24 +1,24 @@
 -- Variables of scopes that are left stand nowhere.
-use Rattle.std.proofs.Common.{◌≡◌, ℕ, ◌+◌, ◌<◌, ◌≤◌, Bool, true, false, Option, Some, None, refl, sym, ap, ◌∙◌, subst, arith, length}
-use Rattle.std.specs.Prelude.{nat_lt, slice_get, if◌then◌else◌}
+use Rattle.std.proofs.Common.{◌≡◌, ℕ, ◌<◌, Bool, true, false, Option, Some, None, refl, sym, ap, ◌∙◌, subst, arith, length}
+use Rattle.std.specs.Prelude.{nat_lt, if◌then◌else◌}
 use Rattle.std.proofs.lemmas.Bool.Decides.{nat_tests}
 use Rattle.cxx_ast.specs.Plain.{Checked}
-use Rattle.scope_rules.specs.Class.{ObjectType, int_type}
-use Rattle.scope_rules.specs.World.{World as SourceWorld, Installed, native as source_native}
+use Rattle.scope_rules.specs.Class.{int_type}
+use Rattle.scope_rules.specs.World.{World as SourceWorld}
 use Rattle.scope_rules.specs.Context.{Context as SourceContext}
-use Rattle.scope_rules.specs.Frame.{Frame as SourceFrame, Variable}
+use Rattle.scope_rules.specs.Frame.{Frame as SourceFrame}
 use Rattle.region_forms.specs.Layout.{Layout}
-use Rattle.region_forms.specs.World.{Base, of_global, of_variable, of_exception, Frame}
+use Rattle.region_forms.specs.World.{Base, of_global, of_variable, of_exception}
 use Rattle.region_forms.specs.Outcome.{State}
-use Rattle.region_forms.specs.LowerExpression.{Lowering, variable_type, result_slot}
+use Rattle.region_forms.specs.LowerExpression.{Lowering, variable_type}
 use Rattle.region_forms.specs.LowerStatement.{variable_slot}
 use Rattle.region_simulation.specs.Places.{Places, Stood}
-use Rattle.region_simulation.specs.Reach.{is_in_reach, ThisStands, Reaches}
+use Rattle.region_simulation.specs.Reach.{ThisStands, Reaches}
 use Rattle.region_simulation.specs.Stands.{Stands}
-use Rattle.region_simulation.specs.Alike.{Keeps, Follows}
+use Rattle.region_simulation.specs.Alike.{Follows}
 use Rattle.region_simulation.specs.Flows.{InScope}
 use Rattle.region_simulation.proofs.Paths.{some_same}
-use Rattle.region_simulation.proofs.Following.{follows_now, reached_kept, refers_kept}
+use Rattle.region_simulation.proofs.Following.{reached_kept, refers_kept}
 
 -- what stands at a variable of a call is forgotten
 abbrev kept_at : Base → Stood → Option Stood

@@ -14,9 +14,9 @@ use Rattle.region_forms.specs.Layout.{Layout, layout_at, laid_part, laid_member,
 use Rattle.region_forms.specs.World.{Address, behind}
 use Rattle.region_forms.specs.LowerExpression.{Lowering, member_type, members_offset}
 use Rattle.region_simulation.specs.Typed.{type_along, offset_along, Shaped}
-use Rattle.region_simulation.specs.Places.{Places, Stood, address_along, Refers, Remembers}
+use Rattle.region_simulation.specs.Places.{Places, Refers, Remembers}
 use Rattle.region_simulation.specs.Names.{HasMember, MemberThen, AreMembers}
-use Rattle.region_simulation.proofs.Paths.{some_same, type_joined, offset_joined, shaped_along, Leads, to_base}
+use Rattle.region_simulation.proofs.Paths.{type_joined, offset_joined, shaped_along, to_base}
 
 -- the i-th member among the parts
 members_typed : (ms : List Param) (i : ℕ) → i < length ms

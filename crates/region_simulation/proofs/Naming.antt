@@ -1,5 +1,5 @@
 -- The place that a name is lowered to is where what it names stands.
-use Rattle.std.proofs.Common.{◌≡◌, ℕ, ◌+◌, ◌<◌, ℤ, true, List, [], ◌∷◌, Option, Some, None, refl, sym, ap, ◌∙◌, subst, arith, length}
+use Rattle.std.proofs.Common.{◌≡◌, ℕ, ◌+◌, List, [], ◌∷◌, Option, Some, None, refl, sym, ap, ◌∙◌, subst}
 use Rattle.cxx_ast.specs.declared.name.Bound.{Bound}
 use Rattle.cxx_ast.specs.declared.name.Bound.TheVariants.{Free, Global, Local, Field, Class, Func, Method, Builtin}
 use Rattle.cxx_ast.specs.declared.name.Name.{Name}
@@ -9,15 +9,15 @@ use Rattle.scope_rules.specs.Class.{ObjectType, int_type, class_type}
 use Rattle.scope_rules.specs.World.{Reference, World as SourceWorld, whole}
 use Rattle.scope_rules.specs.Context.{Context as SourceContext}
 use Rattle.scope_rules.specs.Frame.{Frame as SourceFrame, named, lvalue}
-use Rattle.region_forms.specs.Form.{Kinds, SlotKind, int_slot, object_slot, Root, in_slot, through, in_global}
+use Rattle.region_forms.specs.Form.{Kinds, Root, through, in_global}
 use Rattle.region_forms.specs.Layout.{laid_member}
-use Rattle.region_forms.specs.World.{Address, of_global, of_variable, Word, address_word, address_in, Frame, World, behind}
-use Rattle.region_forms.specs.Evaluation.{Location, in_memory, slot_location, location_behind, root_location, locate}
+use Rattle.region_forms.specs.World.{Address, of_global, address_word, address_in, Frame, behind}
+use Rattle.region_forms.specs.Evaluation.{in_memory, slot_location, location_behind, root_location, locate}
 use Rattle.region_forms.specs.Outcome.{State}
 use Rattle.region_forms.specs.LowerExpression.{Lowering, variable_root, variable_type, named_place, members_offset, place_of}
-use Rattle.region_simulation.specs.Places.{Places, Refers, Remembers}
-use Rattle.region_simulation.specs.Reach.{slot_address, IsReachedBy, VariableStands, OwnStands, ThisStands, Reaches, kind_for, KindsFit}
-use Rattle.region_simulation.specs.Names.{HasMember, IsNamed, AreMembers, AreNamed}
+use Rattle.region_simulation.specs.Places.{Places, Refers}
+use Rattle.region_simulation.specs.Reach.{IsReachedBy, ThisStands, Reaches, kind_for, KindsFit}
+use Rattle.region_simulation.specs.Names.{IsNamed, AreNamed}
 use Rattle.region_simulation.specs.Stands.{Stands}
 use Rattle.region_simulation.proofs.Members.{refers_shaped, behind_none, behind_both, refers_member, refers_members}
 

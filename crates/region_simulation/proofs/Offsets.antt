@@ -1,12 +1,11 @@
 -- The ints of an object stand apart.
-use Rattle.std.proofs.Common.{◌≡◌, ℕ, zero, suc, ◌+◌, ◌<◌, ◌≤◌, ◌⊎◌, inl, inr, ℤ, List, [], ◌∷◌, ◌++◌, Option, Some, None, refl, sym, ap, ap₂, ◌∙◌, subst, arith}
-use Rattle.std.specs.Prelude.{map, slice_get, unwrap_or}
+use Rattle.std.proofs.Common.{◌≡◌, ℕ, zero, suc, ◌+◌, ◌<◌, ◌≤◌, ◌⊎◌, inl, inr, List, [], ◌∷◌, Option, Some, None, refl, sym, ap, ap₂, ◌∙◌, subst, arith}
+use Rattle.std.specs.Prelude.{slice_get, unwrap_or}
 use Rattle.cxx_ast.specs.Plain.{Checked, Class}
-use Rattle.scope_rules.specs.Class.{ObjectType, int_type, class_type, class_at, parts_of, no_class}
-use Rattle.scope_rules.specs.Part.{Part, cell, object, Parts, no_parts, part_then, nth_part, part_at}
-use Rattle.region_forms.specs.Layout.{Layout, size_in, class_parts, part_offset, laid_part}
+use Rattle.scope_rules.specs.Class.{ObjectType, int_type, class_type, parts_of, no_class}
+use Rattle.region_forms.specs.Layout.{Layout, size_in, class_parts, part_offset}
 use Rattle.class_layout.specs.StandApart.{StandApart}
-use Rattle.region_simulation.specs.Typed.{type_along, offset_along, Shaped, AllShaped}
+use Rattle.region_simulation.specs.Typed.{type_along, offset_along}
 use Rattle.region_simulation.proofs.Paths.{some_same}
 
 -- how an object of class k goes on to its i-th part

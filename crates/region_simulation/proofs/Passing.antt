@@ -1,36 +1,31 @@
 -- Arguments, one before the others.
-use Rattle.std.proofs.Common.{◌≡◌, ℕ, ◌+◌, ◌≤◌, ℤ, List, [], ◌∷◌, ◌++◌, Option, Some, None, refl, sym, ap, ◌∙◌, subst, arith}
+use Rattle.std.proofs.Common.{◌≡◌, ℕ, ◌≤◌, ℤ, List, ◌∷◌, Option, Some, refl, sym, ap, ◌∙◌, subst}
 use Rattle.cxx_ast.specs.declared.types.Ty.{Ty}
 use Rattle.cxx_ast.specs.declared.types.Ty.TheVariants.{Int}
-use Rattle.cxx_ast.specs.declared.name.Name.{Name}
 use Rattle.cxx_ast.specs.Plain.{Checked}
 use Rattle.scope_rules.specs.Class.{object_type}
-use Rattle.scope_rules.specs.World.{Reference, World as SourceWorld}
+use Rattle.scope_rules.specs.World.{World as SourceWorld}
 use Rattle.scope_rules.specs.Context.{Context as SourceContext}
 use Rattle.scope_rules.specs.Frame.{Frame as SourceFrame}
 use Rattle.scope_rules.specs.Running.{Argument as SourceArgument, by_value, by_reference}
 use Rattle.scope_rules.specs.Outcome.{Result as SourceResult, done as source_done, stopped as source_stopped, thrown, cancelled, ended, undefined, out_of_turns, deep, Action as SourceAction, continued as source_continued, pure as source_pure, ◌>>=◌}
-use Rattle.region_forms.specs.Form.{Kinds, Value, load, Argument, int_argument, address_argument, arguments_from, Place, Region, regions_from, help_slot}
+use Rattle.region_forms.specs.Form.{Kinds, Value, Argument, int_argument, address_argument, arguments_from, Place}
 use Rattle.region_forms.specs.Layout.{Layout}
 use Rattle.region_forms.specs.World.{Address, Word, number_word, address_word, Frame, World}
-use Rattle.region_forms.specs.Evaluation.{with_some, value_in, address_of, word_in, words_in}
-use Rattle.region_forms.specs.Outcome.{State, Context, Flow, normal, Result, done}
+use Rattle.region_forms.specs.Evaluation.{with_some, value_in, address_of, words_in}
+use Rattle.region_forms.specs.Outcome.{State, Flow, Result, done}
 use Rattle.region_forms.specs.Ending.{Running}
-use Rattle.region_forms.specs.Meaning.{followed, regions}
-use Rattle.region_forms.specs.LowerExpression.{Lowering, result_slot, first_temporary, Lowered, LoweredArguments, slot_place, stored_in, place_of, address_passed}
-use Rattle.region_simulation.specs.Places.{Places, Refers}
-use Rattle.region_simulation.specs.Reach.{Reaches, KindsFit}
-use Rattle.region_simulation.specs.Stands.{Stands, context_of}
+use Rattle.region_forms.specs.LowerExpression.{Lowering, result_slot, Lowered}
+use Rattle.region_simulation.specs.Places.{Places}
+use Rattle.region_simulation.specs.Reach.{KindsFit}
+use Rattle.region_simulation.specs.Stands.{Stands}
 use Rattle.region_simulation.specs.Value.{IsValue}
 use Rattle.region_simulation.specs.Alike.{Follows, Alike}
 use Rattle.region_simulation.specs.Calls.{SameArgument, SameArguments}
 use Rattle.region_simulation.specs.Evaluates.{IsComputed, Evaluates, IsMeant}
 use Rattle.region_simulation.specs.Passes.{ArePassed, IsGiven, Passes, GivesMeant}
-use Rattle.region_simulation.proofs.Following.{Agreement, follows_now, alike_less, alike_on, alike_then, reaches_kept, refers_kept}
-use Rattle.region_simulation.proofs.Joining.{joined}
-use Rattle.region_simulation.proofs.Storing.{with_temporary, stores_first, stored_value, temporary_is, follows_stored}
-use Rattle.region_simulation.proofs.Evaluating.{alike_map, help_there}
-use Rattle.region_simulation.proofs.Keeping.{Addressed}
+use Rattle.region_simulation.proofs.Following.{Agreement, follows_now, reaches_kept, refers_kept}
+use Rattle.region_simulation.proofs.Evaluating.{alike_map}
 
 -- the words of arguments, the first before the others
 pub words_int : (kinds : Kinds) (f : Frame) (w : World) (y : Value) (args : List Argument) (n : ℤ) (words : List Word) → value_in kinds f w y ≡ Some n

@@ -1,14 +1,12 @@
 -- Paths in objects: the types, the offsets and the parts at their ends.
-use Rattle.std.proofs.Common.{◌≡◌, ℕ, zero, suc, ◌+◌, ◌<◌, Bool, true, false, List, [], ◌∷◌, ◌++◌, Option, Some, None, refl, sym, ap, ◌∙◌, subst, arith, length}
-use Rattle.std.specs.Prelude.{◌==◌, ◌||◌, map, slice_get, unwrap_or, if◌then◌else◌}
+use Rattle.std.proofs.Common.{◌≡◌, ℕ, zero, suc, ◌+◌, Bool, true, false, List, [], ◌∷◌, ◌++◌, Option, Some, None, refl, sym, ap, subst, arith}
+use Rattle.std.specs.Prelude.{◌==◌, ◌||◌, map, slice_get, if◌then◌else◌}
 use Rattle.std.proofs.lemmas.Bool.Decides.{nat_tests}
 use Rattle.cxx_ast.specs.declared.name.Name.{Name}
-use Rattle.cxx_ast.specs.declared.types.Param.{Param}
 use Rattle.cxx_ast.specs.Plain.{Checked}
-use Rattle.scope_rules.specs.Class.{ObjectType, int_type, class_type, class_named, class_at, contains, chain_of_bases, derives, base_part, member_part, parts_of, member_place}
+use Rattle.scope_rules.specs.Class.{ObjectType, int_type, class_type, class_named, class_at, contains, chain_of_bases, base_part, member_part, parts_of}
 use Rattle.scope_rules.specs.Part.{Part, cell, object, Parts, no_parts, part_then, nth_part, part_at, path_to_class, path_through}
-use Rattle.region_forms.specs.Layout.{Layout, layout_at, laid_part, laid_member, offset_of_part}
-use Rattle.region_forms.specs.LowerExpression.{member_type}
+use Rattle.region_forms.specs.Layout.{Layout, layout_at, laid_part, offset_of_part}
 use Rattle.region_simulation.specs.Typed.{type_along, offset_along, Shaped, AllShaped}
 
 pub some_same : {A : Type 0} {x y : A} → Some x ≡ Some y → x ≡ y

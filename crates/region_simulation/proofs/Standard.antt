@@ -1,28 +1,26 @@
 -- Each built-in function that neither raises nor terminates does the same.
-use Rattle.std.proofs.Common.{◌≡◌, ℕ, zero, suc, ◌+◌, ◌≤◌, ℤ, pos, negsuc, Bool, true, false, List, [], ◌∷◌, ◌++◌, Option, Some, None, refl, sym, ap, ◌∙◌, subst, arith, length}
+use Rattle.std.proofs.Common.{◌≡◌, ℕ, ℤ, pos, negsuc, false, List, [], ◌∷◌, ◌++◌, Option, Some, None, refl, sym, ap, ◌∙◌, subst, arith, length}
 use Rattle.std.specs.Prelude.{not, ◌==◌}
 use Rattle.std.proofs.lemmas.Bool.Decides.{nat_tests}
-use Rattle.cxx_ast.specs.declared.name.Builtin.{Builtin}
 use Rattle.cxx_ast.specs.declared.name.Builtin.TheVariants.{WriteInt, ReadByte, Exit, Module, Cancel, Terminate, SetTerminate, SetUnexpected, Uncaught, BadException}
-use Rattle.cxx_ast.specs.Plain.{Expressions, no_expressions, expression_then}
+use Rattle.cxx_ast.specs.Plain.{no_expressions, expression_then}
 use Rattle.run_items.specs.declared.item.Item.TheVariants.{Line}
 use Rattle.scope_rules.specs.Arithmetic.{truth}
 use Rattle.scope_rules.specs.World.{World as SourceWorld, Reference}
 use Rattle.scope_rules.specs.Context.{Context as SourceContext}
 use Rattle.scope_rules.specs.Frame.{Frame as SourceFrame}
 use Rattle.scope_rules.specs.Running.{Argument as SourceArgument, Callee as SourceCallee}
-use Rattle.scope_rules.specs.Outcome.{done as source_done, ended, exit, cancelled, Action as SourceAction, pure as source_pure, stop as source_stop, emit, ◌>>=◌, ◌>>◌}
+use Rattle.scope_rules.specs.Outcome.{done as source_done, ended, exit, cancelled, Action as SourceAction, pure as source_pure, stop as source_stop, emit, ◌>>◌}
 use Rattle.scope_rules.specs.Expression.{value_at, next_byte, is_travelling, function_named, count_of, arguments}
 use Rattle.region_forms.specs.Form.{builtin, arguments_from}
 use Rattle.region_forms.specs.World.{World, with_item}
 use Rattle.region_forms.specs.Evaluation.{words_in}
 use Rattle.region_forms.specs.Effect.{if_some, called, number_at, byte_of, bytes_after, some_travel}
-use Rattle.region_forms.specs.Outcome.{State, stopped}
+use Rattle.region_forms.specs.Outcome.{stopped}
 use Rattle.region_forms.specs.Ending.{Running, perform}
-use Rattle.region_forms.specs.LowerExpression.{Lowering, first_temporary, slot_place, lower_arguments, handler_arguments}
-use Rattle.region_simulation.specs.Places.{Places}
+use Rattle.region_forms.specs.LowerExpression.{Lowering, slot_place, lower_arguments, handler_arguments}
 use Rattle.region_simulation.specs.Reach.{KindsFit}
-use Rattle.region_simulation.specs.Stands.{IsHandler, Stands, context_of}
+use Rattle.region_simulation.specs.Stands.{IsHandler, context_of}
 use Rattle.region_simulation.specs.Typing.{types_for}
 use Rattle.region_simulation.specs.Alike.{Alike}
 use Rattle.region_simulation.specs.Expressions.{source_running, SameBuiltin, SameBuiltins, ExpressionsEvaluate}

@@ -1,22 +1,23 @@
 -- A value that is stored in a slot between calls.
-use Rattle.std.proofs.Common.{◌≡◌, ℕ, ◌+◌, ◌<◌, ◌≤◌, ℤ, Bool, true, false, List, [], ◌∷◌, Option, Some, None, refl, sym, ap, ◌∙◌, subst, arith}
+use Rattle.std.proofs.Common.{◌≡◌, ℕ, ◌<◌, ◌≤◌, ℤ, true, false, List, ◌∷◌, Option, Some, refl, ap, ◌∙◌, arith}
 use Rattle.std.specs.Prelude.{◌==◌, if◌then◌else◌}
 use Rattle.std.proofs.lemmas.Bool.Decides.{nat_tests}
 use Rattle.cxx_ast.specs.Plain.{Checked}
 use Rattle.scope_rules.specs.World.{World as SourceWorld}
 use Rattle.scope_rules.specs.Context.{Context as SourceContext}
-use Rattle.region_forms.specs.Form.{Kinds, Value, number, load, unary, binary, call_value, Place, help_slot, SlotKind, Op, store, Region, op, RegionList, regions_from}
+use Rattle.region_forms.specs.Form.{Kinds, Value, number, load, unary, binary, call_value, Place, help_slot, store, Region, regions_from}
 use Rattle.region_forms.specs.Layout.{Layout}
-use Rattle.region_forms.specs.World.{Word, number_word, number_in, Frame, World, with_slot}
-use Rattle.region_forms.specs.Evaluation.{with_some, in_frame, slot_location, read_location, value_in, locate}
-use Rattle.region_forms.specs.Effect.{Effect, if_some, finished, valued, effect, stored_at}
-use Rattle.region_forms.specs.Outcome.{State, Context, Flow, normal, Result, done, stopped, continued, pure}
+use Rattle.region_forms.specs.World.{number_word, number_in, Frame, World, with_slot}
+use Rattle.region_forms.specs.Evaluation.{slot_location, read_location, value_in}
+use Rattle.region_forms.specs.Effect.{if_some, finished, valued, stored_at}
+use Rattle.region_forms.specs.Outcome.{State, Context, normal, done, continued, pure}
 use Rattle.region_forms.specs.Ending.{Running, perform}
-use Rattle.region_forms.specs.Meaning.{followed, operation, region, regions}
+use Rattle.region_forms.specs.Meaning.{followed, operation}
+use Rattle.linear_simulation.specs.Watched.{watched_all as regions}
 use Rattle.region_forms.specs.LowerExpression.{slot_place, stored_in}
 use Rattle.region_simulation.specs.Places.{Places}
 use Rattle.region_simulation.specs.Stands.{Stands}
-use Rattle.region_simulation.specs.Alike.{Keeps, Follows}
+use Rattle.region_simulation.specs.Alike.{Follows}
 
 -- a value without calls is stored
 pub valued_as : (kinds : Kinds) (y : Value) (p : Option Place) (f : Frame) (w : World) (x : ℤ) → value_in kinds f w y ≡ Some x

@@ -1,5 +1,5 @@
 -- The value that an expression without calls is lowered to is what the expression means.
-use Rattle.std.proofs.Common.{◌≡◌, ℕ, ℤ, Bool, true, false, List, [], ◌∷◌, Option, Some, None, refl, sym, ap, ◌∙◌, subst}
+use Rattle.std.proofs.Common.{◌≡◌, ℕ, ℤ, Bool, true, false, List, [], Option, Some, None, refl, sym, ap, ◌∙◌, subst}
 use Rattle.std.specs.Prelude.{◌||◌, ◌+ℤ◌, ◌-ℤ◌, ◌*ℤ◌, neg_ℤ, int_div, int_rem, if◌then◌else◌}
 use Rattle.cxx_ast.specs.declared.expression.UnaryOp.{UnaryOp}
 use Rattle.cxx_ast.specs.declared.expression.UnaryOp.TheVariants.{Minus, Not}
@@ -7,18 +7,18 @@ use Rattle.cxx_ast.specs.declared.expression.BinaryOp.{BinaryOp}
 use Rattle.cxx_ast.specs.declared.expression.BinaryOp.TheVariants.{Add, Subtract, Multiply, Divide, Remainder, Less, Greater, LessEqual, GreaterEqual, Equal, NotEqual, And, Or}
 use Rattle.cxx_ast.specs.declared.name.Name.{Name}
 use Rattle.cxx_ast.specs.Plain.{Expression, number, path, paren, unary, binary, call, std_call}
-use Rattle.scope_rules.specs.Arithmetic.{fits_int, is_zero, in_range, dividing, unary_value, binary_value, decided}
+use Rattle.scope_rules.specs.Arithmetic.{fits_int, is_zero, dividing, unary_value, binary_value, decided}
 use Rattle.scope_rules.specs.Class.{int_type}
 use Rattle.scope_rules.specs.Part.{Part, cell, object}
-use Rattle.scope_rules.specs.World.{Reference, World as SourceWorld, part_of}
+use Rattle.scope_rules.specs.World.{World as SourceWorld, part_of}
 use Rattle.scope_rules.specs.Context.{Context as SourceContext}
-use Rattle.scope_rules.specs.Outcome.{Result as SourceResult, Stop, done, stopped, thrown, cancelled, ended, undefined, out_of_turns, deep, Action, continued, pure, stop, read, read_part}
+use Rattle.scope_rules.specs.Outcome.{Result as SourceResult, done, stopped, thrown, cancelled, ended, undefined, out_of_turns, deep, Action, continued, pure, stop, read, read_part}
 use Rattle.scope_rules.specs.Frame.{Frame as SourceFrame, lvalue}
 use Rattle.scope_rules.specs.Running.{Running as SourceRunning}
 use Rattle.scope_rules.specs.Expression.{value_of, with_right_side}
 use Rattle.region_forms.specs.Form.{Kinds, load}
 use Rattle.region_forms.specs.World.{Address}
-use Rattle.region_forms.specs.Evaluation.{in_memory, locate, with_some, read_location, fitting, quotient, unary_result, binary_result, with_right, value_in}
+use Rattle.region_forms.specs.Evaluation.{in_memory, locate, with_some, read_location, quotient, unary_result, binary_result, with_right, value_in}
 use Rattle.region_forms.specs.Outcome.{State}
 use Rattle.region_forms.specs.LowerExpression.{Lowering, lower, has_call, both, place_of}
 use Rattle.region_simulation.specs.Places.{Places, Refers}

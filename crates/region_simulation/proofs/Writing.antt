@@ -1,10 +1,10 @@
 -- A write to an int of an object is one to memory.
-use Rattle.std.proofs.Common.{◌≡◌, ℕ, zero, suc, ◌+◌, ◌<◌, ◌≤◌, ◌⊎◌, inl, inr, ℤ, Bool, true, false, List, [], ◌∷◌, Option, Some, None, refl, sym, ap, ap₂, ◌∙◌, subst, arith, length}
+use Rattle.std.proofs.Common.{◌≡◌, ℕ, zero, suc, ◌<◌, ◌⊎◌, inl, inr, ℤ, Bool, true, false, List, [], ◌∷◌, Option, Some, None, refl, sym, ap, ap₂, ◌∙◌, subst, arith, length}
 use Rattle.std.specs.Prelude.{slice_get, slice_set, unwrap_or, ◌==◌, ◌&&◌, if◌then◌else◌}
 use Rattle.std.proofs.lemmas.Bool.Decides.{nat_tests}
 use Rattle.cxx_ast.specs.Plain.{Checked}
 use Rattle.class_layout.specs.StandApart.{StandApart}
-use Rattle.scope_rules.specs.Class.{ObjectType, int_type}
+use Rattle.scope_rules.specs.Class.{int_type}
 use Rattle.scope_rules.specs.Part.{Part, cell, part_at, with_part_at}
 use Rattle.scope_rules.specs.World.{Reference, World as SourceWorld, object_at, written as source_written}
 use Rattle.scope_rules.specs.Context.{Context as SourceContext}

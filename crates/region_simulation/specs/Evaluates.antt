@@ -1,5 +1,5 @@
 -- That what an expression is lowered to evaluates to what a computation of the source gives.
-use Rattle.std.specs.Prelude.{◌≡◌, ℕ, ◌≤◌, ℤ, Option, Some}
+use Rattle.std.specs.Prelude.{◌≡◌, ℕ, ℤ, Option, Some}
 use Rattle.scope_rules.specs.World.{World as SourceWorld}
 use Rattle.scope_rules.specs.Context.{Context as SourceContext}
 use Rattle.scope_rules.specs.Outcome.{Action as SourceAction}
@@ -8,7 +8,7 @@ use Rattle.region_forms.specs.Form.{Kinds, Value, regions_from}
 use Rattle.region_forms.specs.Evaluation.{value_in}
 use Rattle.region_forms.specs.Outcome.{State, Flow, normal}
 use Rattle.region_forms.specs.Ending.{Running}
-use Rattle.region_forms.specs.Meaning.{regions}
+use Rattle.linear_simulation.specs.Watched.{watched_all}
 use Rattle.region_forms.specs.LowerExpression.{Lowering, Lowered}
 use Rattle.region_simulation.specs.Places.{Places}
 use Rattle.region_simulation.specs.Reach.{Reaches}
@@ -28,7 +28,7 @@ Everywhere l own v c said =
 -- what comes before a value comes out as the computation does, and then the value is its answer; slots below the k-th are kept
 abbrev pub Evaluates : Lowering → (own : Option ℕ) → Running → SourceFrame → SourceContext → ℕ → SourceAction ℤ → Lowered → Type 0
 Evaluates l own b v c k act x = Everywhere l own v c (λ at w s.
-    Alike l.layout l.program at k c w s (IsComputed b.kinds x.value) (act w) (regions b (regions_from x.before) (context_of w.open_calls c) s))
+    Alike l.layout l.program at k c w s (IsComputed b.kinds x.value) (act w) (watched_all b (regions_from x.before) (context_of w.open_calls c) s))
 
 -- a value has the value of a computation that changes nothing
 abbrev pub IsMeant : Lowering → (own : Option ℕ) → Running → SourceFrame → SourceContext → SourceAction ℤ → Value → Type 0

@@ -8,7 +8,7 @@ use Rattle.region_forms.specs.Form.{Region, regions_from}
 use Rattle.region_forms.specs.World.{of_variable, number_word}
 use Rattle.region_forms.specs.Outcome.{State, Flow, normal, leaves}
 use Rattle.region_forms.specs.Ending.{Running}
-use Rattle.region_forms.specs.Meaning.{regions}
+use Rattle.linear_simulation.specs.Watched.{watched_all}
 use Rattle.region_forms.specs.LowerExpression.{Lowering, result_slot}
 use Rattle.region_forms.specs.LowerStatement.{variable_slot}
 use Rattle.region_simulation.specs.Places.{Places, Stood}
@@ -40,4 +40,4 @@ pub record InScope (l : Lowering) (own : Option ℕ) (n : ℕ) (at : Places) (v 
 abbrev pub DoesAlike : Lowering → (own : Option ℕ) → (gives : Bool) → Running → SourceFrame → SourceContext → (n i d : ℕ) → SourceAction SourceFlow → List Region → Type 0
 DoesAlike l own gives b v c n i d act rs =
     (at : Places) (w : SourceWorld) (s : State) → Stands l.layout l.program at c w s → InScope l own n at v s
-    → Alike l.layout l.program at (variable_slot l n) c w s (FlowAgrees l gives i d) (act w) (regions b (regions_from rs) (context_of w.open_calls c) s)
+    → Alike l.layout l.program at (variable_slot l n) c w s (FlowAgrees l gives i d) (act w) (watched_all b (regions_from rs) (context_of w.open_calls c) s)

@@ -13,7 +13,7 @@ use Rattle.region_forms.specs.World.{Word}
 use Rattle.region_forms.specs.Evaluation.{words_in}
 use Rattle.region_forms.specs.Outcome.{State, Flow, normal}
 use Rattle.region_forms.specs.Ending.{Running}
-use Rattle.region_forms.specs.Meaning.{regions}
+use Rattle.linear_simulation.specs.Watched.{watched_all}
 use Rattle.region_forms.specs.LowerExpression.{Lowering, LoweredArguments}
 use Rattle.region_simulation.specs.Places.{Places}
 use Rattle.region_simulation.specs.Stands.{context_of}
@@ -35,7 +35,7 @@ IsGiven l p kinds types args given flow w at s =
 -- what comes before arguments comes out as their computation does; slots below the k-th are kept
 abbrev pub Passes : Lowering → (own : Option ℕ) → Running → SourceFrame → SourceContext → ℕ → List Ty → SourceAction (List SourceArgument) → LoweredArguments → Type 0
 Passes l own b v c k types act x = Everywhere l own v c (λ at w s.
-    Alike l.layout l.program at k c w s (IsGiven l.layout l.program b.kinds types x.arguments) (act w) (regions b (regions_from x.before) (context_of w.open_calls c) s))
+    Alike l.layout l.program at k c w s (IsGiven l.layout l.program b.kinds types x.arguments) (act w) (watched_all b (regions_from x.before) (context_of w.open_calls c) s))
 
 -- arguments that are computed without a change
 abbrev pub GivesMeant : Lowering → (own : Option ℕ) → Running → SourceFrame → SourceContext → List Ty → SourceAction (List SourceArgument) → List Argument → Type 0

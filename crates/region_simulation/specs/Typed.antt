@@ -1,5 +1,5 @@
 -- Types along paths. The parts of an object are those of its class, so where a part stands in an object is known by types alone.
-use Rattle.std.specs.Prelude.{◌≡◌, ℕ, ◌+◌, List, [], ◌∷◌, Option, Some, None, slice_get, unwrap_or}
+use Rattle.std.specs.Prelude.{◌≡◌, ℕ, ◌+◌, List, [], ◌∷◌, Option, Some, None, slice_get}
 use Rattle.cxx_ast.specs.Plain.{Checked}
 use Rattle.scope_rules.specs.Class.{ObjectType, int_type, class_type, parts_of}
 use Rattle.scope_rules.specs.Part.{Part, cell, object, Parts, no_parts, part_then}

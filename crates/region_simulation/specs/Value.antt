@@ -1,14 +1,13 @@
 -- That a value of regions is that of an expression, where neither makes a call.
-use Rattle.std.specs.Prelude.{◌≡◌, ℕ, ℤ, false, List, [], Option, Some}
-use Rattle.cxx_ast.specs.Plain.{Expression, number, path, paren, unary, binary, call, std_call}
-use Rattle.scope_rules.specs.Class.{int_type}
+use Rattle.std.specs.Prelude.{◌≡◌, ℕ, ℤ, false, [], Option, Some}
+use Rattle.cxx_ast.specs.Plain.{Expression}
 use Rattle.scope_rules.specs.World.{World as SourceWorld}
 use Rattle.scope_rules.specs.Context.{Context as SourceContext}
 use Rattle.scope_rules.specs.Outcome.{Result as SourceResult, done, stopped, undefined}
-use Rattle.scope_rules.specs.Frame.{Frame as SourceFrame, Variable}
+use Rattle.scope_rules.specs.Frame.{Frame as SourceFrame}
 use Rattle.scope_rules.specs.Running.{Running as SourceRunning}
 use Rattle.scope_rules.specs.Expression.{value_of}
-use Rattle.region_forms.specs.Form.{Kinds, Value}
+use Rattle.region_forms.specs.Form.{Kinds}
 use Rattle.region_forms.specs.Evaluation.{value_in}
 use Rattle.region_forms.specs.Outcome.{State}
 use Rattle.region_forms.specs.LowerExpression.{Lowering, lower, has_call}

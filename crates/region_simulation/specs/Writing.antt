@@ -1,7 +1,7 @@
 -- That a write to an object of the source is a write to memory.
 use Rattle.std.specs.Prelude.{◌≡◌, ℕ, ◌≤◌, ℤ, List, [], ◌∷◌, ◌++◌, Option}
 use Rattle.cxx_ast.specs.declared.name.Name.{Name}
-use Rattle.cxx_ast.specs.Plain.{Checked, Expression}
+use Rattle.cxx_ast.specs.Plain.{Checked}
 use Rattle.class_layout.specs.StandApart.{StandApart}
 use Rattle.scope_rules.specs.Class.{int_type}
 use Rattle.scope_rules.specs.World.{Reference, World as SourceWorld, written as source_written}
@@ -13,7 +13,7 @@ use Rattle.region_forms.specs.Layout.{Layout}
 use Rattle.region_forms.specs.World.{Address, written}
 use Rattle.region_forms.specs.Outcome.{State, normal}
 use Rattle.region_forms.specs.Ending.{Running}
-use Rattle.region_forms.specs.Meaning.{regions}
+use Rattle.linear_simulation.specs.Watched.{watched_all}
 use Rattle.region_forms.specs.LowerExpression.{Lowering, result_slot, Lowered, place_of}
 use Rattle.region_simulation.specs.Places.{Places, Refers}
 use Rattle.region_simulation.specs.Reach.{KindsFit}
@@ -31,7 +31,7 @@ WritesStand =
 -- regions do what an action does, and then go on normally; slots below the k-th are kept
 abbrev pub Does : Lowering → (own : Option ℕ) → Running → SourceFrame → SourceContext → ℕ → SourceAction (Unit {0}) → List Region → Type 0
 Does l own b v c k act rs = Everywhere l own v c (λ at w s.
-    Alike l.layout l.program at k c w s (λ u flow w2 at2 s2. flow ≡ normal) (act w) (regions b (regions_from rs) (context_of w.open_calls c) s))
+    Alike l.layout l.program at k c w s (λ u flow w2 at2 s2. flow ≡ normal) (act w) (watched_all b (regions_from rs) (context_of w.open_calls c) s))
 
 -- what names stand for is set to the value of a computation
 abbrev pub assigned : Lowering → SourceFrame → List Name → SourceAction ℤ → SourceAction (Unit {0})

@@ -25,7 +25,6 @@ use Rattle.throw_simulation.specs.Extents.{EmptyConstructor}
 use Rattle.throw_simulation.specs.Handlers.{EmptyDestructor}
 use Rattle.throw_simulation.specs.Same.{RunAlike}
 use Rattle.throw_simulation.proofs.Exceptions.{all_throws_do_alike, all_tries_do_alike}
-use Rattle.throw_simulation.proofs.Faring.{faring_calls_are_barred}
 use Rattle.throw_simulation.proofs.Modules.{modules_answer_alike}
 use Rattle.throw_simulation.proofs.Unset.{unset_is_shaped}
 use Rattle.source_simulation.specs.Forms.{IsOrderedProgram, FormsAreSame}
@@ -62,7 +61,6 @@ module _ (laws : CaughtListFollows) (p : Checked) (layout : Layout) (q : Regions
       let call = fueled_call p limit fuel in
       let b = regions_running q limit fuel kinds in
       let fare = fueled_fares p limit fuel in
-      let barred = faring_calls_are_barred (fueled p limit fuel) fare in
       record {
         terminates = λ v c. (modules_answer_alike laws l own call b v c fit alike).0;
         modules = λ v c. (modules_answer_alike laws l own call b v c fit alike).1;
@@ -70,7 +68,7 @@ module _ (laws : CaughtListFollows) (p : Checked) (layout : Layout) (q : Regions
         objects = λ v c n i d k x es rest ys lt declares can next.
             objects_do_alike l own gives call b fit same (λ v c. (modules_answer_alike laws l own call b v c fit alike).0)
             (λ v c. (modules_answer_alike laws l own call b v c fit alike).1) (unset_is_shaped p ordered.ordered)
-            (object_scopes_are_same l own gives call b alike barred fit) v c n i d k x es rest ys lt declares can next;
+            (object_scopes_are_same l own gives call b alike fare fit) v c n i d k x es rest ys lt declares can next;
         tries = λ v c n i d ss hs lt block handlers typed caught.
             all_tries_do_alike laws l own gives call b v c alike fit fare destroyed n i d ss hs lt block (blocks_do l own gives call b hs handlers) typed caught;
       }
@@ -95,7 +93,7 @@ module _ (laws : CaughtListFollows) (p : Checked) (layout : Layout) (q : Regions
       let b = regions_running q limit fuel kinds in
       let fare = fueled_fares p limit fuel in (
         exceptions true variables (Some k) gives fit,
-        parts_are_same l k gives call b alike (faring_calls_are_barred (fueled p limit fuel) fare) lt,
+        parts_are_same l k gives call b alike fare lt,
         member_extents laws l call b alike fare destroyed built k gives,
       )
 

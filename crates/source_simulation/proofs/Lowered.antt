@@ -1,6 +1,5 @@
 -- Each callee of a program has its number among the functions of its regions.
 use Rattle.std.proofs.Common.{◌≡◌, ℕ, ◌+◌, Bool, true, false, ◌==◌, ◌∷◌, Option, Some, None, if◌then◌else◌, refl, ap, ◌∙◌, subst, arith, length}
-use Rattle.std.specs.Prelude.{unwrap_or}
 use Rattle.std.proofs.lemmas.Bool.Decides.{nat_tests}
 use Rattle.cxx_ast.specs.declared.declaration.FuncKind.{FuncKind}
 use Rattle.cxx_ast.specs.declared.declaration.FuncKind.TheVariants.{Plain}
@@ -8,7 +7,7 @@ use Rattle.cxx_ast.specs.Plain.{Checked, Function}
 use Rattle.scope_rules.specs.Class.{function_at as source_function_at}
 use Rattle.scope_rules.specs.Construct.{destructor_place}
 use Rattle.scope_rules.specs.Running.{Callee, function, method, constructor, destructor, declared, implicit_default, implicit_copy}
-use Rattle.region_forms.specs.Form.{in_order, no_function}
+use Rattle.region_forms.specs.Form.{in_order}
 use Rattle.region_forms.specs.Layout.{Layout}
 use Rattle.region_forms.specs.Numbering.{variables_of}
 use Rattle.region_forms.specs.LowerProgram.{lowering, limited, body_of, last_result, result_for, with_body, declared_function}
@@ -61,5 +60,5 @@ pub programs_are_lowered : ProgramsAreLowered
 programs_are_lowered p layout plain = record {
   globals = refl;
   main = refl;
-  numbered = λ callee can. ap (λ o. unwrap_or o no_function) (at_number p layout callee (there p callee can)) ∙ lowered p layout plain callee;
+  numbered = λ callee can. at_number p layout callee (there p callee can) ∙ ap (λ f. Some f) (lowered p layout plain callee);
 }

@@ -16,7 +16,8 @@ use Rattle.region_forms.specs.Form.{Place, Region, regions_from, in_order, prote
 use Rattle.region_forms.specs.Evaluation.{with_some, location_address, slot_location}
 use Rattle.region_forms.specs.Outcome.{State}
 use Rattle.region_forms.specs.Ending.{Running}
-use Rattle.region_forms.specs.Meaning.{outwards, region, regions}
+use Rattle.region_forms.specs.Meaning.{outwards}
+use Rattle.linear_simulation.specs.Watched.{watched as region, watched_all as regions}
 use Rattle.region_forms.specs.Numbering.{number_of}
 use Rattle.region_forms.specs.LowerExpression.{Lowering, variable_type, slot_place}
 use Rattle.region_forms.specs.LowerProgram.{part_place}
@@ -32,7 +33,7 @@ use Rattle.region_simulation.proofs.Flowing.{alike_after, outwards_agrees, singl
 use Rattle.region_simulation.proofs.Writing.{number_itself}
 use Rattle.statement_simulation.specs.Statements.{SourceCalls}
 use Rattle.statement_simulation.proofs.OwnParts.{part_leads}
-use Rattle.throw_simulation.specs.Barred.{CallsAreBarred}
+use Rattle.throw_simulation.specs.Fares.{CallsFare}
 use Rattle.throw_simulation.specs.Same.{RunAlike}
 use Rattle.throw_simulation.specs.Scopes.{LeadsTo}
 use Rattle.throw_simulation.proofs.Protecting.{protects_alike}
@@ -51,7 +52,7 @@ module _ (l : Lowering) (own : Option ℕ) (gives : Bool) (call : SourceCalls) (
       (subst (λ e. Alike l.layout l.program at (variable_slot l n) c w s (FlowAgrees l gives i e) (act w) (regions b (regions_from rs) (context_of w.open_calls c) s)) two
       (does at w s stands scope))
 
-  module _ (run : RunAlike l.layout (source_running l call) b) (barred : CallsAreBarred (source_running l call)) (n i d : ℕ) (lt : i < d) (place : Place) (target : Reference) (j : ℕ)
+  module _ (run : RunAlike l.layout (source_running l call) b) (fare : CallsFare (source_running l call)) (n i d : ℕ) (lt : i < d) (place : Place) (target : Reference) (j : ℕ)
       (leads : (at : Places) (w : SourceWorld) (s : State) → Stands l.layout l.program at c w s → InScope l own n at v s
       → LeadsTo l.layout l.program at (variable_slot l n) b.kinds s.frame place target j)
       (act : SourceAction SourceFlow) (rs : List Region) (does : DoesAlike l own gives b v c n i (d + 2) act rs) where
@@ -61,7 +62,7 @@ module _ (l : Lowering) (own : Option ℕ) (gives : Bool) (call : SourceCalls) (
         Alike l.layout l.program at (variable_slot l n) c w s (FlowAgrees l gives i d) (until_complete (source_running l call) c (destroy (source_running l call) (class_type j) target) act w)
         (region b (protect (in_order rs) (destroy_part place (number_of l.program (destructor j)))) (context_of w.open_calls c) s)
     both_protect at w s stands in_scope =
-        protects_alike l gives i d lt (source_running l call) b run barred at (variable_slot l n) c w s place target j stands (leads at w s stands in_scope) act (in_order rs)
+        protects_alike l gives i d lt (source_running l call) b run fare at (variable_slot l n) c w s place target j stands (leads at w s stands in_scope) act (in_order rs)
         (inside n i d lt act rs does at w s stands in_scope)
 
     scope_does : DoesAlike l own gives b v c n i d (scope (source_running l call) c (destroy (source_running l call) (class_type j) target) act)
@@ -93,12 +94,12 @@ own_part l k b v n i j there is at s in_scope =
     record { there = there; address = x.address; refers = x.refers; stays = λ g keeps. ap (λ q. with_some q location_address) (x.located g keeps) }
 
 pub parts_are_same : PartsAreSame
-parts_are_same l k gives call b run barred below = record {
+parts_are_same l k gives call b run fare below = record {
   completes = λ v c n d i j act rs lt is does.
-      part_does l (Some k) gives call b v c run barred n 0 d lt (part_place l.layout l.program k 0 i) (part i v.this) j
+      part_does l (Some k) gives call b v c run fare n 0 d lt (part_place l.layout l.program k 0 i) (part i v.this) j
       (λ at w s stands in_scope. own_part l k b v n i j (there i j is) is at s in_scope) act rs does;
   scopes = λ v c n d i j act rs lt is does.
-      scope_does l (Some k) gives call b v c run barred n 0 d lt (part_place l.layout l.program k 0 i) (part i v.this) j
+      scope_does l (Some k) gives call b v c run fare n 0 d lt (part_place l.layout l.program k 0 i) (part i v.this) j
       (λ at w s stands in_scope. own_part l k b v n i j (there i j is) is at s in_scope) act rs does;
 }
   where
@@ -125,6 +126,6 @@ object_leads l own b fit v n k x o declares there at s in_scope =
     }
 
 pub object_scopes_are_same : ObjectScopesAreSame
-object_scopes_are_same l own gives call b run barred fit v c n i d k x o act ys lt declares there does =
-    scope_does l own gives call b (with_variable x (whole o) v) c run barred (n + 1) i d lt (slot_place (variable_slot l (local_number x.bound))) (whole o) (class_named k)
+object_scopes_are_same l own gives call b run fare fit v c n i d k x o act ys lt declares there does =
+    scope_does l own gives call b (with_variable x (whole o) v) c run fare (n + 1) i d lt (slot_place (variable_slot l (local_number x.bound))) (whole o) (class_named k)
     (λ at w s stands in_scope. object_leads l own b fit v n k x o declares there at s in_scope) act (ys (d + 2)) does

@@ -7,15 +7,15 @@ use Rattle.region_simulation.specs.Expressions.{source_running}
 use Rattle.statement_simulation.specs.Statements.{SourceCalls}
 use Rattle.statement_simulation.specs.Parts.{SameParts}
 use Rattle.statement_simulation.specs.Objects.{ObjectScopesDo}
-use Rattle.throw_simulation.specs.Barred.{CallsAreBarred}
+use Rattle.throw_simulation.specs.Fares.{CallsFare}
 use Rattle.throw_simulation.specs.Same.{RunAlike}
 
 abbrev pub PartsAreSame : Type 0
 PartsAreSame =
-    (l : Lowering) (k : ℕ) (gives : Bool) (call : SourceCalls) (b : Running) → RunAlike l.layout (source_running l call) b → CallsAreBarred (source_running l call)
+    (l : Lowering) (k : ℕ) (gives : Bool) (call : SourceCalls) (b : Running) → RunAlike l.layout (source_running l call) b → CallsFare (source_running l call)
     → k < length l.program.classes → SameParts l k gives call b
 
 abbrev pub ObjectScopesAreSame : Type 0
 ObjectScopesAreSame =
-    (l : Lowering) (own : Option ℕ) (gives : Bool) (call : SourceCalls) (b : Running) → RunAlike l.layout (source_running l call) b → CallsAreBarred (source_running l call)
+    (l : Lowering) (own : Option ℕ) (gives : Bool) (call : SourceCalls) (b : Running) → RunAlike l.layout (source_running l call) b → CallsFare (source_running l call)
     → KindsFit l b.kinds → ObjectScopesDo l own gives call b

@@ -1,4 +1,4 @@
--- That the regions of a source mean what the source means.
+-- That the regions of a source, watched, mean what the source means.
 use Rattle.std.specs.Prelude.{ℕ, List, length}
 use Rattle.cxx_ast.specs.declared.token.Token.{Token}
 use Rattle.cxx_ast.specs.Broken.{Valid}
@@ -10,15 +10,15 @@ use Rattle.eh_outer.specs.declared.module.Reply.{Reply}
 use Rattle.scope_rules.specs.Meaning.{program_meaning}
 use Rattle.region_forms.specs.Layout.{layout_of}
 use Rattle.region_forms.specs.LowerProgram.{regions_of}
-use Rattle.region_forms.specs.Meaning.{regions_meaning}
+use Rattle.linear_simulation.specs.Watched.{watched_meaning}
 use Rattle.statement_simulation.specs.Programs.{MeansTheSame}
 
--- A program's regions show the same items, end, greatest number of open calls, outcome of main and replies left as the program, for every input,
+-- A program's regions, watched, show the same items, end, greatest number of open calls, outcome of main and replies left as the program, for every input,
 -- all replies, every number of turns and every limit of open calls, unless the program comes to what is undefined.
 abbrev pub MeansAsLowered : Checked → Type 0
 MeansAsLowered p =
     (input : List ℕ) (replies : List (List Reply)) (turns limit : ℕ)
-    → MeansTheSame (program_meaning p input replies turns limit) (regions_meaning (regions_of p (layout_of p)) input replies turns limit)
+    → MeansTheSame (program_meaning p input replies turns limit) (watched_meaning (regions_of p (layout_of p)) input replies turns limit)
 
 -- so it is of each checked program
 abbrev pub CheckedProgramsMeanTheSame : Type 0

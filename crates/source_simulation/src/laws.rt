@@ -55,9 +55,9 @@ pub fn forms_are_same()
     caught_list_follows();
 }
 
-/// The regions of each checked program mean what the program means: the same items and end, the same greatest number of open calls, the same
-/// outcome of main and the same replies left, for every input, all replies, every number of turns and every limit of open calls, where the program
-/// comes to nothing that is undefined.
+/// The regions of each checked program, watched, mean what the program means: the same items and end, the same greatest number of open calls, the
+/// same outcome of main and the same replies left, for every input, all replies, every number of turns and every limit of open calls, where the
+/// program comes to nothing that is undefined. So they break nothing that is watched, and are too deep only where the program is.
 pub fn checked_programs_mean_the_same()
     ensures { CheckedProgramsMeanTheSame }
 {

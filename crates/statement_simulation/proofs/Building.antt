@@ -14,7 +14,7 @@ use Rattle.scope_rules.specs.Part.{Part, cell, object, part_type}
 use Rattle.scope_rules.specs.Running.{by_reference, constructor}
 use Rattle.scope_rules.specs.World.{World as SourceWorld, Reference, part_of}
 use Rattle.region_forms.specs.Form.{Place, number, load, address_argument, op, store, regions_from}
-use Rattle.region_forms.specs.Meaning.{regions}
+use Rattle.linear_simulation.specs.Watched.{watched_all as regions}
 use Rattle.region_forms.specs.LowerStatement.{with_value}
 use Rattle.region_forms.specs.World.{address_word}
 use Rattle.region_forms.specs.Evaluation.{with_some, read_location, location_address, value_in}

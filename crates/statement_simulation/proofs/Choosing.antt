@@ -10,7 +10,8 @@ use Rattle.region_forms.specs.Form.{Value, Region, branch, regions_from}
 use Rattle.region_forms.specs.Evaluation.{value_in}
 use Rattle.region_forms.specs.Outcome.{State, Context, continued, pure, some}
 use Rattle.region_forms.specs.Ending.{Running}
-use Rattle.region_forms.specs.Meaning.{outwards, followed, region, regions}
+use Rattle.region_forms.specs.Meaning.{outwards, followed}
+use Rattle.linear_simulation.specs.Watched.{watched as region, watched_all as regions}
 use Rattle.region_forms.specs.LowerExpression.{Lowering, first_temporary, Lowered}
 use Rattle.region_forms.specs.LowerStatement.{variable_slot, with_value}
 use Rattle.region_simulation.specs.Places.{Places}

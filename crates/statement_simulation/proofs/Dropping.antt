@@ -20,7 +20,8 @@ use Rattle.region_forms.specs.Evaluation.{slot_location, words_in}
 use Rattle.region_forms.specs.Effect.{if_some, stored_at, finished, number_at, handler_at, byte_of, bytes_after, answered, replied, module_called, some_travel, built_in, called}
 use Rattle.region_forms.specs.Outcome.{State, Context, Flow, normal, leaves, Result, done, stopped, Action, continued, pure}
 use Rattle.region_forms.specs.Ending.{Running, perform, settled}
-use Rattle.region_forms.specs.Meaning.{followed, operation, regions}
+use Rattle.region_forms.specs.Meaning.{followed, operation}
+use Rattle.linear_simulation.specs.Watched.{watched_all as regions}
 use Rattle.region_forms.specs.LowerExpression.{Lowering, first_temporary, slot_place, stored_in, Lowered, LoweredCall, call_of, call_stored, call_dropped, lower, lower_arguments, dropped}
 use Rattle.region_forms.specs.LowerStatement.{with_value}
 use Rattle.region_simulation.specs.Places.{Places}

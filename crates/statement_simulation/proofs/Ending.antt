@@ -6,7 +6,8 @@ use Rattle.scope_rules.specs.Outcome.{Action as SourceAction, Flow as SourceFlow
 use Rattle.region_forms.specs.Form.{Region, op, store, leave_region, regions_from}
 use Rattle.region_forms.specs.Outcome.{Flow, normal, leaves}
 use Rattle.region_forms.specs.Ending.{Running}
-use Rattle.region_forms.specs.Meaning.{followed, regions}
+use Rattle.region_forms.specs.Meaning.{followed}
+use Rattle.linear_simulation.specs.Watched.{watched_all as regions}
 use Rattle.region_forms.specs.LowerExpression.{Lowering, result_slot, first_temporary, slot_place, stored_in, Lowered}
 use Rattle.region_forms.specs.LowerStatement.{variable_slot, with_value}
 use Rattle.region_simulation.specs.Reach.{KindsFit}

@@ -1,4 +1,5 @@
 -- Calls of functions, whether of the program or of a class.
+use Rattle.std.specs.Prelude.{slice_get}
 use Rattle.std.proofs.Common.{◌≡◌, ℕ, suc, ◌+◌, ℤ, Bool, true, false, List, [], ◌∷◌, Option, Some, None, refl, sym, ap, subst, arith, length}
 use Rattle.class_layout.specs.StandApart.{StandApart}
 use Rattle.cxx_ast.specs.declared.declaration.FuncKind.TheVariants.{Plain, Method}
@@ -14,13 +15,14 @@ use Rattle.scope_rules.specs.Outcome.{Action as SourceAction, Flow as SourceFlow
 use Rattle.scope_rules.specs.Running.{Argument, method}
 use Rattle.scope_rules.specs.Specification.{under_specification}
 use Rattle.scope_rules.specs.World.{World as SourceWorld, Reference}
-use Rattle.region_forms.specs.Form.{Kinds, help_slot, Regions, RegionFunction, in_order, function_at, kinds_of}
+use Rattle.region_forms.specs.Form.{Kinds, help_slot, Regions, RegionFunction, in_order, kinds_of}
 use Rattle.region_forms.specs.Layout.{Layout}
 use Rattle.region_forms.specs.World.{Word}
 use Rattle.region_forms.specs.Effect.{result_in}
 use Rattle.region_forms.specs.Outcome.{State, Flow}
 use Rattle.region_forms.specs.Ending.{Running}
-use Rattle.region_forms.specs.Meaning.{called_state, run_function, call_with}
+use Rattle.region_forms.specs.Meaning.{called_state}
+use Rattle.linear_simulation.specs.Watched.{watched_call_of, watched_function as run_function, watched_call as call_with}
 use Rattle.region_forms.specs.Numbering.{number_of, variables_of}
 use Rattle.region_forms.specs.LowerExpression.{Lowering, result_slot}
 use Rattle.region_forms.specs.LowerStatement.{statements}
@@ -162,18 +164,16 @@ module _ (p : Checked) (layout : Layout) (q : Regions) (limit fuel : ℕ) (apart
       (λ v references counted variables. runs is_member own j f typed alike c v references counted variables) at k w s words (new_frame f this given (opened w)) begun
 
   -- from where it is opened
-  pub opened_call : (m : ℕ) (g : RegionFunction) → function_at q m ≡ g → (act : SourceAction ℤ) (words : List Word)
+  pub opened_call : (m : ℕ) (g : RegionFunction) → slice_get q.functions m ≡ Some g → (act : SourceAction ℤ) (words : List Word)
       → (at : Places) (k : ℕ) (c : SourceContext) (w : SourceWorld) (s : State) → Stands layout p at c w s
       → ((w2 : SourceWorld) (s2 : State) (h : Follows layout p at k w s c w2 s2)
       → Alike layout p h.places k c w2 s2 SameValue (after_call (act (opened w2))) (run_function (regions_running q limit fuel (kinds_of [])) g words (context_of (w2.open_calls + 1) c) s2))
       → Alike layout p at k c w s SameValue (open_call limit act w) (call_with q limit (suc fuel) m words (context_of w.open_calls c) s)
   opened_call m g there act words at k c w s stands next =
-      call_opens layout p limit at k c w s act
-      (run_function (regions_running q limit fuel (kinds_of [])) (function_at q m) words (context_of (w.open_calls + 1) c)) stands
+      subst (λ o. Alike layout p at k c w s SameValue (open_call limit act w) (watched_call_of o (regions_running q limit fuel (kinds_of [])) words (context_of w.open_calls c) s)) (sym there)
+      (call_opens layout p limit at k c w s act (run_function (regions_running q limit fuel (kinds_of [])) g words (context_of (w.open_calls + 1) c)) stands
       (λ w2 s2 h.
-      subst (λ f. Alike layout p h.places k c w2 s2 SameValue (after_call (act (opened w2))) (run_function (regions_running q limit fuel (kinds_of [])) f words (context_of (w.open_calls + 1) c) s2))
-      (sym there)
-      (subst (λ n. Alike layout p h.places k c w2 s2 SameValue (after_call (act (opened w2))) (run_function (regions_running q limit fuel (kinds_of [])) g words (context_of (n + 1) c) s2))
+      subst (λ n. Alike layout p h.places k c w2 s2 SameValue (after_call (act (opened w2))) (run_function (regions_running q limit fuel (kinds_of [])) g words (context_of (n + 1) c) s2))
       h.open_calls (next w2 s2 h)))
 
 pub functions_run_alike : FunctionsRunAlike

@@ -14,7 +14,8 @@ use Rattle.region_forms.specs.Evaluation.{slot_location}
 use Rattle.region_forms.specs.Effect.{if_some, goes, stored_at}
 use Rattle.region_forms.specs.Outcome.{State, normal, continued, pure}
 use Rattle.region_forms.specs.Ending.{Running, perform}
-use Rattle.region_forms.specs.Meaning.{followed, regions}
+use Rattle.region_forms.specs.Meaning.{followed}
+use Rattle.linear_simulation.specs.Watched.{watched_all as regions}
 use Rattle.region_forms.specs.LowerExpression.{Lowering, first_temporary, variable_type, slot_place, place_of, Lowered}
 use Rattle.region_forms.specs.LowerStatement.{variable_slot, with_value}
 use Rattle.region_simulation.specs.Places.{Places}

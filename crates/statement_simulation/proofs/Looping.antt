@@ -14,7 +14,8 @@ use Rattle.region_forms.specs.World.{number_word}
 use Rattle.region_forms.specs.Evaluation.{value_in}
 use Rattle.region_forms.specs.Outcome.{State, Flow, normal, leaves, Action, continued, pure, some}
 use Rattle.region_forms.specs.Ending.{Running, spend}
-use Rattle.region_forms.specs.Meaning.{outwards, followed, region, regions, value_of, loop_of}
+use Rattle.region_forms.specs.Meaning.{outwards, followed, value_of, loop_of}
+use Rattle.linear_simulation.specs.Watched.{watched as region, watched_all as regions}
 use Rattle.region_forms.specs.LowerExpression.{Lowering, result_slot}
 use Rattle.region_forms.specs.LowerStatement.{variable_slot}
 use Rattle.region_simulation.specs.Places.{Places}

@@ -15,7 +15,8 @@ use Rattle.scope_rules.specs.World.{World as SourceWorld, Reference}
 use Rattle.region_forms.specs.Form.{number, Region, op, store, leave_region, in_order, regions_from, RegionFunction, kinds_of}
 use Rattle.region_forms.specs.Outcome.{State, Context, Flow, normal, leaves, Result, done, stopped, continued, pure}
 use Rattle.region_forms.specs.Ending.{Running}
-use Rattle.region_forms.specs.Meaning.{outwards, followed, region, regions, after_call as regions_after_call, called_state, function_result, run_function, call_with}
+use Rattle.region_forms.specs.Meaning.{outwards, followed, after_call as regions_after_call, called_state, function_result}
+use Rattle.linear_simulation.specs.Watched.{watched as region, watched_all as regions, watched_function as run_function, watched_call as call_with}
 use Rattle.region_forms.specs.Numbering.{variables_of}
 use Rattle.region_forms.specs.LowerExpression.{result_slot, first_temporary, slot_place}
 use Rattle.region_forms.specs.LowerStatement.{statements}

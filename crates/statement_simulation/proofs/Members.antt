@@ -1,6 +1,6 @@
 -- Calls of constructors and destructors, declared or not.
 use Rattle.std.proofs.Common.{◌≡◌, ℕ, suc, ◌+◌, ◌<◌, ℤ, pos, Bool, true, false, List, [], ◌∷◌, Option, Some, None, refl, sym, ap, ◌∙◌, subst, arith, length}
-use Rattle.std.specs.Prelude.{if◌then◌else◌}
+use Rattle.std.specs.Prelude.{slice_get, if◌then◌else◌}
 use Rattle.class_layout.specs.StandApart.{StandApart}
 use Rattle.cxx_ast.specs.declared.declaration.FuncKind.TheVariants.{Constructor as ConstructorKind, Destructor as DestructorKind}
 use Rattle.cxx_ast.specs.declared.types.Param.{Param}
@@ -15,13 +15,13 @@ use Rattle.scope_rules.specs.Outcome.{Action as SourceAction, continued as sourc
 use Rattle.scope_rules.specs.Running.{Argument, constructor, declared, implicit_default, destructor}
 use Rattle.scope_rules.specs.Specification.{under_specification}
 use Rattle.scope_rules.specs.World.{World as SourceWorld, Reference}
-use Rattle.region_forms.specs.Form.{Kinds, address_slot, help_slot, Region, Regions, RegionFunction, in_order, function_at, kinds_of}
+use Rattle.region_forms.specs.Form.{Kinds, address_slot, help_slot, Region, Regions, RegionFunction, in_order, kinds_of}
 use Rattle.region_forms.specs.Layout.{Layout}
 use Rattle.region_forms.specs.World.{Word}
 use Rattle.region_forms.specs.Effect.{result_in}
 use Rattle.region_forms.specs.Outcome.{State}
 use Rattle.region_forms.specs.Ending.{Running}
-use Rattle.region_forms.specs.Meaning.{run_function, call_with}
+use Rattle.linear_simulation.specs.Watched.{watched_function as run_function, watched_call as call_with}
 use Rattle.region_forms.specs.Numbering.{number_of, variables_of}
 use Rattle.region_forms.specs.LowerExpression.{Lowering}
 use Rattle.region_forms.specs.LowerStatement.{statements, nothing_more}
@@ -54,7 +54,7 @@ module _ (p : Checked) (layout : Layout) (q : Regions) (limit fuel k : ℕ) (apa
   -- whatever a constructor or a destructor does, its call gives nothing
   pub member_call : (types : List Ty) (g : RegionFunction) (rs : List Region) (params : List Param) (gives : Bool) → g.body ≡ in_order rs → g.result ≡ None
       → KindsFit (lowering p layout true types) (kinds_of g.slots) → kinds_of g.slots 0 ≡ address_slot → AreDeclared (lowering p layout true types) 0 params
-      → (m : ℕ) → function_at q m ≡ g → (act : SourceContext → SourceFrame → SourceAction SourceFlow)
+      → (m : ℕ) → slice_get q.functions m ≡ Some g → (act : SourceContext → SourceFrame → SourceAction SourceFlow)
       → ((c : SourceContext) (v : SourceFrame) (rs2 : List Reference) → length rs2 ≡ length params → v.variables ≡ all_declared_to params rs2 []
       → DoesAlike (lowering p layout true types) (Some k) gives (regions_running q limit fuel (kinds_of g.slots)) v c (length params) 0 1 (act c v) rs)
       → (at : Places) (this : Reference) (given : List Argument) (words : List Word) (n : ℕ) (c : SourceContext) (w : SourceWorld) (s : State)

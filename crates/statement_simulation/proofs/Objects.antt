@@ -14,7 +14,8 @@ use Rattle.region_forms.specs.Form.{regions_from}
 use Rattle.region_forms.specs.World.{of_variable}
 use Rattle.region_forms.specs.Evaluation.{slot_location}
 use Rattle.region_forms.specs.Outcome.{Flow, normal}
-use Rattle.region_forms.specs.Meaning.{followed, regions}
+use Rattle.region_forms.specs.Meaning.{followed}
+use Rattle.linear_simulation.specs.Watched.{watched_all as regions}
 use Rattle.region_forms.specs.LowerExpression.{first_temporary, variable_type, slot_place, lower_construct}
 use Rattle.region_forms.specs.LowerStatement.{variable_slot, scoped, statement}
 use Rattle.region_simulation.specs.Reach.{slot_address, kind_for}

@@ -19,7 +19,8 @@ use Rattle.region_forms.specs.Effect.{if_some, calls, stored_at, finished}
 use Rattle.region_forms.specs.Numbering.{number_of}
 use Rattle.region_forms.specs.Outcome.{State, Flow, normal, Result, continued, pure}
 use Rattle.region_forms.specs.Ending.{Running, perform, settled}
-use Rattle.region_forms.specs.Meaning.{followed, regions}
+use Rattle.region_forms.specs.Meaning.{followed}
+use Rattle.linear_simulation.specs.Watched.{watched_all as regions}
 use Rattle.region_forms.specs.LowerExpression.{Lowering, first_temporary, Lowered, LoweredArguments, constructed}
 use Rattle.region_forms.specs.LowerProgram.{part_place}
 use Rattle.region_forms.specs.LowerStatement.{with_value}

@@ -11,7 +11,8 @@ use Rattle.scope_rules.specs.Running.{function}
 use Rattle.scope_rules.specs.World.{World as SourceWorld, nowhere}
 use Rattle.region_forms.specs.Layout.{Layout}
 use Rattle.region_forms.specs.Outcome.{State, Result, done}
-use Rattle.region_forms.specs.Meaning.{after_main, call_with, first_world, no_frame}
+use Rattle.region_forms.specs.Meaning.{after_main, first_world, no_frame}
+use Rattle.linear_simulation.specs.Watched.{watched_call as call_with}
 use Rattle.region_simulation.specs.Places.{Places}
 use Rattle.region_simulation.specs.Alike.{SameSeen, Alike}
 use Rattle.region_simulation.specs.First.{first_places}

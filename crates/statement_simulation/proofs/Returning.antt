@@ -15,7 +15,8 @@ use Rattle.region_forms.specs.World.{Word}
 use Rattle.region_forms.specs.Effect.{result_in}
 use Rattle.region_forms.specs.Outcome.{State, Flow, Result, Action, continued, stop, some}
 use Rattle.region_forms.specs.Ending.{Running, spend, open_call}
-use Rattle.region_forms.specs.Meaning.{outwards, region, regions, after_call, called_state, function_result, function_body}
+use Rattle.region_forms.specs.Meaning.{outwards, after_call, called_state, function_result}
+use Rattle.linear_simulation.specs.Watched.{watched as region, watched_all as regions, watched_body as function_body}
 use Rattle.region_forms.specs.LowerExpression.{Lowering}
 use Rattle.region_forms.specs.LowerStatement.{variable_slot}
 use Rattle.region_simulation.specs.Places.{Places}

@@ -13,7 +13,7 @@ use Rattle.region_forms.specs.Ending.{Running}
 use Rattle.region_forms.specs.LowerExpression.{Lowering, Lowered}
 use Rattle.region_forms.specs.LowerStatement.{variable_slot, with_value, looping}
 use Rattle.region_forms.specs.Form.{regions_from}
-use Rattle.region_forms.specs.Meaning.{regions}
+use Rattle.linear_simulation.specs.Watched.{watched_all as regions}
 use Rattle.region_simulation.specs.Stands.{context_of}
 use Rattle.region_simulation.specs.Alike.{Alike}
 use Rattle.region_simulation.specs.Flows.{FlowAgrees, DoesAlike}

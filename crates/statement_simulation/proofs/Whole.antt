@@ -1,12 +1,12 @@
 -- Every call of a typed program does the same, and so does the program.
 use Rattle.std.proofs.Common.{◌∙◌, ap, ◌≡◌, ℕ, suc, ◌<◌, Bool, true, false, [], Option, Some, None, refl, sym, subst, arith, length}
-use Rattle.std.specs.Prelude.{◌==◌, if◌then◌else◌}
+use Rattle.std.specs.Prelude.{slice_get, ◌==◌, if◌then◌else◌}
 use Rattle.std.proofs.lemmas.Bool.Decides.{nat_tests}
 use Rattle.cxx_ast.specs.Plain.{Checked}
 use Rattle.scope_rules.specs.Class.{class_at, function_at as source_function_at, method_at}
 use Rattle.scope_rules.specs.Construct.{is_destructor, destructor_place}
 use Rattle.scope_rules.specs.Running.{Callee, function, method, constructor, destructor, declared, implicit_default, implicit_copy}
-use Rattle.region_forms.specs.Form.{help_slot, Regions, function_at}
+use Rattle.region_forms.specs.Form.{help_slot, Regions}
 use Rattle.region_forms.specs.Layout.{Layout}
 use Rattle.region_forms.specs.LowerProgram.{declared_function}
 use Rattle.region_forms.specs.Numbering.{number_of, variables_of}
@@ -32,19 +32,19 @@ module _ (p : Checked) (layout : Layout) (q : Regions) (limit : ℕ) (typed : Is
   abbrev Called : Callee → Type 0
   Called callee = SameCall layout (fueled p limit (suc fuel)) (regions_running q limit (suc fuel) (λ s. help_slot)) callee
 
-  function_called : (n : ℕ) → n < length p.functions → function_at q n ≡ lowered_function p layout n → Called (function n)
+  function_called : (n : ℕ) → n < length p.functions → slice_get q.functions n ≡ Some (lowered_function p layout n) → Called (function n)
   function_called n lt there = go (n == p.main) refl there
     where
       go : (z : Bool) → (n == p.main) ≡ z
-          → function_at q n ≡ (if z then main_function p layout (source_function_at p n) else declared_function p layout false false 0 (source_function_at p n)) → Called (function n)
+          → slice_get q.functions n ≡ Some (if z then main_function p layout (source_function_at p n) else declared_function p layout false false 0 (source_function_at p n)) → Called (function n)
       go true e there =
           let main = is_number n p.main e in
           subst (λ m. Called (function m)) (sym main)
-          (main_runs_alike p layout q limit fuel typed.apart same typed.main_result (subst (λ m. function_at q m ≡ main_function p layout (source_function_at p m)) main there)
+          (main_runs_alike p layout q limit fuel typed.apart same typed.main_result (subst (λ m. slice_get q.functions m ≡ Some (main_function p layout (source_function_at p m))) main there)
           (typed.functions p.main typed.main_there) (forms.functions fuel p.main same typed.main_there) (jumps_stay_in_loops (fueled p limit fuel) (source_function_at p p.main) typed.main_jumps))
       go false e there = functions_run_alike p layout q limit fuel n typed.apart same e (typed.plain n lt) there (typed.functions n lt) (forms.functions fuel n same lt)
 
-  destructor_called : (k : ℕ) → k < length p.classes → (o : Option ℕ) → destructor_place p k ≡ o → function_at q (number_of p (destructor k)) ≡ lowered_destructor p layout k o
+  destructor_called : (k : ℕ) → k < length p.classes → (o : Option ℕ) → destructor_place p k ≡ o → slice_get q.functions (number_of p (destructor k)) ≡ Some (lowered_destructor p layout k o)
       → Called (destructor k)
   destructor_called k lt None place there = implicit_destructors_run_alike p layout q limit fuel k typed.apart same place there (forms.members fuel k false [] same lt)
   destructor_called k lt (Some i) place there =

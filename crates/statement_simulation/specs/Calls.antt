@@ -1,5 +1,5 @@
 -- That calls of functions do the same, with fuel: those inside a call have one unit less.
-use Rattle.std.specs.Prelude.{◌≡◌, ℕ, suc, Bool, true, false, ◌==◌, List, [], ◌∷◌, Option, Some, None}
+use Rattle.std.specs.Prelude.{slice_get, ◌≡◌, ℕ, suc, Bool, true, false, ◌==◌, List, [], ◌∷◌, Option, Some, None}
 use Rattle.class_layout.specs.StandApart.{StandApart}
 use Rattle.cxx_ast.specs.declared.declaration.FuncKind.TheVariants.{Plain, Method}
 use Rattle.cxx_ast.specs.declared.types.Ty.{Ty}
@@ -11,12 +11,12 @@ use Rattle.scope_rules.specs.Running.{Running as SourceRunning, Argument, Callee
 use Rattle.scope_rules.specs.Specification.{under_specification}
 use Rattle.scope_rules.specs.Statement.{statements as source_statements}
 use Rattle.scope_rules.specs.World.{World as SourceWorld, Reference}
-use Rattle.region_forms.specs.Form.{Kinds, help_slot, Regions, function_at}
+use Rattle.region_forms.specs.Form.{Kinds, help_slot, Regions}
 use Rattle.region_forms.specs.Layout.{Layout}
 use Rattle.region_forms.specs.World.{Word}
 use Rattle.region_forms.specs.Outcome.{State}
 use Rattle.region_forms.specs.Ending.{Running}
-use Rattle.region_forms.specs.Meaning.{call_with}
+use Rattle.linear_simulation.specs.Watched.{watched_call}
 use Rattle.region_forms.specs.Numbering.{number_of, variables_of}
 use Rattle.region_forms.specs.LowerExpression.{Lowering}
 use Rattle.region_forms.specs.LowerStatement.{statements}
@@ -35,7 +35,7 @@ use Rattle.statement_simulation.specs.Functions.{gives_int, IsTypedBody}
 
 -- regions that run, in a function whose slots are of these kinds
 abbrev pub regions_running : Regions → (limit fuel : ℕ) → Kinds → Running
-regions_running q limit fuel kinds = record { types = q.types; kinds = kinds; limit = limit; call = call_with q limit fuel }
+regions_running q limit fuel kinds = record { types = q.types; kinds = kinds; limit = limit; call = watched_call q limit fuel }
 
 -- calls of one callee do the same
 abbrev pub SameCall : Layout → SourceRunning → Running → Callee → Type 0
@@ -63,7 +63,7 @@ abbrev pub FunctionsRunAlike : Type 0
 FunctionsRunAlike =
     (p : Checked) (layout : Layout) (q : Regions) (limit fuel n : ℕ) → StandApart layout.classes p.classes
     → SameCalls layout (fueled p limit fuel) (regions_running q limit fuel (λ s. help_slot))
-    → (n == p.main) ≡ false → (source_function_at p n).kind ≡ Plain → function_at q n ≡ declared_function p layout false false 0 (source_function_at p n)
+    → (n == p.main) ≡ false → (source_function_at p n).kind ≡ Plain → slice_get q.functions n ≡ Some (declared_function p layout false false 0 (source_function_at p n))
     → IsTypedBody (lowering p layout false (variables_of (source_function_at p n))) None (source_function_at p n)
     → RunsAlike p layout q limit fuel None false (source_function_at p n)
     → SameCall layout (fueled p limit (suc fuel)) (regions_running q limit (suc fuel) (λ s. help_slot)) (function n)
@@ -73,7 +73,7 @@ abbrev pub MethodsRunAlike : Type 0
 MethodsRunAlike =
     (p : Checked) (layout : Layout) (q : Regions) (limit fuel k i : ℕ) → StandApart layout.classes p.classes
     → SameCalls layout (fueled p limit fuel) (regions_running q limit fuel (λ s. help_slot))
-    → (method_at p k i).kind ≡ Method → function_at q (number_of p (method k i)) ≡ declared_function p layout true false k (method_at p k i)
+    → (method_at p k i).kind ≡ Method → slice_get q.functions (number_of p (method k i)) ≡ Some (declared_function p layout true false k (method_at p k i))
     → IsTypedBody (lowering p layout true (variables_of (method_at p k i))) (Some k) (method_at p k i)
     → RunsAlike p layout q limit fuel (Some k) true (method_at p k i)
     → SameCall layout (fueled p limit (suc fuel)) (regions_running q limit (suc fuel) (λ s. help_slot)) (method k i)

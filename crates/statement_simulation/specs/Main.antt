@@ -1,6 +1,6 @@
 -- Main: flowing off its end is as good as returning 0 (ISO/IEC 14882:2003, 3.6.1/5). So its regions store 0 behind those of its body, which
 -- a return leaves: in front of them, a value that a return stored would stand where an exception out of a destructor replaces that return.
-use Rattle.std.specs.Prelude.{◌≡◌, ℕ, suc, pos, false, List, [], ◌∷◌, length, None}
+use Rattle.std.specs.Prelude.{Some, slice_get, ◌≡◌, ℕ, suc, pos, false, List, [], ◌∷◌, length, None}
 use Rattle.class_layout.specs.StandApart.{StandApart}
 use Rattle.cxx_ast.specs.declared.types.Ty.TheVariants.{Int}
 use Rattle.cxx_ast.specs.Plain.{Checked, Function}
@@ -12,7 +12,7 @@ use Rattle.scope_rules.specs.Outcome.{Result as SourceResult, done as source_don
 use Rattle.scope_rules.specs.Running.{Running as SourceRunning, function}
 use Rattle.scope_rules.specs.Specification.{under_specification}
 use Rattle.scope_rules.specs.World.{World as SourceWorld}
-use Rattle.region_forms.specs.Form.{help_slot, number, Region, store, op, in_order, RegionFunction, Regions, function_at}
+use Rattle.region_forms.specs.Form.{help_slot, number, Region, store, op, in_order, RegionFunction, Regions}
 use Rattle.region_forms.specs.Layout.{Layout}
 use Rattle.region_forms.specs.Numbering.{variables_of}
 use Rattle.region_forms.specs.LowerExpression.{Lowering, result_slot, slot_place}
@@ -49,7 +49,7 @@ abbrev pub MainRunsAlike : Type 0
 MainRunsAlike =
     (p : Checked) (layout : Layout) (q : Regions) (limit fuel : ℕ) → StandApart layout.classes p.classes
     → SameCalls layout (fueled p limit fuel) (regions_running q limit fuel (λ s. help_slot))
-    → (source_function_at p p.main).result ≡ Int → function_at q p.main ≡ main_function p layout (source_function_at p p.main)
+    → (source_function_at p p.main).result ≡ Int → slice_get q.functions p.main ≡ Some (main_function p layout (source_function_at p p.main))
     → IsTypedBody (lowering p layout false (variables_of (source_function_at p p.main))) None (source_function_at p p.main)
     → RunsAlike p layout q limit fuel None false (source_function_at p p.main) → StaysInBody (fueled p limit fuel) (source_function_at p p.main)
     → SameCall layout (fueled p limit (suc fuel)) (regions_running q limit (suc fuel) (λ s. help_slot)) (function p.main)

@@ -14,7 +14,7 @@ use Rattle.scope_rules.specs.Frame.{Frame as SourceFrame, Variable}
 use Rattle.scope_rules.specs.Running.{constructor, declared, implicit_default, implicit_copy, destructor}
 use Rattle.scope_rules.specs.Specification.{under_specification}
 use Rattle.scope_rules.specs.World.{Reference}
-use Rattle.region_forms.specs.Form.{Kinds, help_slot, Regions, function_at}
+use Rattle.region_forms.specs.Form.{Kinds, help_slot, Regions}
 use Rattle.region_forms.specs.Layout.{Layout}
 use Rattle.region_forms.specs.Ending.{Running}
 use Rattle.region_forms.specs.Numbering.{number_of, variables_of}
@@ -99,7 +99,7 @@ ConstructorsRunAlike =
     (p : Checked) (layout : Layout) (q : Regions) (limit fuel k i : ℕ) → StandApart layout.classes p.classes
     → SameCalls layout (fueled p limit fuel) (regions_running q limit fuel (λ s. help_slot))
     → (method_at p k i).kind ≡ ConstructorKind → (method_at p k i).result ≡ Void
-    → function_at q (number_of p (constructor k (declared i))) ≡ declared_function p layout true false k (method_at p k i)
+    → slice_get q.functions (number_of p (constructor k (declared i))) ≡ Some (declared_function p layout true false k (method_at p k i))
     → IsTypedBody (lowering p layout true (variables_of (method_at p k i))) (Some k) (method_at p k i)
     → CanInitialiseParts (lowering p layout true (variables_of (method_at p k i))) k (method_at p k i)
     → MemberRunsAlike p layout q limit fuel k (gives_int (method_at p k i).result) (variables_of (method_at p k i))
@@ -110,7 +110,7 @@ abbrev pub DefaultConstructorsRunAlike : Type 0
 DefaultConstructorsRunAlike =
     (p : Checked) (layout : Layout) (q : Regions) (limit fuel k : ℕ) → StandApart layout.classes p.classes
     → SameCalls layout (fueled p limit fuel) (regions_running q limit fuel (λ s. help_slot))
-    → some_constructor (class_at p k).functions ≡ false → function_at q (number_of p (constructor k implicit_default)) ≡ implicit_default_function p layout k
+    → some_constructor (class_at p k).functions ≡ false → slice_get q.functions (number_of p (constructor k implicit_default)) ≡ Some (implicit_default_function p layout k)
     → ((i : ℕ) (t : ObjectType) → slice_get (parts_of p k) i ≡ Some t → CanDefaultPart p t) → MemberRunsAlike p layout q limit fuel k false []
     → SameCall layout (fueled p limit (suc fuel)) (regions_running q limit (suc fuel) (λ s. help_slot)) (constructor k implicit_default)
 
@@ -119,7 +119,7 @@ abbrev pub CopyConstructorsRunAlike : Type 0
 CopyConstructorsRunAlike =
     (p : Checked) (layout : Layout) (q : Regions) (limit fuel k : ℕ) → StandApart layout.classes p.classes
     → SameCalls layout (fueled p limit fuel) (regions_running q limit fuel (λ s. help_slot))
-    → class_named (class_at p k).name ≡ k → function_at q (number_of p (constructor k implicit_copy)) ≡ implicit_copy_function p layout k
+    → class_named (class_at p k).name ≡ k → slice_get q.functions (number_of p (constructor k implicit_copy)) ≡ Some (implicit_copy_function p layout k)
     → ((i : ℕ) (t : ObjectType) → slice_get (parts_of p k) i ≡ Some t → CanCopyPart p t) → MemberRunsAlike p layout q limit fuel k false (copied_type (class_at p k))
     → SameCall layout (fueled p limit (suc fuel)) (regions_running q limit (suc fuel) (λ s. help_slot)) (constructor k implicit_copy)
 
@@ -129,7 +129,7 @@ DestructorsRunAlike =
     (p : Checked) (layout : Layout) (q : Regions) (limit fuel k i : ℕ) → StandApart layout.classes p.classes
     → SameCalls layout (fueled p limit fuel) (regions_running q limit fuel (λ s. help_slot))
     → destructor_place p k ≡ Some i → (method_at p k i).kind ≡ DestructorKind → (method_at p k i).result ≡ Void → (method_at p k i).parameters ≡ []
-    → function_at q (number_of p (destructor k)) ≡ declared_function p layout true false k (method_at p k i)
+    → slice_get q.functions (number_of p (destructor k)) ≡ Some (declared_function p layout true false k (method_at p k i))
     → IsTypedBody (lowering p layout true (variables_of (method_at p k i))) (Some k) (method_at p k i)
     → MemberRunsAlike p layout q limit fuel k (gives_int (method_at p k i).result) (variables_of (method_at p k i))
     → SameCall layout (fueled p limit (suc fuel)) (regions_running q limit (suc fuel) (λ s. help_slot)) (destructor k)
@@ -139,6 +139,6 @@ abbrev pub ImplicitDestructorsRunAlike : Type 0
 ImplicitDestructorsRunAlike =
     (p : Checked) (layout : Layout) (q : Regions) (limit fuel k : ℕ) → StandApart layout.classes p.classes
     → SameCalls layout (fueled p limit fuel) (regions_running q limit fuel (λ s. help_slot))
-    → destructor_place p k ≡ None → function_at q (number_of p (destructor k)) ≡ implicit_destructor_function p layout k
+    → destructor_place p k ≡ None → slice_get q.functions (number_of p (destructor k)) ≡ Some (implicit_destructor_function p layout k)
     → MemberRunsAlike p layout q limit fuel k false []
     → SameCall layout (fueled p limit (suc fuel)) (regions_running q limit (suc fuel) (λ s. help_slot)) (destructor k)

@@ -8,7 +8,7 @@ use Rattle.scope_rules.specs.Outcome.{undefined}
 use Rattle.scope_rules.specs.Running.{Callee, function}
 use Rattle.region_forms.specs.Form.{Regions, help_slot}
 use Rattle.region_forms.specs.Layout.{Layout}
-use Rattle.region_forms.specs.Meaning.{regions_meaning}
+use Rattle.linear_simulation.specs.Watched.{watched_meaning}
 use Rattle.region_simulation.specs.Calls.{IsCallable, SameCalls}
 use Rattle.statement_simulation.specs.Fueled.{fueled}
 use Rattle.statement_simulation.specs.Calls.{regions_running, SameCall}
@@ -35,4 +35,4 @@ abbrev pub ProgramsMeanTheSame : Type 0
 ProgramsMeanTheSame =
     (p : Checked) (layout : Layout) (q : Regions) (input : List ℕ) (replies : List (List Reply)) (turns limit : ℕ) → q.globals ≡ p.globals → q.main ≡ p.main
     → (source_function_at p p.main).parameters ≡ [] → SameCall layout (fueled p limit (suc turns)) (regions_running q limit (suc turns) (λ s. help_slot)) (function p.main)
-    → MeansTheSame (program_meaning p input replies turns limit) (regions_meaning q input replies turns limit)
+    → MeansTheSame (program_meaning p input replies turns limit) (watched_meaning q input replies turns limit)

@@ -9,7 +9,7 @@ use Rattle.scope_rules.specs.Outcome.{Action as SourceAction, Flow as SourceFlow
 use Rattle.region_forms.specs.Form.{Region, op, store, branch, leave_region, in_order, regions_from}
 use Rattle.region_forms.specs.Outcome.{normal}
 use Rattle.region_forms.specs.Ending.{Running}
-use Rattle.region_forms.specs.Meaning.{regions}
+use Rattle.linear_simulation.specs.Watched.{watched_all}
 use Rattle.region_forms.specs.LowerExpression.{Lowering, result_slot, first_temporary, slot_place, Lowered, lower, dropped}
 use Rattle.region_forms.specs.LowerStatement.{with_value, looping}
 use Rattle.region_simulation.specs.Reach.{KindsFit}
@@ -21,7 +21,7 @@ use Rattle.region_simulation.specs.Flows.{DoesAlike}
 -- regions come out as an action, and go on normally
 abbrev pub GoesOn : {A : Type 0} → Lowering → (own : Option ℕ) → Running → SourceFrame → SourceContext → SourceAction A → List Region → Type 0
 GoesOn {A} l own b v c act rs = Everywhere l own v c (λ at w s.
-    Alike l.layout l.program at (first_temporary l) c w s (λ a flow w2 at2 s2. flow ≡ normal) (act w) (regions b (regions_from rs) (context_of w.open_calls c) s))
+    Alike l.layout l.program at (first_temporary l) c w s (λ a flow w2 at2 s2. flow ≡ normal) (act w) (watched_all b (regions_from rs) (context_of w.open_calls c) s))
 
 -- a test without calls is a value, and any other is evaluated
 abbrev pub IsTested : Lowering → (own : Option ℕ) → Running → SourceFrame → SourceContext → Bool → SourceAction ℤ → Lowered → Type 0

@@ -11,9 +11,9 @@ use Rattle.scope_rules.specs.Class.{class_type, class_at, class_named, function_
 use Rattle.scope_rules.specs.Construct.{destructor_place}
 use Rattle.scope_rules.specs.Meaning.{program_meaning}
 use Rattle.scope_rules.specs.Running.{Callee, function, method, constructor, destructor, declared, implicit_default, implicit_copy}
-use Rattle.region_forms.specs.Form.{help_slot, RegionFunction, Regions, function_at}
+use Rattle.region_forms.specs.Form.{help_slot, RegionFunction, Regions}
 use Rattle.region_forms.specs.Layout.{Layout}
-use Rattle.region_forms.specs.Meaning.{regions_meaning}
+use Rattle.linear_simulation.specs.Watched.{watched_meaning}
 use Rattle.region_forms.specs.Numbering.{number_of, variables_of}
 use Rattle.region_forms.specs.LowerProgram.{lowering, declared_function, implicit_default_function, implicit_copy_function, implicit_destructor_function}
 use Rattle.region_simulation.specs.Calls.{IsCallable, SameCalls}
@@ -48,7 +48,7 @@ lowered_callee p layout (destructor k) = lowered_destructor p layout k (destruct
 pub record AreLowered (p : Checked) (layout : Layout) (q : Regions) : Type 0 where
   pub globals : q.globals ≡ p.globals
   pub main : q.main ≡ p.main
-  pub numbered : (callee : Callee) → IsCallable p callee → function_at q (number_of p callee) ≡ lowered_callee p layout callee
+  pub numbered : (callee : Callee) → IsCallable p callee → slice_get q.functions (number_of p callee) ≡ Some (lowered_callee p layout callee)
 
 -- what is asked of a program, as its checker sees to it
 pub record IsTypedProgram (p : Checked) (layout : Layout) : Type 0 where
@@ -88,4 +88,4 @@ abbrev pub RegionsMeanTheSame : Type 0
 RegionsMeanTheSame =
     (p : Checked) (layout : Layout) (q : Regions) (input : List ℕ) (replies : List (List Reply)) (turns limit : ℕ)
     → IsTypedProgram p layout → AreLowered p layout q → SameForms p layout q limit
-    → MeansTheSame (program_meaning p input replies turns limit) (regions_meaning q input replies turns limit)
+    → MeansTheSame (program_meaning p input replies turns limit) (watched_meaning q input replies turns limit)

@@ -22,7 +22,8 @@ use Rattle.region_forms.specs.World.{of_exception, address_word, object_address,
 use Rattle.region_forms.specs.Evaluation.{with_some, location_behind, location_address}
 use Rattle.region_forms.specs.Outcome.{State, Flow, normal, Result}
 use Rattle.region_forms.specs.Ending.{Running}
-use Rattle.region_forms.specs.Meaning.{followed, operation, region, regions}
+use Rattle.region_forms.specs.Meaning.{followed, operation}
+use Rattle.linear_simulation.specs.Watched.{watched as region, watched_all as regions}
 use Rattle.region_forms.specs.LowerExpression.{Lowering, result_slot, exception_slot, first_temporary, lvalue_type, copies, constructor_chosen, lower_arguments, lower_construct, place_of}
 use Rattle.region_forms.specs.LowerStatement.{thrown_place, copied}
 use Rattle.region_simulation.specs.Places.{Places, Stood}

@@ -17,7 +17,8 @@ use Rattle.region_forms.specs.Evaluation.{location_behind, location_address, wit
 use Rattle.region_forms.specs.Effect.{if_some, goes}
 use Rattle.region_forms.specs.Outcome.{State, Context, normal, done, continued, pure}
 use Rattle.region_forms.specs.Ending.{Running, perform}
-use Rattle.region_forms.specs.Meaning.{followed, regions}
+use Rattle.region_forms.specs.Meaning.{followed}
+use Rattle.linear_simulation.specs.Watched.{watched_all as regions}
 use Rattle.region_forms.specs.LowerExpression.{Lowering, exception_slot, variable_type}
 use Rattle.region_forms.specs.LowerStatement.{variable_slot, thrown_place}
 use Rattle.region_simulation.specs.Places.{Places, Stood, Refers}

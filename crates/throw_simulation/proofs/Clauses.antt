@@ -20,7 +20,8 @@ use Rattle.region_forms.specs.Laws.{CaughtListFollows}
 use Rattle.region_forms.specs.World.{address_word, object_address, with_slot, type_at}
 use Rattle.region_forms.specs.Outcome.{State, Context}
 use Rattle.region_forms.specs.Ending.{Running}
-use Rattle.region_forms.specs.Meaning.{outwards, with_object, caught, region, regions}
+use Rattle.region_forms.specs.Meaning.{outwards, with_object}
+use Rattle.linear_simulation.specs.Watched.{watched_caught as caught, watched as region, watched_all as regions}
 use Rattle.region_forms.specs.LowerExpression.{Lowering, exception_slot}
 use Rattle.region_forms.specs.LowerStatement.{variable_slot, caught_parameter, with_caught, statements, clauses}
 use Rattle.region_forms.specs.Numbering.{type_rows, all_declared_in}
@@ -34,8 +35,8 @@ use Rattle.region_simulation.specs.Expressions.{source_running}
 use Rattle.region_simulation.proofs.Following.{follows_now, alike_less, alike_on}
 use Rattle.region_simulation.proofs.Flowing.{alike_after, outwards_agrees}
 use Rattle.region_simulation.proofs.Storing.{same_number}
+use Rattle.throw_simulation.specs.Fares.{CallsFare}
 use Rattle.throw_simulation.specs.Same.{RunAlike}
-use Rattle.throw_simulation.specs.Barred.{CallsAreBarred}
 use Rattle.throw_simulation.specs.Handlers.{CanBeEntered, EmptyDestructor}
 use Rattle.throw_simulation.specs.Tries.{CatchesAlike}
 use Rattle.throw_simulation.specs.Catches.{BlockDoes, BlocksDo, HandlersCatchAlike, TryBlocksDoAlike}
@@ -71,7 +72,7 @@ clause_types l (handler_then (Some t) x ss place hs) i n d =
     ap (λ ts. clause_of (source_clause_of (Some t)) ∷ ts) (clause_types l hs i (n + 1 + length (all_declared_in ss)) d)
 
 module _ (laws : CaughtListFollows) (l : Lowering) (own : Option ℕ) (gives : Bool) (call : Callee → Reference → List SourceArgument → SourceContext → SourceAction ℤ) (b : Running)
-    (v : SourceFrame) (c : SourceContext) (same : RunAlike l.layout (source_running l call) b) (fit : KindsFit l b.kinds) (bar : CallsAreBarred (source_running l call))
+    (v : SourceFrame) (c : SourceContext) (same : RunAlike l.layout (source_running l call) b) (fit : KindsFit l b.kinds) (fare : CallsFare (source_running l call))
     (empty : EmptyDestructor l.layout (source_running l call) b) (n i d : ℕ) (lt : i < d) where
   abbrev a : SourceRunning
   a = source_running l call
@@ -135,22 +136,22 @@ module _ (laws : CaughtListFollows) (l : Lowering) (own : Option ℕ) (gives : B
             (regions b (regions_from (caught_parameter l t (variable_slot l m) ++ op (enter X) ∷
             protect (in_order (with_caught l t (variable_slot l m) (λ f. statements l ss i (m + 1) f) (d + 1 + 2))) leave_handler ∷ [])) ctx s1)
         by_type Int declares can matched =
-            int_handled laws l own gives m i (d + 1) (omega (arith, lt)) call b same bar empty v c e fresh body (statements l ss i (m + 1) (d + 1 + 2)) at w s1 stands1
+            int_handled laws l own gives m i (d + 1) (omega (arith, lt)) call b same fare empty v c e fresh body (statements l ss i (m + 1) (d + 1 + 2)) at w s1 stands1
             (inside1 m le fits) slot1 fit x declares.numbered there declares.typed (does (d + 1 + 2) (omega (arith, lt))) (caught_as l.program w e (object_type Int) matched)
         by_type Void declares can matched = absurd can
         by_type (Object q) declares can matched =
             let more : d + 1 + 2 + 2 ≡ d + 1 + 4 = omega arith in
-            object_handled laws l own gives m i (d + 1) (omega (arith, lt)) call b same bar empty v c e fresh body (statements l ss i (m + 1) (d + 1 + 2 + 2)) fit x declares.numbered there
+            object_handled laws l own gives m i (d + 1) (omega (arith, lt)) call b same fare empty v c e fresh body (statements l ss i (m + 1) (d + 1 + 2 + 2)) fit x declares.numbered there
             q declares.typed can.0
             (λ r. subst (λ f. DoesAlike l own gives b (with_parameter x r v) (handling e c) (m + 1) i f (body (with_parameter x r v) (handling e c)) (statements l ss i (m + 1) (d + 1 + 2 + 2))) more
             (does (d + 1 + 2 + 2) (omega (arith, lt)) r))
             at w s1 stands1 (inside1 m le fits) slot1 (caught_as l.program w e (object_type (Object q)) matched) can.1
         by_type (IntRef k) declares can matched =
-            reference_handled laws l own gives m i (d + 1) (omega (arith, lt)) call b same bar empty v c e fresh body (statements l ss i (m + 1) (d + 1 + 2)) at w s1 stands1
+            reference_handled laws l own gives m i (d + 1) (omega (arith, lt)) call b same fare empty v c e fresh body (statements l ss i (m + 1) (d + 1 + 2)) at w s1 stands1
             (inside1 m le fits) slot1 x declares.numbered there (does (d + 1 + 2) (omega (arith, lt))) (IntRef k) tt tt declares.typed (caught_as l.program w e (object_type (IntRef k)) matched)
             (bound_here (variable_slot l m)) (λ q f. refl)
         by_type (ObjectRef k q) declares can matched =
-            reference_handled laws l own gives m i (d + 1) (omega (arith, lt)) call b same bar empty v c e fresh body (statements l ss i (m + 1) (d + 1 + 2)) at w s1 stands1
+            reference_handled laws l own gives m i (d + 1) (omega (arith, lt)) call b same fare empty v c e fresh body (statements l ss i (m + 1) (d + 1 + 2)) at w s1 stands1
             (inside1 m le fits) slot1 x declares.numbered there (does (d + 1 + 2) (omega (arith, lt))) (ObjectRef k q) tt tt declares.typed (caught_as l.program w e (object_type (ObjectRef k q)) matched)
             (bound_here (variable_slot l m)) (λ q f. refl)
 
@@ -188,7 +189,7 @@ module _ (laws : CaughtListFollows) (l : Lowering) (own : Option ℕ) (gives : B
         (caught b (clauses l (handler_then None x ss place hs) i m (d + 1)) ctx e s)) (sym typed.0)
         (tried None (handle a e None None (λ g f. source_statements a ss g f) v c) (source_caught a hs v c e) (in_order last) (clauses l hs i (m + length (all_declared_in ss)) (d + 1))
         (λ matched. handler_out m le fits (handle a e None None (λ g f. source_statements a ss g f) v c) last
-        (all_handled laws l own gives m i (d + 1) (omega (arith, lt)) call b same bar empty v c e fresh (λ g f. source_statements a ss g f) (statements l ss i m (d + 1 + 2)) at w s1 stands1
+        (all_handled laws l own gives m i (d + 1) (omega (arith, lt)) call b same fare empty v c e fresh (λ g f. source_statements a ss g f) (statements l ss i m (d + 1 + 2)) at w s1 stands1
         (inside1 m le fits) slot1 (blocks.0 v (handling e c) m i (d + 1 + 2) (omega (arith, lt)) typed.1)))
         (all_tried hs (m + length (all_declared_in ss)) (omega (arith, le)) blocks.1 typed.2))
     all_tried (handler_then (Some t) x ss place hs) m le blocks typed =
@@ -201,15 +202,15 @@ module _ (laws : CaughtListFollows) (l : Lowering) (own : Option ℕ) (gives : B
         (all_tried hs (m + 1 + length (all_declared_in ss)) (omega (arith, le)) blocks.1 typed.3)
 
 pub handlers_catch_alike : CaughtListFollows → HandlersCatchAlike
-handlers_catch_alike laws l own gives call b v c same fit bar empty n m i d hs lt le blocks typed e at w s stands inside fresh =
-    all_tried laws l own gives call b v c same fit bar empty n i d lt e at w s stands inside fresh hs m le blocks typed
+handlers_catch_alike laws l own gives call b v c same fit fare empty n m i d hs lt le blocks typed e at w s stands inside fresh =
+    all_tried laws l own gives call b v c same fit fare empty n i d lt e at w s stands inside fresh hs m le blocks typed
 
 pub try_blocks_do_alike : CaughtListFollows → TryBlocksDoAlike
-try_blocks_do_alike laws l own gives call b v c same fit bar empty n i d ss hs lt block blocks typed handlers fresh =
+try_blocks_do_alike laws l own gives call b v c same fit fare empty n i d ss hs lt block blocks typed handlers fresh =
     let m = n + length (all_declared_in ss) in
     let more : d + 1 + 1 ≡ d + 2 = omega arith in
     tries_alike l own gives b v c n i d lt (clauses_of hs) (clauses l hs i m (d + 2)) (clause_types l hs i m (d + 2))
     (source_statements (source_running l call) ss v (guarded_by (try_block (clauses_of hs)) c)) (statements l ss i n (d + 2)) (source_caught (source_running l call) hs v c) fresh
     (block v (guarded_by (try_block (clauses_of hs)) c) n i (d + 2) (omega (arith, lt)) typed)
     (subst (λ q. CatchesAlike l own gives b v c n i (d + 1) (source_caught (source_running l call) hs v c) (clauses l hs i m q)) more
-    (handlers_catch_alike laws l own gives call b v c same fit bar empty n m i (d + 1) hs (omega (arith, lt)) (omega arith) blocks handlers))
+    (handlers_catch_alike laws l own gives call b v c same fit fare empty n m i (d + 1) hs (omega (arith, lt)) (omega arith) blocks handlers))

@@ -22,7 +22,8 @@ use Rattle.region_forms.specs.Evaluation.{with_some, words_in}
 use Rattle.region_forms.specs.Effect.{if_some, calls}
 use Rattle.region_forms.specs.Outcome.{State, normal, pure, continued}
 use Rattle.region_forms.specs.Ending.{Running, perform, after_barrier}
-use Rattle.region_forms.specs.Meaning.{outwards, operation, region}
+use Rattle.region_forms.specs.Meaning.{outwards, operation}
+use Rattle.linear_simulation.specs.Watched.{watched as region}
 use Rattle.region_simulation.specs.Places.{Places, Refers}
 use Rattle.region_simulation.specs.Stands.{Stands, context_of}
 use Rattle.region_simulation.specs.Alike.{Alike}

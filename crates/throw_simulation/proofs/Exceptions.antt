@@ -13,7 +13,7 @@ use Rattle.throw_simulation.specs.Fares.{Fares, FaresIn, AllCallsFare}
 use Rattle.throw_simulation.specs.Operands.{LeavesUnbuilt}
 use Rattle.throw_simulation.specs.Tries.{CanBeCaught}
 use Rattle.throw_simulation.specs.Exceptions.{AllThrowsDoAlike, AllTriesDoAlike}
-use Rattle.throw_simulation.proofs.Faring.{orderly_sound, faring_calls_are_barred}
+use Rattle.throw_simulation.proofs.Faring.{orderly_sound}
 use Rattle.throw_simulation.proofs.FaringTrees.{value_of_fares, statements_fares}
 use Rattle.throw_simulation.proofs.FaringCalls.{open_fares, run_callee_fares, calls_fare}
 use Rattle.throw_simulation.proofs.Operands.{throwing_case}
@@ -37,11 +37,11 @@ enterable p c act fares w w2 e sound is =
 pub all_throws_do_alike : CaughtListFollows → AllThrowsDoAlike
 all_throws_do_alike laws l own gives call b v c same fit fare n i d e can =
     let r = source_running l call in
-    throwing_case laws l own gives call b v c same fit (faring_calls_are_barred r fare) (λ x. leaves l.program c (value_of r v x c) (value_of_fares r v x c fare).at) n i d e can
+    throwing_case laws l own gives call b v c same fit fare (λ x. leaves l.program c (value_of r v x c) (value_of_fares r v x c fare).at) n i d e can
 
 pub all_tries_do_alike : CaughtListFollows → AllTriesDoAlike
 all_tries_do_alike laws l own gives call b v c same fit fare empty n i d ss hs lt block blocks typed handlers =
     let r = source_running l call in
     let inside = guarded_by (try_block (clauses_of hs)) c in
-    try_blocks_do_alike laws l own gives call b v c same fit (faring_calls_are_barred r fare) empty n i d ss hs lt block blocks typed handlers
+    try_blocks_do_alike laws l own gives call b v c same fit fare empty n i d ss hs lt block blocks typed handlers
     (enterable l.program inside (statements r ss v inside) (statements_fares r ss v inside fare).at)

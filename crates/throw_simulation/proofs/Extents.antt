@@ -13,15 +13,15 @@ use Rattle.region_forms.specs.Laws.{CaughtListFollows}
 use Rattle.region_forms.specs.Numbering.{type_number}
 use Rattle.region_forms.specs.LowerExpression.{result_slot}
 use Rattle.region_forms.specs.LowerStatement.{variable_slot}
-use Rattle.region_forms.specs.Meaning.{outwards, region, regions}
-use Rattle.region_forms.specs.Unexpected.{after_limit}
+use Rattle.region_forms.specs.Meaning.{outwards}
+use Rattle.linear_simulation.specs.Watched.{watched_limit, watched as region, watched_all as regions}
 use Rattle.region_simulation.specs.Stands.{context_of}
 use Rattle.region_simulation.specs.Alike.{Alike}
 use Rattle.region_simulation.specs.Flows.{FlowAgrees}
 use Rattle.region_simulation.specs.Expressions.{source_running}
 use Rattle.region_simulation.proofs.Flowing.{alike_after, outwards_agrees, single}
 use Rattle.throw_simulation.specs.Extents.{ExtentsAlike, ExtentsDoAlike, AllExtentsDoAlike}
-use Rattle.throw_simulation.proofs.Faring.{orderly_sound, faring_calls_are_barred}
+use Rattle.throw_simulation.proofs.Faring.{orderly_sound}
 use Rattle.throw_simulation.proofs.FaringTrees.{statements_fares}
 use Rattle.throw_simulation.proofs.FaringCalls.{construction_fares, destruction_fares}
 use Rattle.throw_simulation.proofs.Standing.{stands_guarded}
@@ -36,8 +36,8 @@ extents_alike laws l gives i d lt a b same fare empty makes at k c w s stands li
     let y = region b body (context_of w.open_calls inside) s in
     let standing = stands_guarded l.layout a.program at (specification types) c w s stands in
     alike_after l.layout a.program agree (FlowAgrees l gives i d) at k c w s (after_extent a types c (act inside w))
-    (after_limit b (map type_number types) (context_of w.open_calls c) y) outwards (outwards_agrees l gives i d lt)
-    (extent_out laws l.layout a b same fare (faring_calls_are_barred a fare) empty makes agree (result_slot l + 1) (flows_steady l gives i (d + 1)) types c
+    (watched_limit b (map type_number types) (context_of w.open_calls c) y) outwards (outwards_agrees l gives i d lt)
+    (extent_out laws l.layout a b same fare empty makes agree (result_slot l + 1) (flows_steady l gives i (d + 1)) types c
     at k w s 0 (act inside w) y does (fares 0 w (omega arith) (orderly_sound inside w standing.sound)))
 
 numbers_of : (listed : List Ty) → map (λ t. type_number (object_type t)) listed ≡ map type_number (map object_type listed)

@@ -19,12 +19,18 @@ use Rattle.throw_simulation.specs.Fares.{IsOrderly, GoesOn, Fares, FaresIn, Fari
 use Rattle.throw_simulation.proofs.Standing.{held}
 
 pub goes_same : (c : Context) (w : World) → IsOrderly c w → GoesOn c w w
-goes_same c w h = record { later = omega arith; live = h.live; kept = λ e is. refl; unbuilt = λ e le u. u }
+goes_same c w h = record { later = omega arith; live = h.live; kept = λ e is. refl; held = λ e is. refl; unbuilt = λ e le u. u }
 
 pub goes_on : (c : Context) (w w2 w3 : World) → GoesOn c w w2 → GoesOn c w2 w3 → GoesOn c w w3
 goes_on c w w2 w3 h g =
     let a = h.later in let b = g.later in
-    record { later = omega (arith, a, b); live = g.live; kept = λ e is. g.kept e is ∙ h.kept e is; unbuilt = λ e le u. g.unbuilt e (omega (arith, le, a)) (h.unbuilt e le u) }
+    record {
+      later = omega (arith, a, b);
+      live = g.live;
+      kept = λ e is. g.kept e is ∙ h.kept e is;
+      held = λ e is. g.held e is ∙ h.held e is;
+      unbuilt = λ e le u. g.unbuilt e (omega (arith, le, a)) (h.unbuilt e le u);
+    }
 
 -- a world that is live as another is
 pub goes_live : (c : Context) (w w2 w3 : World) → w3.live ≡ w2.live → w3.last_number ≡ w2.last_number → GoesOn c w w2 → GoesOn c w w3
@@ -34,6 +40,7 @@ goes_live c w w2 w3 live last h =
       later = omega (arith, a, last);
       live = λ i x is. (let le = h.live i x (subst (λ xs. slice_get xs i ≡ Some x) live is) in omega (arith, le, last));
       kept = λ e is. (ap (λ xs. exception_in xs e) live ∙ h.kept e is);
+      held = λ e is. (ap (λ xs. exception_in xs e) live ∙ h.held e is);
       unbuilt = λ e le u i o t kept is. h.unbuilt e le u i o t kept (subst (λ xs. slice_get xs i ≡ Some (record { number = e; exception = native t o kept })) live is);
     }
 
@@ -151,7 +158,7 @@ raise_fares A r n c w e order can known = go (is_doomed r.program c.guards (type
 
 -- only the guards are others
 pub goes_as : (c : Context) (guards : List Guard) (w w2 : World) → GoesOn (record c { guards = guards }) w w2 → GoesOn c w w2
-goes_as c guards w w2 h = record { later = h.later; live = h.live; kept = h.kept; unbuilt = h.unbuilt }
+goes_as c guards w w2 h = record { later = h.later; live = h.live; kept = h.kept; held = h.held; unbuilt = h.unbuilt }
 
 -- behind a barrier nothing is thrown
 pub barrier_fares : {A : Type 0} (r : Running) (n : ℕ) (c : Context) (w : World) (x : Result A) → Fares r.program n (guarded_by barrier c) w x → Fares r.program n c w (after_barrier r c x)

@@ -25,7 +25,7 @@ use Rattle.throw_simulation.specs.Fares.{IsOrderly, GoesOn, ComesOut, Fares, Far
 use Rattle.throw_simulation.proofs.Caught.{front_out}
 use Rattle.throw_simulation.proofs.Standing.{held}
 use Rattle.throw_simulation.proofs.Faring.{goes_same, goes_on, goes_live, orderly_on, orderly_as, orderly_travelling, orderly_handling, fares_on, fares_then, fares_seq, fares_pure, terminate_fares, barrier_fares, not_thrown_behind}
-use Rattle.throw_simulation.proofs.FaringScopes.{goes_resting, thrown_fares, behind_not_thrown, scope_fares}
+use Rattle.throw_simulation.proofs.FaringScopes.{contains_more, goes_resting, thrown_fares, behind_not_thrown, scope_fares}
 use Rattle.throw_simulation.proofs.FaringThrows.{other_number, not_number, taken, goes_without}
 
 -- a destructor, or nothing
@@ -45,9 +45,9 @@ module _ (r : Running) (fare : CallsFare r) (n : ℕ) (c : Context) (w : World) 
 
   freed_fares : contains c.travelling e ≡ false → contains c.handled e ≡ false → (x : Result (Unit {0})) → Fares r.program w.last_number c w x → Fares r.program n c w (after_destructor e x)
   freed_fares rests gone (done u w2) h =
-      goes_on c w w2 (without_exception (record w2 { items = w2.items ++ Free e ∷ [] }) e) h (goes_without c w2 (orderly_on c w w2 order h) e (Free e) rests)
+      goes_on c w w2 (without_exception (record w2 { items = w2.items ++ Free e ∷ [] }) e) h (goes_without c w2 (orderly_on c w w2 order h) e (Free e) rests gone)
   freed_fares rests gone (stopped (thrown f) w2) h = (
-    goes_on c w w2 (without_exception (record w2 { items = w2.items ++ Free e ∷ [] }) e) h.0 (goes_without c w2 (orderly_on c w w2 order h.0) e (Free e) rests),
+    goes_on c w w2 (without_exception (record w2 { items = w2.items ++ Free e ∷ [] }) e) h.0 (goes_without c w2 (orderly_on c w w2 order h.0) e (Free e) rests gone),
     record {
       raised = record { made = h.1.raised.made; rests = h.1.raised.rests; front = h.1.raised.front };
       known = earlier h.1.known;
@@ -59,7 +59,7 @@ module _ (r : Running) (fare : CallsFare r) (n : ℕ) (c : Context) (w : World) 
       earlier (inl there) = inl there
       earlier (inr new) = inr (omega (arith, few, new))
   freed_fares rests gone (stopped (cancelled v) w2) h =
-      goes_on c w w2 (without_exception (record w2 { items = w2.items ++ Free e ∷ [] }) e) h (goes_without c w2 (orderly_on c w w2 order h) e (Free e) rests)
+      goes_on c w w2 (without_exception (record w2 { items = w2.items ++ Free e ∷ [] }) e) h (goes_without c w2 (orderly_on c w w2 order h) e (Free e) rests gone)
   freed_fares rests gone (stopped undefined w2) h = tt
   freed_fares rests gone (stopped (ended x) w2) h = tt
   freed_fares rests gone (stopped out_of_turns w2) h = tt
@@ -69,7 +69,7 @@ module _ (r : Running) (fare : CallsFare r) (n : ℕ) where
   give_fares : (c : Context) (w : World) → n ≤ w.last_number → IsOrderly c w → (e : ℕ) → e ≤ w.last_number → contains c.travelling e ≡ false → contains c.handled e ≡ false → (x : Exception)
       → Fares r.program n c w (give_back r e x c w)
   give_fares c w few order e made rests gone building = goes_same c w order
-  give_fares c w few order e made rests gone (foreign k t) = goes_without c w order e (Clean k t) rests
+  give_fares c w few order e made rests gone (foreign k t) = goes_without c w order e (Clean k t) rests gone
   give_fares c w few order e made rests gone (native t o kept) =
       let w2 : World = record w { items = w.items ++ Destroy e ∷ [] } in
       let h = goes_live c w w w2 refl refl (goes_same c w order) in
@@ -77,7 +77,7 @@ module _ (r : Running) (fare : CallsFare r) (n : ℕ) where
       fares_on r.program n c w w2 (after_destructor e (destroy r t (whole o) c w2)) h
       (freed_fares r fare n c w2 few order2 e made rests gone (destroy r t (whole o) c w2) (destroy_fares r fare t (whole o) c w2.last_number w2 (omega arith) order2))
 
-  let_go_fares : (c : Context) (w : World) → n ≤ w.last_number → IsOrderly c w → (e : ℕ) → e ≤ w.last_number → (kept : Bool)
+  pub let_go_fares : (c : Context) (w : World) → n ≤ w.last_number → IsOrderly c w → (e : ℕ) → e ≤ w.last_number → (kept : Bool)
       → (kept ≡ false → (contains c.travelling e ≡ false) × (contains c.handled e ≡ false)) → Fares r.program n c w (let_go r e kept c w)
   let_go_fares c w few order e made kept gone =
       fares_on r.program n c w (record w { items = w.items ++ Leave e ∷ [] }) (let_go r e kept c w) h (go kept gone)
@@ -103,7 +103,7 @@ module _ (r : Running) (fare : CallsFare r) (n : ℕ) where
   module _ (c : Context) (w : World) (few : n ≤ w.last_number) (order : IsOrderly c w) (e : ℕ) (made : e ≤ w.last_number) (rests : contains c.travelling e ≡ false)
       (front : only_front e c.handled ≡ true) (known : (contains c.handled e ≡ true) ⊎ (n < e)) where
     outside : (w2 : World) → GoesOn (handling e c) w w2 → GoesOn c w w2
-    outside w2 h = record { later = h.later; live = h.live; kept = h.kept; unbuilt = h.unbuilt }
+    outside w2 h = record { later = h.later; live = h.live; kept = h.kept; held = λ f is. h.held f (contains_more e f c.handled is); unbuilt = h.unbuilt }
 
     comes_outside : (w2 : World) (f : ℕ) → ComesOut r.program n (handling e c) w2 f → ComesOut r.program n c w2 f
     comes_outside w2 f h = record {

@@ -31,7 +31,7 @@ contains_more e f es h = go (e == f)
 
 -- fewer travel
 pub goes_resting : (c : Context) (e : ℕ) (w w2 : World) → GoesOn (with_travelling e c) w w2 → GoesOn c w w2
-goes_resting c e w w2 h = record { later = h.later; live = h.live; kept = λ f is. h.kept f (contains_more e f c.travelling is); unbuilt = h.unbuilt }
+goes_resting c e w w2 h = record { later = h.later; live = h.live; kept = λ f is. h.kept f (contains_more e f c.travelling is); held = h.held; unbuilt = h.unbuilt }
 
 -- an exception that travels while a cleanup is done comes out as it was
 comes_later : (p : Checked) (n : ℕ) (c : Context) (w w2 : World) (e : ℕ) → ComesOut p n c w e → GoesOn (with_travelling e c) w w2 → ComesOut p n c w2 e

@@ -18,7 +18,7 @@ use Rattle.scope_rules.specs.Throw.{is_full, new_exception, after_building, keep
 use Rattle.region_forms.specs.Caught.{only_front}
 use Rattle.region_simulation.specs.Stands.{AreTogether}
 use Rattle.throw_simulation.specs.Raises.{CanBeRaised}
-use Rattle.throw_simulation.specs.Throws.{IsUnbuilt}
+use Rattle.throw_simulation.specs.Unbuilt.{IsUnbuilt}
 use Rattle.throw_simulation.specs.Fares.{IsOrderly, GoesOn, Fares, FaresIn}
 use Rattle.throw_simulation.proofs.Caught.{front_unhandled, front_newest}
 use Rattle.throw_simulation.proofs.Raises.{native_in}
@@ -93,6 +93,7 @@ module _ (c : Context) (w : World) (order : IsOrderly c w) where
     later = omega arith;
     live = λ j y there. made j y (last_or_before w.live (record { number = w.last_number + 1; exception = x }) y j there);
     kept = λ e is. added w.live (record { number = w.last_number + 1; exception = x }) e (let le = order.travelling e is in not_number e (w.last_number + 1) (omega (arith, le)));
+    held = λ e is. added w.live (record { number = w.last_number + 1; exception = x }) e (let le = order.handled e is in not_number e (w.last_number + 1) (omega (arith, le)));
     unbuilt = λ e le u j o t kept there. gone e le u o t kept j
         (last_or_before w.live (record { number = w.last_number + 1; exception = x }) (record { number = e; exception = native t o kept }) j there);
   }
@@ -107,12 +108,13 @@ module _ (c : Context) (w : World) (order : IsOrderly c w) where
       gone e le u o t kept j (inl there) = u j o t kept there
       gone e le u o t kept j (inr same) = plain_only (w.last_number + 1) e o x t kept plain same
 
-  -- an exception that does not travel is no longer live
-  pub goes_without : (e : ℕ) (i : Item) → contains c.travelling e ≡ false → GoesOn c w (without_exception (record w { items = w.items ++ i ∷ [] }) e)
-  goes_without e i rests = record {
+  -- an exception that neither travels nor is handled is no longer live
+  pub goes_without : (e : ℕ) (i : Item) → contains c.travelling e ≡ false → contains c.handled e ≡ false → GoesOn c w (without_exception (record w { items = w.items ++ i ∷ [] }) e)
+  goes_without e i rests unhandled = record {
     later = omega arith;
     live = λ j y there. (let (k, before) = left_before (λ x. not (x.number == e)) w.live j y there in order.live k y before);
     kept = λ f is. taken w.live e f (other_number e f c.travelling is rests);
+    held = λ f is. taken w.live e f (other_number e f c.handled is unhandled);
     unbuilt = λ f le u j o t kept there.
         (let (k, before) = left_before (λ x. not (x.number == e)) w.live j (record { number = f; exception = native t o kept }) there in u k o t kept before);
   }
@@ -131,6 +133,7 @@ goes_kept c w w2 e q new order h = record {
   later = h.later;
   live = λ i y there. made i y (replaces e q w2.live i y there);
   kept = λ f is. (put w2.live e f q (let le = order.travelling f is in not_number f e (omega (arith, le, new))) ∙ h.kept f is);
+  held = λ f is. (put w2.live e f q (let le = order.handled f is in not_number f e (omega (arith, le, new))) ∙ h.held f is);
   unbuilt = λ f le u i o t kept there. gone f le u o t kept i (replaces e q w2.live i (record { number = f; exception = native t o kept }) there);
 }
   where
@@ -152,7 +155,7 @@ unbuilt_type w e u = go (exception_at w e) refl
     go (foreign k t) is = refl
     go (native t o kept) is = let (i, there) = native_in w.live e o t kept is in absurd (u i o t kept there)
 
-removed_type : (w : World) (e f : ℕ) (i : Item) → IsUnbuilt e w → type_at (without_exception (record w { items = w.items ++ i ∷ [] }) e) f ≡ type_at w f
+pub removed_type : (w : World) (e f : ℕ) (i : Item) → IsUnbuilt e w → type_at (without_exception (record w { items = w.items ++ i ∷ [] }) e) f ≡ type_at w f
 removed_type w e f i u = go (e == f) refl
   where
     gone : IsUnbuilt e (without_exception (record w { items = w.items ++ i ∷ [] }) e)
@@ -171,6 +174,9 @@ module _ (r : Running) (n : ℕ) (c : Context) (w : World) (few : n ≤ w.last_n
 
   rests : contains c.travelling e ≡ false
   rests = new_number w.last_number c.travelling order.travelling
+
+  unhandled : contains c.handled e ≡ false
+  unhandled = new_number w.last_number c.handled order.handled
 
   -- an exception that was made is raised
   raised_fares : (A : Type 0) (w2 : World) → GoesOn c w w2 → e ≤ w2.last_number → Fares {A = A} r.program n c w (raise_exception r e c w2)
@@ -191,7 +197,7 @@ module _ (r : Running) (n : ℕ) (c : Context) (w : World) (few : n ≤ w.last_n
       let order2 = orderly_on c w w2 order all in
       let w3 = without_exception (record w2 { items = w2.items ++ Free e ∷ [] }) e in
       let unbuilt = g.0.unbuilt e (omega (arith, made)) u in (
-        goes_on c w w2 w3 all (goes_without c w2 order2 e (Free e) rests),
+        goes_on c w w2 w3 all (goes_without c w2 order2 e (Free e) rests unhandled),
         record {
           raised = record { made = g.1.raised.made; rests = g.1.raised.rests; front = g.1.raised.front };
           known = g.1.known;
@@ -200,7 +206,7 @@ module _ (r : Running) (n : ℕ) (c : Context) (w : World) (few : n ≤ w.last_n
       )
   built_fares A w1 (stopped (cancelled v) w2) h made u g =
       let all = goes_on c w w1 w2 h g in
-      goes_on c w w2 (without_exception (record w2 { items = w2.items ++ Free e ∷ [] }) e) all (goes_without c w2 (orderly_on c w w2 order all) e (Free e) rests)
+      goes_on c w w2 (without_exception (record w2 { items = w2.items ++ Free e ∷ [] }) e) all (goes_without c w2 (orderly_on c w w2 order all) e (Free e) rests unhandled)
   built_fares A w1 (stopped undefined w2) h made u g = tt
   built_fares A w1 (stopped (ended f) w2) h made u g = tt
   built_fares A w1 (stopped out_of_turns w2) h made u g = tt

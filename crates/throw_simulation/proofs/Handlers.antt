@@ -15,7 +15,7 @@ use Rattle.region_forms.specs.Laws.{CaughtListFollows}
 use Rattle.region_forms.specs.World.{address_word, object_address, with_slot}
 use Rattle.region_forms.specs.Outcome.{State, Context, normal}
 use Rattle.region_forms.specs.Ending.{Running}
-use Rattle.region_forms.specs.Meaning.{regions}
+use Rattle.linear_simulation.specs.Watched.{watched_all as regions}
 use Rattle.region_forms.specs.LowerExpression.{Lowering, exception_slot, variable_type}
 use Rattle.region_forms.specs.LowerStatement.{variable_slot, thrown_place}
 use Rattle.region_simulation.specs.Places.{Places}
@@ -26,15 +26,16 @@ use Rattle.region_simulation.specs.Flows.{FlowAgrees, InScope, DoesAlike}
 use Rattle.region_simulation.specs.Statements.{HasNumber}
 use Rattle.region_simulation.specs.Expressions.{source_running}
 use Rattle.region_simulation.proofs.Following.{follows_now}
+use Rattle.throw_simulation.specs.Fares.{CallsFare}
 use Rattle.throw_simulation.specs.Same.{RunAlike}
-use Rattle.throw_simulation.specs.Barred.{CallsAreBarred, StaysInside}
+use Rattle.throw_simulation.specs.Barred.{StaysInside}
 use Rattle.throw_simulation.specs.Handlers.{CanBeEntered, EmptyDestructor}
 use Rattle.throw_simulation.proofs.Standing.{stands_framed}
 use Rattle.throw_simulation.proofs.Parameters.{IsNoObject, Passed, parameter_then, body_alike}
 use Rattle.throw_simulation.proofs.Catching.{CaughtAs, IsReference, caught_reference, variable_newly, scope_parameter, follows_framed, slot_keeps, bound_there}
 
 module _ (laws : CaughtListFollows) (l : Lowering) (own : Option ℕ) (gives : Bool) (n i d : ℕ) (lt : i < d) (call : Callee → Reference → List SourceArgument → SourceContext → SourceAction ℤ) (b : Running)
-    (same : RunAlike l.layout (source_running l call) b) (bar : CallsAreBarred (source_running l call)) (empty : EmptyDestructor l.layout (source_running l call) b)
+    (same : RunAlike l.layout (source_running l call) b) (fare : CallsFare (source_running l call)) (empty : EmptyDestructor l.layout (source_running l call) b)
     (v : SourceFrame) (c : SourceContext) (e : ℕ) (fresh : CanBeEntered c e)
     (body : SourceFrame → SourceContext → SourceAction SourceFlow) (rs : List Region) (at : Places) (w : SourceWorld) (s : State)
     (stands : Stands l.layout l.program at (with_travelling e c) w s) (inside : InScope l own n at v s) (slot : s.frame.slots (exception_slot l) ≡ address_word (object_address e)) where
@@ -55,13 +56,13 @@ module _ (laws : CaughtListFollows) (l : Lowering) (own : Option ℕ) (gives : B
   pub all_handled : DoesAlike l own gives b v (handling e c) n i (d + 2) (body v (handling e c)) rs
       → Alike l.layout l.program at k c w s (FlowAgrees l gives i d) (handle a e None None body v c w) (regions b (regions_from last) ctx s)
   all_handled does =
-      parameter_then laws l own gives n i d lt call b same bar empty v c e fresh None None body at w s [] rs (exception_object (source_exception_at w e)) refl tt (
+      parameter_then laws l own gives n i d lt call b same fare empty v c e fresh None None body at w s [] rs (exception_object (source_exception_at w e)) refl tt (
         normal,
         s,
         refl,
         (
           follows_now l.layout l.program at k (with_travelling e c) w s stands,
-          (refl, slot, body_alike laws l own gives n i d lt call b same bar empty v c e fresh None None body at w s nowhere n rs tt (omega arith) stands inside does),
+          (refl, slot, body_alike laws l own gives n i d lt call b same fare empty v c e fresh None None body at w s nowhere n rs tt (omega arith) stands inside does),
         ),
       )
 
@@ -86,11 +87,11 @@ module _ (laws : CaughtListFollows) (l : Lowering) (own : Option ℕ) (gives : B
         let inside1 = scope_parameter l own v n at w s (with_travelling e c) (with_travelling e c) w s1 stands h inside x numbered r there newly
         (λ o m z is base. (let less = inside.free o m z is base in omega (arith, less))) in
         let slot1 : s1.frame.slots (exception_slot l) ≡ address_word (object_address e) = bound_slot k (exception_slot l) in
-        parameter_then laws l own gives n i d lt call b same bar empty v c e fresh (Some t) x body at w s (op (bind k (thrown_place l)) ∷ []) rs (whole y.object)
+        parameter_then laws l own gives n i d lt call b same fare empty v c e fresh (Some t) x body at w s (op (bind k (thrown_place l)) ∷ []) rs (whole y.object)
         (sym (ap exception_object y.is))
         (subst StaysInside (sym (catches (whole y.object) (with_travelling e c))) tt)
         (subst (λ z. Alike l.layout l.program at k (with_travelling e c) w s
-        (Passed laws l own gives n i d lt call b same bar empty v c e fresh (Some t) x body rs) z
+        (Passed laws l own gives n i d lt call b same fare empty v c e fresh (Some t) x body rs) z
         (regions b (regions_from (op (bind k (thrown_place l)) ∷ [])) ctx s)) (sym (catches (whole y.object) (with_travelling e c))) (
           normal,
           s1,
@@ -100,7 +101,7 @@ module _ (laws : CaughtListFollows) (l : Lowering) (own : Option ℕ) (gives : B
             (
               refl,
               slot1,
-              body_alike laws l own gives n i d lt call b same bar empty v c e fresh (Some t) x body at w s1 r (n + 1) rs plain (omega arith)
+              body_alike laws l own gives n i d lt call b same fare empty v c e fresh (Some t) x body at w s1 r (n + 1) rs plain (omega arith)
                   (stands_framed l.layout l.program at (with_travelling e c) w s s1.frame stands) inside1 (does r),
             ),
           ),

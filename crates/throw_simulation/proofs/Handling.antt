@@ -15,7 +15,8 @@ use Rattle.region_forms.specs.World.{address_word, object_address, exception_of,
 use Rattle.region_forms.specs.Effect.{terminates, goes, entered, enters}
 use Rattle.region_forms.specs.Outcome.{State, Context, normal, Result, continued, pure}
 use Rattle.region_forms.specs.Ending.{Running, perform, terminate}
-use Rattle.region_forms.specs.Meaning.{followed, region, regions}
+use Rattle.region_forms.specs.Meaning.{followed}
+use Rattle.linear_simulation.specs.Watched.{watched as region, watched_all as regions}
 use Rattle.region_forms.specs.LowerExpression.{Lowering, exception_slot}
 use Rattle.region_simulation.specs.Places.{Places}
 use Rattle.region_simulation.specs.Stands.{Stands, context_of}
@@ -23,16 +24,16 @@ use Rattle.region_simulation.specs.Alike.{Alike}
 use Rattle.region_simulation.specs.Flows.{FlowAgrees}
 use Rattle.region_simulation.proofs.Following.{alike_on}
 use Rattle.region_simulation.proofs.Flowing.{single}
+use Rattle.throw_simulation.specs.Fares.{CallsFare}
 use Rattle.throw_simulation.specs.Same.{RunAlike}
 use Rattle.throw_simulation.specs.Raises.{Never}
-use Rattle.throw_simulation.specs.Barred.{CallsAreBarred}
 use Rattle.throw_simulation.specs.Handlers.{CanBeEntered, EmptyDestructor}
 use Rattle.throw_simulation.proofs.Standing.{follows_changed}
 use Rattle.throw_simulation.proofs.Ends.{ends_out, terminates as terminates_out}
 use Rattle.throw_simulation.proofs.Entering.{entered_stands, tested}
 use Rattle.throw_simulation.proofs.LettingGo.{handlers_end_alike}
 
-module _ (laws : CaughtListFollows) (l : Lowering) (gives : Bool) (i d : ℕ) (lt : i < d) (a : SourceRunning) (b : Running) (same : RunAlike l.layout a b) (bar : CallsAreBarred a)
+module _ (laws : CaughtListFollows) (l : Lowering) (gives : Bool) (i d : ℕ) (lt : i < d) (a : SourceRunning) (b : Running) (same : RunAlike l.layout a b) (fare : CallsFare a)
     (empty : EmptyDestructor l.layout a b) (at : Places) (k : ℕ) (c : SourceContext) (w : SourceWorld) (s : State) (e : ℕ)
     (stands : Stands l.layout a.program at (with_travelling e c) w s) (fresh : CanBeEntered c e)
     (act : SourceContext → SourceAction SourceFlow) (inner : List Region) where
@@ -64,7 +65,7 @@ module _ (laws : CaughtListFollows) (l : Lowering) (gives : Bool) (i d : ℕ) (l
         (regions b (regions_from behind) ctx entered_state)
         (subst (λ z. Alike l.layout a.program at k c entered_world entered_state (FlowAgrees l gives i d) (while_handled a e c act entered_world) z)
         (sym (single b (protect (in_order inner) leave_handler) ctx entered_state))
-        (handlers_end_alike laws l gives i d lt a b same bar empty at k c entered_world entered_state e entry_stands fresh.rests act (in_order inner) does))
+        (handlers_end_alike laws l gives i d lt a b same fare empty at k c entered_world entered_state e entry_stands fresh.rests act (in_order inner) does))
 
     abbrev Entered : Bool → Bool → Type 0
     Entered x y = Alike l.layout a.program at k c w s (FlowAgrees l gives i d)

@@ -18,7 +18,8 @@ use Rattle.region_forms.specs.Evaluation.{location_behind, read_location, slot_l
 use Rattle.region_forms.specs.Effect.{stored_at}
 use Rattle.region_forms.specs.Outcome.{State, Context, normal, done, continued, pure}
 use Rattle.region_forms.specs.Ending.{Running, perform}
-use Rattle.region_forms.specs.Meaning.{followed, regions}
+use Rattle.region_forms.specs.Meaning.{followed}
+use Rattle.linear_simulation.specs.Watched.{watched_all as regions}
 use Rattle.region_forms.specs.LowerExpression.{Lowering, exception_slot, variable_type, slot_place}
 use Rattle.region_forms.specs.LowerStatement.{variable_slot, thrown_place}
 use Rattle.region_simulation.specs.Places.{Places, Stood, Refers, address_along}
@@ -33,8 +34,9 @@ use Rattle.region_simulation.proofs.Storing.{valued_as}
 use Rattle.region_simulation.proofs.Writing.{both_true, base_is, address_itself}
 use Rattle.region_simulation.proofs.Standing.{with_place, with_object, placed_new, follows_new}
 use Rattle.region_simulation.proofs.Declaring.{free_placed, variable_empty}
+use Rattle.throw_simulation.specs.Fares.{CallsFare}
 use Rattle.throw_simulation.specs.Same.{RunAlike}
-use Rattle.throw_simulation.specs.Barred.{CallsAreBarred, StaysInside}
+use Rattle.throw_simulation.specs.Barred.{StaysInside}
 use Rattle.throw_simulation.specs.Handlers.{CanBeEntered, EmptyDestructor}
 use Rattle.throw_simulation.proofs.Parameters.{Passed, parameter_then, body_alike}
 use Rattle.throw_simulation.proofs.Catching.{CaughtAs, caught_int, variable_newly, scope_parameter}
@@ -55,7 +57,7 @@ elsewhere base n q old other = go (same_address (record { base = base; offset = 
     go false is = refl
 
 module _ (laws : CaughtListFollows) (l : Lowering) (own : Option ℕ) (gives : Bool) (n i d : ℕ) (lt : i < d) (call : Callee → Reference → List SourceArgument → SourceContext → SourceAction ℤ) (b : Running)
-    (same : RunAlike l.layout (source_running l call) b) (bar : CallsAreBarred (source_running l call)) (empty : EmptyDestructor l.layout (source_running l call) b)
+    (same : RunAlike l.layout (source_running l call) b) (fare : CallsFare (source_running l call)) (empty : EmptyDestructor l.layout (source_running l call) b)
     (v : SourceFrame) (c : SourceContext) (e : ℕ) (fresh : CanBeEntered c e)
     (body : SourceFrame → SourceContext → SourceAction SourceFlow) (rs : List Region) (at : Places) (w : SourceWorld) (s : State)
     (stands : Stands l.layout l.program at (with_travelling e c) w s) (inside : InScope l own n at v s) (slot : s.frame.slots (exception_slot l) ≡ address_word (object_address e))
@@ -102,7 +104,7 @@ module _ (laws : CaughtListFollows) (l : Lowering) (own : Option ℕ) (gives : B
 
   parameter_read : (q : Part) → object_at w y.object ≡ q
       → StaysInside (read_then q) × Alike l.layout l.program at k (with_travelling e c) w s
-      (Passed laws l own gives n i d lt call b same bar empty v c e fresh (Some Int) x body rs) (read_then q) (regions b (regions_from P) ctx s)
+      (Passed laws l own gives n i d lt call b same fare empty v c e fresh (Some Int) x body rs) (read_then q) (regions b (regions_from P) ctx s)
   parameter_read (object m parts) is = (tt, tt)
   parameter_read (cell None) is = (tt, tt)
   parameter_read (cell (Some z)) is =
@@ -129,7 +131,7 @@ module _ (laws : CaughtListFollows) (l : Lowering) (own : Option ℕ) (gives : B
             (
               refl,
               slot,
-              body_alike laws l own gives n i d lt call b same bar empty v c e fresh (Some Int) x body (with_place at o stood) w1 s1 (whole o) (n + 1) rs tt (omega arith) h.stands inside1 (does (whole o)),
+              body_alike laws l own gives n i d lt call b same fare empty v c e fresh (Some Int) x body (with_place at o stood) w1 s1 (whole o) (n + 1) rs tt (omega arith) h.stands inside1 (does (whole o)),
             ),
           ),
         ),
@@ -137,7 +139,7 @@ module _ (laws : CaughtListFollows) (l : Lowering) (own : Option ℕ) (gives : B
 
   pub int_handled : Alike l.layout l.program at k c w s (FlowAgrees l gives i d) (handle a e (Some Int) x body v c w)
       (regions b (regions_from (op (store (slot_place k) (load (thrown_place l))) ∷
-      last laws l own gives n i d lt call b same bar empty v c e fresh body rs at w s stands inside slot)) ctx s)
+      last laws l own gives n i d lt call b same fare empty v c e fresh body rs at w s stands inside slot)) ctx s)
   int_handled =
       let h = parameter_read (object_at w y.object) refl in
-      parameter_then laws l own gives n i d lt call b same bar empty v c e fresh (Some Int) x body at w s P rs (whole y.object) (sym (ap exception_object y.is)) h.0 h.1
+      parameter_then laws l own gives n i d lt call b same fare empty v c e fresh (Some Int) x body at w s P rs (whole y.object) (sym (ap exception_object y.is)) h.0 h.1

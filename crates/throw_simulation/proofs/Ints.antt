@@ -16,7 +16,8 @@ use Rattle.region_forms.specs.Evaluation.{location_behind, value_in}
 use Rattle.region_forms.specs.Effect.{if_some, stored_at}
 use Rattle.region_forms.specs.Outcome.{State, Context, Flow, normal, Result, done, continued, pure}
 use Rattle.region_forms.specs.Ending.{Running, perform}
-use Rattle.region_forms.specs.Meaning.{followed, regions}
+use Rattle.region_forms.specs.Meaning.{followed}
+use Rattle.linear_simulation.specs.Watched.{watched_all as regions}
 use Rattle.region_forms.specs.LowerExpression.{Lowering, exception_slot, first_temporary, Lowered}
 use Rattle.region_forms.specs.LowerStatement.{thrown_place}
 use Rattle.region_simulation.specs.Places.{Places, Stood, address_along}
@@ -30,7 +31,8 @@ use Rattle.region_simulation.proofs.Joining.{joined}
 use Rattle.region_simulation.proofs.Storing.{valued_as}
 use Rattle.region_simulation.proofs.Writing.{both_true, base_is, address_itself}
 use Rattle.region_simulation.proofs.Standing.{with_object, placed_new, follows_new}
-use Rattle.throw_simulation.specs.Throws.{IsUnbuilt, IsBuilt, BuildsAlike}
+use Rattle.throw_simulation.specs.Unbuilt.{IsUnbuilt}
+use Rattle.throw_simulation.specs.Throws.{IsBuilt, BuildsAlike}
 use Rattle.throw_simulation.specs.Operands.{LeavesUnbuilt}
 
 -- what stands at exception e stands nowhere

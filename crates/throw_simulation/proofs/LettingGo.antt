@@ -1,5 +1,6 @@
 -- Handlers are left alike.
-use Rattle.std.proofs.Common.{◌≡◌, ℕ, ◌+◌, Bool, true, false, [], ◌∷◌, ◌++◌, refl, sym, ap, ◌∙◌, subst, arith}
+use Rattle.std.proofs.lemmas.Bool.Decides.{nat_tests}
+use Rattle.std.proofs.Common.{◌≡◌, ℕ, ◌+◌, ◌<◌, ◌⊎◌, inl, inr, Bool, true, false, [], ◌∷◌, ◌++◌, refl, sym, ap, ◌∙◌, subst, arith}
 use Rattle.std.specs.Prelude.{◌==◌, ◌||◌, not, if◌then◌else◌}
 use Rattle.run_items.specs.declared.item.Item.TheVariants.{Leave}
 use Rattle.scope_rules.specs.Class.{contains}
@@ -7,9 +8,8 @@ use Rattle.scope_rules.specs.World.{World as SourceWorld, exception_at as source
 use Rattle.scope_rules.specs.Context.{Context as SourceContext, barrier, guarded_by, handling, with_travelling}
 use Rattle.scope_rules.specs.Outcome.{Result as SourceResult, done as source_done, stopped as source_stopped, thrown, cancelled, ended, undefined, out_of_turns, deep, pure as source_pure}
 use Rattle.scope_rules.specs.Running.{Running as SourceRunning}
-use Rattle.scope_rules.specs.Handler.{give_back as source_give_back, let_go, after_handler}
+use Rattle.scope_rules.specs.Handler.{give_back as source_give_back, goes_on, let_go, after_handler}
 use Rattle.region_forms.specs.Caught.{left_of, gives_back, caught_of, only_front}
-use Rattle.region_forms.specs.Form.{leave}
 use Rattle.region_forms.specs.Laws.{CaughtListFollows}
 use Rattle.region_forms.specs.Layout.{Layout}
 use Rattle.region_forms.specs.LowerExpression.{result_slot}
@@ -17,13 +17,20 @@ use Rattle.region_forms.specs.World.{World, exception_at}
 use Rattle.region_forms.specs.Effect.{left, newest_of}
 use Rattle.region_forms.specs.Outcome.{State, Context, Result, pure}
 use Rattle.region_forms.specs.Ending.{Running, after_scope, give_back, leave_newest}
-use Rattle.region_forms.specs.Meaning.{outwards, operation, region}
+use Rattle.region_forms.specs.Meaning.{outwards}
+use Rattle.linear_simulation.specs.Watched.{kept_on, not_its_own, watched_leave, watched as region}
 use Rattle.region_simulation.specs.Places.{Places}
 use Rattle.region_simulation.specs.Stands.{world_of, Stands, context_of}
 use Rattle.region_simulation.specs.Alike.{Alike}
 use Rattle.region_simulation.specs.Flows.{FlowAgrees}
 use Rattle.region_simulation.proofs.Following.{Agreement, follows_now, alike_on}
 use Rattle.region_simulation.proofs.Flowing.{alike_after, outwards_agrees}
+use Rattle.throw_simulation.specs.Fares.{CallsFare, Fares}
+use Rattle.throw_simulation.proofs.Faring.{faring_calls_are_barred, orderly_as, orderly_sound}
+use Rattle.throw_simulation.proofs.FaringScopes.{contains_first}
+use Rattle.throw_simulation.proofs.FaringThrows.{not_number, other_number}
+use Rattle.throw_simulation.proofs.FaringHandlers.{let_go_fares}
+use Rattle.throw_simulation.proofs.Keeping.{IsOther, kept_alike, own_alike, scope_keeps}
 use Rattle.throw_simulation.specs.Same.{RunAlike}
 use Rattle.throw_simulation.specs.Barred.{NotThrown, CallsAreBarred}
 use Rattle.throw_simulation.specs.Scopes.{Any}
@@ -66,9 +73,9 @@ module _ (l : Layout) (a : SourceRunning) (b : Running) (same : RunAlike l a b) 
         (sym (exception_same l a.program at (handling e c) w s stands e))
         (gives_back_alike l a b same empty at m c after_leaving state_after left_stands e (source_exception_at w e) refl))
 
-    lets_go : (kept : Bool) → gives_back (caught_of c.travelling (e ∷ c.handled)) ≡ not kept
+    let_go_alike : (kept : Bool) → gives_back (caught_of c.travelling (e ∷ c.handled)) ≡ not kept
         → Alike l a.program at m c w s Any (let_go a e kept c w) (leave_newest b ctx s)
-    lets_go kept is =
+    let_go_alike kept is =
         alike_on l a.program Any at m c c w s after_leaving state_after (follows_changed l a.program at m c w after_leaving s (left s.world) refl refl refl left_stands)
         (let_go a e kept c w) (leave_newest b ctx s)
         (subst (λ z. Alike l a.program at m c after_leaving state_after Any (let_go a e kept c w)
@@ -80,6 +87,53 @@ module _ (l : Layout) (a : SourceRunning) (b : Running) (same : RunAlike l a b) 
         go true = (tt, state_after, refl, (follows_now l a.program at m c after_leaving state_after left_stands, tt))
         go false = given
 
+    -- an exception that is not kept neither travels nor is handled
+    gone : (kept : Bool) → gives_back (caught_of c.travelling (e ∷ c.handled)) ≡ not kept → kept ≡ false → (contains c.travelling e ≡ false) × (contains c.handled e ≡ false)
+    gone kept is none = go (contains c.travelling e) refl
+      where
+        given_back : true ≡ gives_back (caught_of c.travelling (e ∷ c.handled))
+        given_back = sym (is ∙ ap not none)
+
+        never : true ≡ false → ⊥
+        never e = cc e
+
+        unhandled : (z : Bool) → true ≡ not z → z ≡ false
+        unhandled true e = absurd (never e)
+        unhandled false e = refl
+
+        go : (z : Bool) → contains c.travelling e ≡ z → (contains c.travelling e ≡ false) × (contains c.handled e ≡ false)
+        go true there = absurd (never (given_back ∙ laws.kept e c.travelling c.handled there))
+        go false rests = (rests, unhandled (contains c.handled e) (given_back ∙ laws.given_back e c.travelling c.handled rests stands.sound.together.0))
+
+    other_out : contains c.handled e ≡ false → (x : SourceResult (Unit {0})) → Fares a.program w.last_number c w x → IsOther e x
+    other_out unhandled (source_done u w2) h = tt
+    other_out unhandled (source_stopped (thrown f) w2) h = go h.1.known
+      where
+        flip : (m n : ℕ) → (m == n) ≡ false → (n == m) ≡ false
+        flip m n h = grind (arith, nat_tests, h)
+
+        go : (contains c.handled f ≡ true) ⊎ (w.last_number < f) → (f == e) ≡ false
+        go (inl there) = flip e f (other_number e f c.handled there unhandled)
+        go (inr new) = (let made = stands.sound.handled e (contains_first e c.handled) in not_number e f (omega (arith, made, new)))
+    other_out unhandled (source_stopped (cancelled n) w2) h = tt
+    other_out unhandled (source_stopped undefined w2) h = tt
+    other_out unhandled (source_stopped (ended n) w2) h = tt
+    other_out unhandled (source_stopped out_of_turns w2) h = tt
+    other_out unhandled (source_stopped deep w2) h = tt
+
+    -- so the exception does not come out of its own destructor
+    lets_go : CallsFare a → (kept : Bool) → gives_back (caught_of c.travelling (e ∷ c.handled)) ≡ not kept
+        → Alike l a.program at m c w s Any (let_go a e kept c w) (watched_leave b ctx s)
+    lets_go fare kept is =
+        subst (λ n. Alike l a.program at m c w s Any (let_go a e kept c w) (not_its_own n (leave_newest b ctx s))) (sym newest)
+        (own_alike l a.program at w s Any m c e (let_go a e kept c w) (leave_newest b ctx s) (let_go_alike kept is) (other kept (gone kept is)))
+      where
+        other : (z : Bool) → (z ≡ false → (contains c.travelling e ≡ false) × (contains c.handled e ≡ false)) → IsOther e (let_go a e z c w)
+        other true none = tt
+        other false none =
+            other_out (none refl).1 (let_go a e false c w)
+            (let_go_fares a fare w.last_number c w (omega arith) (orderly_sound c w (sound_left e c stands.sound)) e (stands.sound.handled e (contains_first e c.handled)) false none)
+
   -- behind a barrier no exception comes out
   leaving_barred : CallsAreBarred a → (at : Places) (c : SourceContext) (w : SourceWorld) (s : State) (e : ℕ) (kept : Bool) → Stands l a.program at (handling e c) w s
       → NotThrown (let_go a e kept (guarded_by barrier c) w)
@@ -88,7 +142,7 @@ module _ (l : Layout) (a : SourceRunning) (b : Running) (same : RunAlike l a b) 
       giving_barred a bar e (source_exception_at w e) c (record w { items = w.items ++ Leave e ∷ [] }) (sound_left e c stands.sound)
 
   -- however what is done in a handler comes out
-  module _ (bar : CallsAreBarred a) {A B : Type 0} (agree : Agreement A B) (n : ℕ) (steady : IsSteady agree n) (at : Places) (k : ℕ) (c : SourceContext) (w : SourceWorld) (s : State) (e : ℕ)
+  module _ (fare : CallsFare a) {A B : Type 0} (agree : Agreement A B) (n : ℕ) (steady : IsSteady agree n) (at : Places) (k : ℕ) (c : SourceContext) (w : SourceWorld) (s : State) (e : ℕ)
       (sound : Stands l a.program at (handling e c) w s) (rests : contains c.travelling e ≡ false) where
     front : only_front e c.handled ≡ true
     front = sound.sound.together.0
@@ -105,37 +159,59 @@ module _ (l : Layout) (a : SourceRunning) (b : Running) (same : RunAlike l a b) 
         go false is = laws.given_back e (f ∷ c.travelling) c.handled (ap (λ z. z || contains c.travelling e) is ∙ rests) front
 
     abbrev cleanup : Context → State → Result (Unit {0})
-    cleanup = operation b leave
+    cleanup = watched_leave b
 
     pub handler_ends : (x : SourceResult A) (y : Result B) → Alike l a.program at k (handling e c) w s agree x y
         → Alike l a.program at k c w s agree (after_handler a e c x) (after_scope b (context_of w.open_calls c) cleanup y)
     handler_ends (source_done u w2) y h =
         done_out l a b same agree at k c w s (let_go a e (contains c.handled e)) cleanup n steady (handling e c) u w2 y h
-        (λ s2 g. lets_go g.places (k + n) c w2 s2 e g.stands (contains c.handled e) last)
+        (λ s2 g. lets_go g.places (k + n) c w2 s2 e g.stands fare (contains c.handled e) last)
     handler_ends (source_stopped (thrown f) w2) y h =
         let kept = f == e || contains c.handled e in
         thrown_out l a b same agree at k c w s (let_go a e kept) cleanup (handling e c) f w2 y h
         (λ s2 g.
         let d = with_travelling f c in
         let standing = stands_guarded l a.program g.places barrier (with_travelling f (handling e c)) w2 s2 g.stands in
-        (leaving_barred bar g.places d w2 s2 e kept g.stands, lets_go g.places k (guarded_by barrier d) w2 s2 e standing kept (kept_or_last f)))
+        (leaving_barred (faring_calls_are_barred a fare) g.places d w2 s2 e kept g.stands, lets_go g.places k (guarded_by barrier d) w2 s2 e standing fare kept (kept_or_last f)))
         (after_scope b (context_of w.open_calls c) cleanup) (λ t. refl)
     handler_ends (source_stopped (cancelled x) w2) y h =
         let kept = contains c.handled e in
         cancelled_out l a b same agree at k c w s (let_go a e kept) cleanup (handling e c) x w2 y h
         (λ s2 g.
         let standing = stands_guarded l a.program g.places barrier (handling e c) w2 s2 g.stands in
-        (leaving_barred bar g.places c w2 s2 e kept g.stands, lets_go g.places k (guarded_by barrier c) w2 s2 e standing kept last))
+        (leaving_barred (faring_calls_are_barred a fare) g.places c w2 s2 e kept g.stands, lets_go g.places k (guarded_by barrier c) w2 s2 e standing fare kept last))
         (after_scope b (context_of w.open_calls c) cleanup) (λ t. refl)
     handler_ends (source_stopped undefined w2) y h = tt
     handler_ends (source_stopped (ended x) w2) y (s2, is, h) = (s2, ap (after_scope b (context_of w.open_calls c) cleanup) is, h)
     handler_ends (source_stopped out_of_turns w2) y (s2, is, h) = (s2, ap (after_scope b (context_of w.open_calls c) cleanup) is, h)
     handler_ends (source_stopped deep w2) y (s2, is, h) = (s2, ap (after_scope b (context_of w.open_calls c) cleanup) is, h)
 
+    -- the type of an exception that travels is kept
+    leaving_fares : (x : SourceResult A) (y : Result B) → Alike l a.program at k (handling e c) w s agree x y → (f : ℕ) (w2 : SourceWorld) → x ≡ source_stopped (thrown f) w2
+        → (let d = guarded_by barrier (with_travelling f c) in Fares a.program 0 d w2 (let_go a e (goes_on e c x) d w2))
+    leaving_fares x y h f w2 is =
+        let (s2, same, g) = subst (λ r. Alike l a.program at k (handling e c) w s agree r y) is h in
+        let d = guarded_by barrier (with_travelling f c) in
+        let sound2 = sound_left e (with_travelling f c) g.stands.sound in
+        let_go_fares a fare 0 d w2 (omega arith) (orderly_as (with_travelling f c) w2 (barrier ∷ c.guards) c.ending (orderly_sound (with_travelling f c) w2 sound2)) e
+        (g.stands.sound.handled e (contains_first e c.handled)) (goes_on e c x) (λ none. unkept (f == e) refl (sym (ap (goes_on e c) is) ∙ none))
+      where
+        unkept : (z : Bool) → (f == e) ≡ z → (z || contains c.handled e) ≡ false → (contains (f ∷ c.travelling) e ≡ false) × (contains c.handled e ≡ false)
+        unkept true same h = absurd (cc h)
+        unkept false other h = (ap (λ z. z || contains c.travelling e) other ∙ rests, h)
+
+    -- so it comes out alike, watched
+    pub handler_watched : (x : SourceResult A) (y : Result B) → Alike l a.program at k (handling e c) w s agree x y
+        → Alike l a.program at k c w s agree (after_handler a e c x) (kept_on y (after_scope b (context_of w.open_calls c) cleanup y))
+    handler_watched x y h =
+        kept_alike l a.program at w s agree k c agree k (handling e c) x y (after_handler a e c x) (after_scope b (context_of w.open_calls c) cleanup y) h (handler_ends x y h)
+        (scope_keeps a c (let_go a e (goes_on e c x)) x (leaving_fares x y h))
+
 pub handlers_end_alike : CaughtListFollows → HandlersEndAlike
-handlers_end_alike laws l gives i d lt a b same bar empty at k c w s e stands rests act body h =
+handlers_end_alike laws l gives i d lt a b same fare empty at k c w s e stands rests act body h =
     let ctx = context_of w.open_calls c in
     let agree = FlowAgrees l gives i (d + 1) in
+    let y = region b body ctx s in
     alike_after l.layout a.program agree (FlowAgrees l gives i d) at k c w s (after_handler a e c (act (handling e c) w))
-    (after_scope b ctx (operation b leave) (region b body ctx s)) outwards (outwards_agrees l gives i d lt)
-    (handler_ends l.layout a b same empty laws bar agree (result_slot l + 1) (flows_steady l gives i (d + 1)) at k c w s e stands rests (act (handling e c) w) (region b body ctx s) h)
+    (kept_on y (after_scope b ctx (watched_leave b) y)) outwards (outwards_agrees l gives i d lt)
+    (handler_watched l.layout a b same empty laws fare agree (result_slot l + 1) (flows_steady l gives i (d + 1)) at k c w s e stands rests (act (handling e c) w) y h)

@@ -42,3 +42,4 @@ pub mod Leading
 pub mod BadExceptions
 pub mod Specifications
 pub mod Extents
+pub mod Keeping

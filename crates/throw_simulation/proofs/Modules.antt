@@ -22,7 +22,8 @@ use Rattle.region_forms.specs.World.{Word, World, foreign, with_item}
 use Rattle.region_forms.specs.Effect.{if_some, called, finished, terminates, raises, answered, replied, module_called, with_new}
 use Rattle.region_forms.specs.Outcome.{Context, Flow, Result, State, continued, normal, pure}
 use Rattle.region_forms.specs.Ending.{Running, perform, terminate, raise}
-use Rattle.region_forms.specs.Meaning.{followed, regions}
+use Rattle.region_forms.specs.Meaning.{followed}
+use Rattle.linear_simulation.specs.Watched.{watched_all as regions}
 use Rattle.region_forms.specs.LowerExpression.{Lowering, first_temporary, LoweredArguments, in_temporary, slot_place, stored_in, lower_arguments}
 use Rattle.region_simulation.specs.Places.{Places}
 use Rattle.region_simulation.specs.Reach.{KindsFit}

@@ -22,7 +22,8 @@ use Rattle.region_forms.specs.Evaluation.{location_behind, location_address, slo
 use Rattle.region_forms.specs.Effect.{entered}
 use Rattle.region_forms.specs.Outcome.{State, Context, Flow, normal, Result, done, stopped, continued, pure}
 use Rattle.region_forms.specs.Ending.{Running}
-use Rattle.region_forms.specs.Meaning.{outwards, region, regions}
+use Rattle.region_forms.specs.Meaning.{outwards}
+use Rattle.linear_simulation.specs.Watched.{watched as region, watched_all as regions}
 use Rattle.region_forms.specs.LowerExpression.{Lowering, result_slot, exception_slot, first_temporary, variable_type, slot_place}
 use Rattle.region_forms.specs.LowerStatement.{variable_slot, thrown_place, copied}
 use Rattle.region_simulation.specs.Places.{Places, Stood}
@@ -37,8 +38,10 @@ use Rattle.region_simulation.proofs.Leaving.{follows_forgetting, scope_left}
 use Rattle.region_simulation.proofs.Flowing.{alike_seq, alike_after, outwards_agrees, single}
 use Rattle.region_simulation.proofs.Standing.{with_place, with_object, placed_new, one_more, follows_new}
 use Rattle.region_simulation.proofs.Declaring.{free_placed, variable_empty}
+use Rattle.throw_simulation.specs.Fares.{CallsFare}
+use Rattle.throw_simulation.proofs.Faring.{faring_calls_are_barred}
 use Rattle.throw_simulation.specs.Same.{RunAlike}
-use Rattle.throw_simulation.specs.Barred.{CallsAreBarred, StaysInside}
+use Rattle.throw_simulation.specs.Barred.{StaysInside}
 use Rattle.throw_simulation.specs.Scopes.{LeadsTo}
 use Rattle.throw_simulation.specs.Handlers.{CanBeEntered, EmptyDestructor}
 use Rattle.throw_simulation.proofs.Unset.{unset_is_shaped, unset_is_not_set}
@@ -51,7 +54,7 @@ use Rattle.throw_simulation.proofs.Catching.{CaughtAs, caught_class, variable_ne
 use Rattle.throw_simulation.proofs.Handlers.{last}
 
 module _ (laws : CaughtListFollows) (l : Lowering) (own : Option ℕ) (gives : Bool) (n i d : ℕ) (lt : i < d) (call : Callee → Reference → List SourceArgument → SourceContext → SourceAction ℤ) (b : Running)
-    (same : RunAlike l.layout (source_running l call) b) (bar : CallsAreBarred (source_running l call)) (empty : EmptyDestructor l.layout (source_running l call) b)
+    (same : RunAlike l.layout (source_running l call) b) (fare : CallsFare (source_running l call)) (empty : EmptyDestructor l.layout (source_running l call) b)
     (v : SourceFrame) (c : SourceContext) (e : ℕ) (fresh : CanBeEntered c e)
     (body : SourceFrame → SourceContext → SourceAction SourceFlow) (rs : List Region) (fit : KindsFit l b.kinds) (x : Option Name) (numbered : HasNumber x n)
     (there : n < length l.variables) (q : Name) (typed : variable_type l n ≡ Object q) (class_there : class_named q < length l.program.classes) where
@@ -81,15 +84,15 @@ module _ (laws : CaughtListFollows) (l : Lowering) (own : Option ℕ) (gives : B
   object_body : (at : Places) (w : SourceWorld) (s : State) (o : ℕ) → Stands l.layout l.program at (with_travelling e c) w s → InScope l own (n + 1) at (with_parameter x (whole o) v) s
       → at o ≡ Some (record { base = of_variable s.frame.call k; type = class_type j })
       → DoesAlike l own gives b (with_parameter x (whole o) v) (handling e c) (n + 1) i (d + 4) (body (with_parameter x (whole o) v) (handling e c)) rs
-      → BodyAlike laws l own gives n i d lt call b same bar empty v c e fresh (Some (Object q)) x body scoped_regions (whole o) w at s
+      → BodyAlike laws l own gives n i d lt call b same fare empty v c e fresh (Some (Object q)) x body scoped_regions (whole o) w at s
   object_body at w s o stands scope placed does =
       let w2 = record w { items = w.items ++ Enter e ∷ [] } in
       let s2 = record s { world = entered e s.world } in
       let ctx = context_of w.open_calls c in
       let dd = handling e c in
       let act = body (with_parameter x (whole o) v) dd in
-      let standing = entry_stands laws l gives i d lt a b same bar empty at k c w s e stands fresh
-      (in_handler laws l own gives n i d lt call b same bar empty v c e fresh (Some (Object q)) x body (whole o)) scoped_regions in
+      let standing = entry_stands laws l gives i d lt a b same fare empty at k c w s e stands fresh
+      (in_handler laws l own gives n i d lt call b same fare empty v c e fresh (Some (Object q)) x body (whole o)) scoped_regions in
       let inside : InScope l own (n + 1) at (with_parameter x (whole o) v) s2 =
       record { reach = scope.reach; before = scope.before; free = scope.free; there = scope.there; running = scope.running } in
       let four : d + 4 ≡ d + 1 + 1 + 1 + 1 = omega arith in
@@ -97,7 +100,7 @@ module _ (laws : CaughtListFollows) (l : Lowering) (own : Option ℕ) (gives : B
       let y3 = alike_after l.layout l.program (FlowAgrees l gives i (d + 1 + 1 + 1 + 1)) (FlowAgrees l gives i (d + 1 + 1 + 1)) at (variable_slot l (n + 1)) dd w2 s2 (act w2) (regions b (regions_from rs) ctx s2)
       outwards (outwards_agrees l gives i (d + 1 + 1 + 1) (omega (arith, lt))) y4 in
       let low = alike_less l.layout l.program (FlowAgrees l gives i (d + 1 + 1 + 1)) at k (variable_slot l (n + 1)) dd w2 s2 (act w2) (region b (in_order rs) ctx s2) (omega arith) y3 in
-      let y2 = scope_protects l.layout a b same bar (FlowAgrees l gives i (d + 1 + 1 + 1)) (FlowAgrees l gives i (d + 1 + 1)) (result_slot l + 1) (flows_steady l gives i (d + 1 + 1 + 1))
+      let y2 = scope_protects l.layout a b same fare (FlowAgrees l gives i (d + 1 + 1 + 1)) (FlowAgrees l gives i (d + 1 + 1)) (result_slot l + 1) (flows_steady l gives i (d + 1 + 1 + 1))
       (outwards_agrees l gives i (d + 1 + 1) (omega (arith, lt))) at k dd w2 s2 (slot_place k) (whole o) j standing (leads_here at k s2.frame o placed) act (in_order rs) low in
       let r = source_after_scope a dd (source_destroy a (class_type j) (whole o)) (act w2) in
       let one = protect (in_order rs) (destroy_scope (slot_place k) (number_of l.program (destructor j))) in
@@ -159,11 +162,11 @@ module _ (laws : CaughtListFollows) (l : Lowering) (own : Option ℕ) (gives : B
     both : StaysInside copying × Alike l.layout l.program (with_place at o stood) (first_temporary l) (with_travelling e c) w1 s (λ u flow w2 at2 s2. flow ≡ normal) copying
         (region b (copied l j (slot_place k) (thrown_place l)) ctx s)
     both =
-        copied_both l.layout a b same bar (with_place at o stood) (first_temporary l) (first_temporary l) (with_travelling e c) w1 s (slot_place k) (thrown_place l) (whole o) source j can
+        copied_both l.layout a b same (faring_calls_are_barred a fare) (with_place at o stood) (first_temporary l) (first_temporary l) (with_travelling e c) w1 s (slot_place k) (thrown_place l) (whole o) source j can
         (h1 k).stands (leads_here (with_place at o stood) (first_temporary l) s.frame o (placed_new at o stood)) comes
 
     abbrev passed : Reference → Flow → SourceWorld → Places → State → Type 0
-    passed = Passed laws l own gives n i d lt call b same bar empty v c e fresh (Some (Object q)) x body scoped_regions
+    passed = Passed laws l own gives n i d lt call b same fare empty v c e fresh (Some (Object q)) x body scoped_regions
 
     regrouped : (r : SourceResult (Unit {0})) → source_continued (source_continued r (λ u. source_pure o)) (λ z. source_pure (whole z)) ≡ source_continued r (λ u. source_pure (whole o))
     regrouped (source_done u z) = refl
@@ -201,9 +204,9 @@ module _ (laws : CaughtListFollows) (l : Lowering) (own : Option ℕ) (gives : B
 
     pub object_handled : Alike l.layout l.program at k c w s (FlowAgrees l gives i d) (handle a e (Some (Object q)) x body v c w)
         (regions b (regions_from (copied l j (slot_place k) (thrown_place l) ∷
-        last laws l own gives n i d lt call b same bar empty v c e fresh body scoped_regions at w s stands inside slot)) ctx s)
+        last laws l own gives n i d lt call b same fare empty v c e fresh body scoped_regions at w s stands inside slot)) ctx s)
     object_handled =
-        parameter_then laws l own gives n i d lt call b same bar empty v c e fresh (Some (Object q)) x body at w s P scoped_regions (whole y.object) (sym (ap exception_object y.is))
+        parameter_then laws l own gives n i d lt call b same fare empty v c e fresh (Some (Object q)) x body at w s P scoped_regions (whole y.object) (sym (ap exception_object y.is))
         (subst StaysInside (sym (regrouped copying)) (stays_on copying both.0))
         (subst (λ z. Alike l.layout l.program at k (with_travelling e c) w s passed z (regions b (regions_from P) ctx s)) (sym (regrouped copying))
         (subst (λ z. Alike l.layout l.program at k (with_travelling e c) w s passed (source_continued copying (λ u. source_pure (whole o))) z)

@@ -18,7 +18,7 @@ use Rattle.scope_rules.specs.Statement.{int_thrown as source_int_thrown, object_
 use Rattle.region_forms.specs.Form.{regions_from, op, store}
 use Rattle.region_forms.specs.Laws.{CaughtListFollows}
 use Rattle.region_forms.specs.Ending.{Running}
-use Rattle.region_forms.specs.Meaning.{regions}
+use Rattle.linear_simulation.specs.Watched.{watched_all as regions}
 use Rattle.region_forms.specs.LowerExpression.{Lowering, result_slot, first_temporary, lvalue_type, lower, lower_construct, place_of}
 use Rattle.region_forms.specs.LowerStatement.{thrown_place, copied, int_thrown, object_thrown, call_thrown, part_thrown, lvalue_thrown, operand_thrown, throwing}
 use Rattle.region_simulation.specs.Reach.{KindsFit}
@@ -35,7 +35,9 @@ use Rattle.region_simulation.proofs.Members.{refers_shaped}
 use Rattle.region_simulation.proofs.Expressions.{expression_evaluates}
 use Rattle.region_simulation.proofs.Standard.{builtins_same}
 use Rattle.throw_simulation.specs.Same.{RunAlike}
-use Rattle.throw_simulation.specs.Barred.{CallsAreBarred}
+use Rattle.throw_simulation.specs.Fares.{CallsFare}
+use Rattle.throw_simulation.proofs.Faring.{faring_calls_are_barred}
+use Rattle.throw_simulation.proofs.FaringTrees.{int_thrown_fares, lvalue_thrown_fares, object_thrown_fares}
 use Rattle.throw_simulation.specs.Throws.{IsBuilt, BuildsAlike}
 use Rattle.throw_simulation.specs.Operands.{LeavesUnbuilt, OperandsThrowAlike}
 use Rattle.throw_simulation.proofs.Kept.{shaped_type}
@@ -53,7 +55,7 @@ class_there p k implicit_copy h = h
 
 module _ (laws : CaughtListFollows) (l : Lowering) (own : Option ℕ) (gives : Bool) (calls : Callee → Reference → List SourceArgument → SourceContext → SourceAction ℤ) (b : Running)
     (v : SourceFrame) (c : SourceContext) (same : RunAlike l.layout (source_running l calls) b) (fit : KindsFit l b.kinds)
-    (bar : CallsAreBarred (source_running l calls)) (leaves : (e : Expression) → LeavesUnbuilt c (value_of (source_running l calls) v e c)) (n i d : ℕ) where
+    (fare : CallsFare (source_running l calls)) (leaves : (e : Expression) → LeavesUnbuilt c (value_of (source_running l calls) v e c)) (n i d : ℕ) where
   abbrev a : SourceRunning
   a = source_running l calls
 
@@ -68,11 +70,11 @@ module _ (laws : CaughtListFollows) (l : Lowering) (own : Option ℕ) (gives : B
 
   int_case : (e : Expression) → IsTyped l own v.variables e → DoesAlike l own gives b v c n i d (throw_new a c (source_int_thrown a v e c)) (int_thrown l e)
   int_case e typed = throws_alike laws l own gives calls b v c same n i d int_type (source_int_thrown a v e c)
-      ((lower l e (first_temporary l)).before ++ op (store (thrown_place l) (lower l e (first_temporary l)).value) ∷ []) tt (int_builds e typed)
+      ((lower l e (first_temporary l)).before ++ op (store (thrown_place l) (lower l e (first_temporary l)).value) ∷ []) tt (int_thrown_fares a v e c fare).at (int_builds e typed)
 
   object_case : (k : ℕ) (es : Expressions) → CanConstruct l own v.variables k es → DoesAlike l own gives b v c n i d (throw_new a c (source_object_thrown a v k es c)) (object_thrown l k es)
   object_case k es can =
-      throws_alike laws l own gives calls b v c same n i d (class_type k) (source_object_thrown a v k es c) (lower_construct l k es (thrown_place l) (first_temporary l)) can.there
+      throws_alike laws l own gives calls b v c same n i d (class_type k) (source_object_thrown a v k es c) (lower_construct l k es (thrown_place l) (first_temporary l)) can.there (object_thrown_fares a v k es c fare).at
       (λ at w s e stands reach slot made unbuilt empty. object_built l own calls b v c fit same builtins at w s e stands reach slot made empty k can.there es can)
 
   -- what names stand for, of a type
@@ -81,7 +83,7 @@ module _ (laws : CaughtListFollows) (l : Lowering) (own : Option ℕ) (gives : B
   part_case e names int_type is named can =
       throws_alike laws l own gives calls b v c same n i d int_type (source_lvalue_thrown a v e (Some names) c)
       ((lower l e (first_temporary l)).before ++ op (store (thrown_place l) (lower l e (first_temporary l)).value) ∷ [])
-      tt
+      tt (lvalue_thrown_fares a v e (Some names) c fare).at
       (λ at w s f stands reach slot made unbuilt empty.
       let x = names_addressed l own b.kinds v at c w s (result_slot l) (omega arith) fit reach stands names int_type named in
       let is_int = shaped_type l.program int_type (part_of w (lvalue l.program w v names)) (refers_shaped w stands.memory x.refers) in
@@ -90,13 +92,13 @@ module _ (laws : CaughtListFollows) (l : Lowering) (own : Option ℕ) (gives : B
       (sym is_int) (int_builds e can at w s f stands reach slot made unbuilt empty))
   part_case e names (class_type k) is named can =
       throws_alike laws l own gives calls b v c same n i d (class_type k) (source_lvalue_thrown a v e (Some names) c) (copied l k (thrown_place l) (place_of l names) ∷ [])
-      (class_there l.program k (copy_constructor l.program k) can.1)
+      (class_there l.program k (copy_constructor l.program k) can.1) (lvalue_thrown_fares a v e (Some names) c fare).at
       (λ at w s f stands reach slot made unbuilt empty.
       let x = names_addressed l own b.kinds v at c w s (result_slot l) (omega arith) fit reach stands names (class_type k) named in
       let is_class = shaped_type l.program (class_type k) (part_of w (lvalue l.program w v names)) (refers_shaped w stands.memory x.refers) in
       subst (λ u. Alike l.layout l.program at (first_temporary l) c w s (IsBuilt f (class_type k)) (source_part_thrown a v e (lvalue l.program w v names) u c w)
       (regions b (regions_from (copied l k (thrown_place l) (place_of l names) ∷ [])) (context_of w.open_calls c) s))
-      (sym is_class) (copy_built l own calls b v c fit same builtins at w s f stands reach slot made empty k (class_there l.program k (copy_constructor l.program k) can.1) bar names named can.1))
+      (sym is_class) (copy_built l own calls b v c fit same builtins at w s f stands reach slot made empty k (class_there l.program k (copy_constructor l.program k) can.1) (faring_calls_are_barred a fare) names named can.1))
 
   lvalue_case : (e : Expression) (names : Option (List Name)) → LvalueCanBeThrown l own v.variables e names
       → DoesAlike l own gives b v c n i d (throw_new a c (source_lvalue_thrown a v e names c)) (lvalue_thrown l e names)
@@ -137,5 +139,5 @@ module _ (laws : CaughtListFollows) (l : Lowering) (own : Option ℕ) (gives : B
   throwing_case (Some e) can = operand_case e can
 
 pub operands_throw_alike : CaughtListFollows → OperandsThrowAlike
-operands_throw_alike laws l own gives call b v c same fit bar leaves n i d e can =
-    throwing_case laws l own gives call b v c same fit bar leaves n i d e can
+operands_throw_alike laws l own gives call b v c same fit fare leaves n i d e can =
+    throwing_case laws l own gives call b v c same fit fare leaves n i d e can

@@ -18,7 +18,8 @@ use Rattle.region_forms.specs.World.{address_word, object_address}
 use Rattle.region_forms.specs.Effect.{entered}
 use Rattle.region_forms.specs.Outcome.{State, Flow, normal, continued}
 use Rattle.region_forms.specs.Ending.{Running}
-use Rattle.region_forms.specs.Meaning.{outwards, followed, region, regions}
+use Rattle.region_forms.specs.Meaning.{outwards, followed}
+use Rattle.linear_simulation.specs.Watched.{watched as region, watched_all as regions}
 use Rattle.region_forms.specs.LowerExpression.{Lowering, exception_slot}
 use Rattle.region_forms.specs.LowerStatement.{variable_slot}
 use Rattle.region_simulation.specs.Places.{Places}
@@ -28,8 +29,9 @@ use Rattle.region_simulation.specs.Flows.{FlowAgrees, InScope, DoesAlike}
 use Rattle.region_simulation.proofs.Following.{alike_less}
 use Rattle.region_simulation.proofs.Flowing.{alike_after, outwards_agrees}
 use Rattle.region_simulation.proofs.Joining.{joined}
+use Rattle.throw_simulation.specs.Fares.{CallsFare}
 use Rattle.throw_simulation.specs.Same.{RunAlike}
-use Rattle.throw_simulation.specs.Barred.{CallsAreBarred, StaysInside}
+use Rattle.throw_simulation.specs.Barred.{StaysInside}
 use Rattle.throw_simulation.specs.Handlers.{CanBeEntered, EmptyDestructor}
 use Rattle.throw_simulation.proofs.Barriers.{inside_then}
 use Rattle.throw_simulation.proofs.Handling.{entry_stands, handled_from}
@@ -59,7 +61,7 @@ not_destroyed a (Some (ObjectRef k n)) r h = refl
 not_destroyed a (Some (Object n)) r h = absurd h
 
 module _ (laws : CaughtListFollows) (l : Lowering) (own : Option ℕ) (gives : Bool) (n i d : ℕ) (lt : i < d) (call : Callee → Reference → List SourceArgument → SourceContext → SourceAction ℤ) (b : Running)
-    (same : RunAlike l.layout (source_running l call) b) (bar : CallsAreBarred (source_running l call)) (empty : EmptyDestructor l.layout (source_running l call) b)
+    (same : RunAlike l.layout (source_running l call) b) (fare : CallsFare (source_running l call)) (empty : EmptyDestructor l.layout (source_running l call) b)
     (v : SourceFrame) (c : SourceContext) (e : ℕ)
     (fresh : CanBeEntered c e) (t : Option Ty) (x : Option Name) (body : SourceFrame → SourceContext → SourceAction SourceFlow) where
   abbrev k : ℕ
@@ -100,7 +102,7 @@ module _ (laws : CaughtListFollows) (l : Lowering) (own : Option ℕ) (gives : B
       (λ r flow w2 s2 h (fl, slot, does).
       subst (λ f. Alike l.layout a.program h.places k c w2 s2 (FlowAgrees l gives i d) (next r w2) (followed (regions b (regions_from behind) ctx) f s2)) (sym fl)
       (subst (λ m. Alike l.layout a.program h.places k c w2 s2 (FlowAgrees l gives i d) (next r w2) (regions b (regions_from behind) (context_of m c) s2)) h.open_calls
-      (handled_from laws l gives i d lt a b same bar empty h.places k c w2 s2 e h.stands fresh (in_handler r) inner does slot)))))
+      (handled_from laws l gives i d lt a b same fare empty h.places k c w2 s2 e h.stands fresh (in_handler r) inner does slot)))))
 
   -- the body of a handler whose parameter needs no destruction
   pub body_alike : (at : Places) (w : SourceWorld) (s : State) (r : Reference) (m : ℕ) (rs : List Region) → IsNoObject t → n ≤ m → Stands l.layout a.program at (with_travelling e c) w s
@@ -111,7 +113,7 @@ module _ (laws : CaughtListFollows) (l : Lowering) (own : Option ℕ) (gives : B
       let w2 = record w { items = w.items ++ Enter e ∷ [] } in
       let s2 = record s { world = entered e s.world } in
       let ctx = context_of w.open_calls c in
-      let standing = entry_stands laws l gives i d lt a b same bar empty at k c w s e stands fresh (in_handler r) rs in
+      let standing = entry_stands laws l gives i d lt a b same fare empty at k c w s e stands fresh (in_handler r) rs in
       let inside : InScope l own m at (with_parameter x r v) s2 =
       record { reach = scope.reach; before = scope.before; free = scope.free; there = scope.there; running = scope.running } in
       let more : d + 2 ≡ d + 1 + 1 = omega arith in

@@ -15,7 +15,8 @@ use Rattle.region_forms.specs.Layout.{Layout}
 use Rattle.region_forms.specs.Effect.{rethrown}
 use Rattle.region_forms.specs.Outcome.{State, Context, Flow, normal, Result, continued, pure}
 use Rattle.region_forms.specs.Ending.{Running, perform, terminate, raise}
-use Rattle.region_forms.specs.Meaning.{followed, regions}
+use Rattle.region_forms.specs.Meaning.{followed}
+use Rattle.linear_simulation.specs.Watched.{watched_all as regions}
 use Rattle.region_forms.specs.LowerStatement.{variable_slot}
 use Rattle.region_simulation.specs.Places.{Places}
 use Rattle.region_simulation.specs.Stands.{AreTogether, Stands, context_of}

@@ -24,7 +24,8 @@ use Rattle.region_forms.specs.World.{type_at}
 use Rattle.region_forms.specs.Effect.{enters, entered}
 use Rattle.region_forms.specs.Outcome.{State, Context, Result, stopped, stop}
 use Rattle.region_forms.specs.Ending.{Running, bad_row, terminate_with, raise, perform}
-use Rattle.region_forms.specs.Unexpected.{kept_with, throw_bad, pass_on, while_handled, after_unexpected, run_unexpected_handler, unexpected, after_limit}
+use Rattle.linear_simulation.specs.Watched.{same_type, terminate_for, watched_handled, watched_pass, watched_after, watched_handler, watched_unexpected, watched_limit}
+use Rattle.region_forms.specs.Unexpected.{kept_with, throw_bad}
 use Rattle.region_simulation.specs.Places.{Places}
 use Rattle.region_simulation.specs.Stands.{exception_of, AreHandlers, IsHandler, Stands, context_of}
 use Rattle.region_simulation.specs.Alike.{Alike}
@@ -33,9 +34,8 @@ use Rattle.region_simulation.proofs.Following.{Agreement, alike_on}
 use Rattle.throw_simulation.specs.Same.{RunAlike}
 use Rattle.throw_simulation.specs.Ends.{EndsAlike}
 use Rattle.throw_simulation.specs.Raises.{CanBeRaised}
-use Rattle.throw_simulation.specs.Barred.{CallsAreBarred}
 use Rattle.throw_simulation.specs.Scopes.{Any}
-use Rattle.throw_simulation.specs.Fares.{Fares, CallsFare}
+use Rattle.throw_simulation.specs.Fares.{IsOrderly, GoesOn, Fares, CallsFare}
 use Rattle.throw_simulation.specs.Handlers.{EmptyDestructor}
 use Rattle.throw_simulation.specs.Extents.{EmptyConstructor}
 use Rattle.throw_simulation.proofs.Standing.{stands_guarded, stands_outside, follows_changed}
@@ -46,8 +46,10 @@ use Rattle.throw_simulation.proofs.Ends.{ends_out, terminates_with as terminates
 use Rattle.throw_simulation.proofs.Raises.{native_in, exception_same, type_same, raises as raises_out}
 use Rattle.throw_simulation.proofs.Scopes.{IsSteady}
 use Rattle.throw_simulation.proofs.Entering.{entered_stands, enters_out}
-use Rattle.throw_simulation.proofs.LettingGo.{handler_ends}
-use Rattle.throw_simulation.proofs.FaringScopes.{contains_first}
+use Rattle.throw_simulation.proofs.LettingGo.{handler_watched}
+use Rattle.throw_simulation.proofs.Keeping.{same_itself}
+use Rattle.throw_simulation.proofs.FaringHandlers.{entry_fares}
+use Rattle.throw_simulation.proofs.FaringScopes.{contains_first, contains_more}
 use Rattle.throw_simulation.proofs.Faring.{orderly_sound}
 use Rattle.throw_simulation.proofs.BadExceptions.{bad_out}
 
@@ -81,7 +83,7 @@ kept_handlers l p at c w s stands e = go (source_exception_at w e) refl
     go (source_native t o kept) is = let (i, there) = native_in w.live e o t kept is in (stands.kept i e o t kept there).handlers
     go (source_foreign k t) is = (tt, tt)
 
-module _ (laws : CaughtListFollows) (l : Layout) (a : SourceRunning) (b : Running) (same : RunAlike l a b) (fare : CallsFare a) (bar : CallsAreBarred a) (empty : EmptyDestructor l a b)
+module _ (laws : CaughtListFollows) (l : Layout) (a : SourceRunning) (b : Running) (same : RunAlike l a b) (fare : CallsFare a) (empty : EmptyDestructor l a b)
     (makes : EmptyConstructor l a b) {A B : Type 0} (agree : Agreement A B) (m : ℕ) (steady : IsSteady agree m) (types : List ObjectType) where
   abbrev numbers : List ℕ
   numbers = map type_number types
@@ -92,84 +94,114 @@ module _ (laws : CaughtListFollows) (l : Layout) (a : SourceRunning) (b : Runnin
       ap (λ rows. allows rows numbers (type_at s.world e)) same.types ∙ ap (allows (type_rows a.program) numbers) (type_same l a.program at c w s stands e) ∙
       (doomed_alike a.program same.ordered (source_type_at w e)).allowed types
 
+  -- terminate is called with the handler kept with an exception, which stays
+  for_same : (C : Type 0) (at : Places) (c : SourceContext) (w : SourceWorld) (s : State) (e : ℕ) (kept : Installed) → Stands l a.program at c w s → source_kept_with (source_exception_at w e) ≡ kept
+      → (ctx : Context) → terminate_for {A = C} b e kept.terminate_handler ctx s ≡ terminate_with b kept.terminate_handler ctx s
+  for_same C at c w s e kept stands keeps ctx =
+      ap (λ z. (if z then terminate_with {A = C} b kept.terminate_handler ctx else stop deep) s)
+      (ap (λ x. same_type kept.terminate_handler x.terminate_handler) (ap kept_with (exception_same l a.program at c w s stands e) ∙ kept_same a.program (source_exception_at w e) ∙ keeps) ∙
+      same_itself kept.terminate_handler)
+
+  -- what is known where it goes on
+  goes_alike : (at : Places) (k n : ℕ) (c d : SourceContext) (w : SourceWorld) (s : State) (x : SourceResult (Unit {0})) (y : Result (Unit {0})) → Alike l a.program at k d w s Any x y
+      → Fares a.program n c w x → Alike l a.program at k d w s (λ u v w2 at2 s2. GoesOn c w w2) x y
+  goes_alike at k n c d w s (source_done u w2) y (v, s2, is, (h, z)) fares = (v, s2, is, (h, fares))
+  goes_alike at k n c d w s (source_stopped (thrown f) w2) y h fares = h
+  goes_alike at k n c d w s (source_stopped (cancelled q) w2) y h fares = h
+  goes_alike at k n c d w s (source_stopped undefined w2) y h fares = tt
+  goes_alike at k n c d w s (source_stopped (ended q) w2) y h fares = h
+  goes_alike at k n c d w s (source_stopped out_of_turns w2) y h fares = h
+  goes_alike at k n c d w s (source_stopped deep w2) y h fares = h
+
   -- an exception out of the unexpected handler is passed on
-  pass_out : (kept : Installed) → AreHandlers a.program kept → (at : Places) (k : ℕ) (d : SourceContext) (w : SourceWorld) (s : State) (f : ℕ) → Stands l a.program at d w s
-      → CanBeRaised d w f → Alike l a.program at k d w s agree (source_pass_on a types kept f d w) (pass_on b numbers kept f (context_of w.open_calls d) s)
-  pass_out kept handlers at k d w s f stands can =
+  pass_out : (e : ℕ) (kept : Installed) → AreHandlers a.program kept → (at : Places) (k : ℕ) (d : SourceContext) (w : SourceWorld) (s : State) (f : ℕ) → Stands l a.program at d w s
+      → source_kept_with (source_exception_at w e) ≡ kept → CanBeRaised d w f → Alike l a.program at k d w s agree (source_pass_on a types kept f d w) (watched_pass b numbers e kept.terminate_handler f (context_of w.open_calls d) s)
+  pass_out e kept handlers at k d w s f stands keeps can =
       let ctx = context_of w.open_calls d in
       subst (λ z. Alike l a.program at k d w s agree (source_pass_on a types kept f d w)
-      ((if z then raise b f ctx else if contains numbers bad_row then throw_bad b ctx else terminate_with b kept.terminate_handler ctx) s)) (sym (allowed_same at d w s stands f))
+      ((if z then raise b f ctx else if contains numbers bad_row then throw_bad b ctx else terminate_for b e kept.terminate_handler ctx) s)) (sym (allowed_same at d w s stands f))
       (subst (λ z. Alike l a.program at k d w s agree (source_pass_on a types kept f d w)
-      ((if source_allows a.program types (source_type_at w f) then raise b f ctx else if z then throw_bad b ctx else terminate_with b kept.terminate_handler ctx) s)) (sym (bad_listed types))
+      ((if source_allows a.program types (source_type_at w f) then raise b f ctx else if z then throw_bad b ctx else terminate_for b e kept.terminate_handler ctx) s)) (sym (bad_listed types))
       (go (source_allows a.program types (source_type_at w f)) (some_of is_bad_exception types)))
     where
       go : (y z : Bool) → Alike l a.program at k d w s agree
           ((if y then raise_exception {A = A} a f d else if z then throw_new a d (new_bad_exception a d) else source_terminate_with a kept.terminate_handler d) w)
           ((if y then raise {A = B} b f (context_of w.open_calls d) else
-          if z then throw_bad b (context_of w.open_calls d) else terminate_with b kept.terminate_handler (context_of w.open_calls d)) s)
+          if z then throw_bad b (context_of w.open_calls d) else terminate_for b e kept.terminate_handler (context_of w.open_calls d)) s)
       go true z = raises_out l a b same laws A B at d w s stands f can agree k
       go false true = bad_out laws l a b same makes agree at k d w s stands
       go false false =
-          ends_out l a b same agree at k d w s (source_terminate_with a kept.terminate_handler d w) (terminate_with b kept.terminate_handler (context_of w.open_calls d) s)
-          (terminates_out l a b same A B at d w s stands kept.terminate_handler handlers.0)
+          subst (Alike l a.program at k d w s agree (source_terminate_with a kept.terminate_handler d w)) (sym (for_same B at d w s e kept stands keeps (context_of w.open_calls d)))
+          (ends_out l a b same agree at k d w s (source_terminate_with a kept.terminate_handler d w) (terminate_with b kept.terminate_handler (context_of w.open_calls d) s)
+          (terminates_out l a b same A B at d w s stands kept.terminate_handler handlers.0))
 
-  module _ (kept : Installed) (handlers : AreHandlers a.program kept) (c : SourceContext) where
+  module _ (e : ℕ) (kept : Installed) (handlers : AreHandlers a.program kept) (c : SourceContext) (held : contains c.handled e ≡ true) where
     abbrev stop_all : SourceGuard
     stop_all = try_block (catch_all ∷ [])
 
     abbrev inside : SourceContext
     inside = guarded_by stop_all c
 
+    keeps_on : (w w2 : SourceWorld) → GoesOn c w w2 → source_kept_with (source_exception_at w e) ≡ kept → source_kept_with (source_exception_at w2 e) ≡ kept
+    keeps_on w w2 g keeps = ap source_kept_with (g.held e held) ∙ keeps
+
     -- an exception that came out of it is entered, passed on and left
-    entered_out : (at : Places) (k : ℕ) (w : SourceWorld) (s : State) (f : ℕ) → Stands l a.program at (with_travelling f c) w s → contains c.travelling f ≡ false → only_front f c.handled ≡ true
+    entered_out : (at : Places) (k : ℕ) (w : SourceWorld) (s : State) (f : ℕ) → Stands l a.program at (with_travelling f c) w s → contains c.travelling f ≡ false → only_front f c.handled ≡ true → source_kept_with (source_exception_at w e) ≡ kept
         → Alike l a.program at k c w s agree (source_after_unexpected a types kept c (source_stopped (thrown f) w))
-        (after_unexpected b numbers kept (context_of w.open_calls c) (stopped (thrown f) s))
-    entered_out at k w s f stands rests front =
+        (watched_after b numbers e kept.terminate_handler (context_of w.open_calls c) (stopped (thrown f) s))
+    entered_out at k w s f stands rests front keeps =
         let (within_ends, enters_same) = enters_out l a b same at k c w s f stands rests front laws in
-        inside_then l a.program Any agree at k (handling f c) c w s (source_enter a f c w) (perform b (enters f s.frame s.world) (context_of w.open_calls c) s)
-        (λ u. source_while_handled a f c (source_pass_on a types kept f)) (λ u. while_handled b (context_of w.open_calls c) (pass_on b numbers kept f (context_of w.open_calls c))) within_ends enters_same
-        (λ u v w3 s3 h z.
+        let sound = stands.sound in
+        let order : IsOrderly c w =
+        record { handled = sound.handled; travelling = λ g is. sound.travelling g (contains_more f g c.travelling is); live = sound.live; together = sound.together } in
+        inside_then l a.program (λ u v w2 at2 s2. GoesOn c w w2) agree at k (handling f c) c w s (source_enter a f c w) (perform b (enters f s.frame s.world) (context_of w.open_calls c) s)
+        (λ u. source_while_handled a f c (source_pass_on a types kept f)) (λ u. watched_handled b (context_of w.open_calls c) (watched_pass b numbers e kept.terminate_handler f (context_of w.open_calls c))) within_ends
+        (goes_alike at k 0 c (handling f c) w s (source_enter a f c w) (perform b (enters f s.frame s.world) (context_of w.open_calls c) s) enters_same (entry_fares a fare 0 c w f order))
+        (λ u v w3 s3 h g.
         let can : CanBeRaised (handling f c) w3 f = record {
           made = h.stands.sound.handled f (contains_first f c.handled);
           rests = rests;
           front = front_newest f c.handled h.stands.sound.together.0;
         } in
         subst (λ n. Alike l a.program h.places k c w3 s3 agree (source_while_handled a f c (source_pass_on a types kept f) w3)
-        (while_handled b (context_of n c) (pass_on b numbers kept f (context_of n c)) s3)) h.open_calls
-        (handler_ends l a b same empty laws bar agree m steady h.places k c w3 s3 f h.stands rests (source_pass_on a types kept f (handling f c) w3)
-        (pass_on b numbers kept f (context_of w3.open_calls c) s3) (pass_out kept handlers h.places k (handling f c) w3 s3 f h.stands can)))
+        (watched_handled b (context_of n c) (watched_pass b numbers e kept.terminate_handler f (context_of n c)) s3)) h.open_calls
+        (handler_watched l a b same empty laws fare agree m steady h.places k c w3 s3 f h.stands rests (source_pass_on a types kept f (handling f c) w3)
+        (watched_pass b numbers e kept.terminate_handler f (context_of w3.open_calls c) s3) (pass_out e kept handlers h.places k (handling f c) w3 s3 f h.stands (keeps_on w w3 g keeps) can)))
 
-    module _ (at : Places) (k : ℕ) (w : SourceWorld) (s : State) where
+    module _ (at : Places) (k : ℕ) (w : SourceWorld) (s : State) (keeps : source_kept_with (source_exception_at w e) ≡ kept) where
       abbrev ctx : Context
       ctx = context_of w.open_calls c
 
       after_out : (n : ℕ) (answers : Agreement ℤ ℤ) (x : SourceResult ℤ) (y : Result ℤ) → Alike l a.program at k inside w s answers x y → Fares a.program n inside w x
-          → Alike l a.program at k c w s agree (source_after_unexpected a types kept c x) (after_unexpected b numbers kept ctx y)
+          → Alike l a.program at k c w s agree (source_after_unexpected a types kept c x) (watched_after b numbers e kept.terminate_handler ctx y)
       after_out n answers (source_done u w2) y (v, s2, is, (h, z)) fares =
           let g = follows_outside l a.program stop_all at k w s c w2 s2 h in
-          ends_out l a b same agree at k c w s (source_terminate_with a kept.terminate_handler c w2) (after_unexpected b numbers kept ctx y)
-          (subst (λ r. EndsAlike {A = A} {B = B} (source_terminate_with a kept.terminate_handler c w2) (after_unexpected b numbers kept ctx r)) (sym is)
-          (subst (λ q. EndsAlike {A = A} {B = B} (source_terminate_with a kept.terminate_handler c w2) (terminate_with b kept.terminate_handler (context_of q c) s2)) h.open_calls
-          (terminates_out l a b same A B h.places c w2 s2 g.stands kept.terminate_handler handlers.0)))
+          ends_out l a b same agree at k c w s (source_terminate_with a kept.terminate_handler c w2) (watched_after b numbers e kept.terminate_handler ctx y)
+          (subst (λ r. EndsAlike {A = A} {B = B} (source_terminate_with a kept.terminate_handler c w2) (watched_after b numbers e kept.terminate_handler ctx r)) (sym is)
+          (subst (λ q. EndsAlike {A = A} {B = B} (source_terminate_with a kept.terminate_handler c w2) (terminate_for b e kept.terminate_handler (context_of q c) s2)) h.open_calls
+          (subst (EndsAlike {A = A} {B = B} (source_terminate_with a kept.terminate_handler c w2))
+          (sym (for_same B h.places c w2 s2 e kept g.stands (ap source_kept_with (fares.held e held) ∙ keeps) (context_of w2.open_calls c)))
+          (terminates_out l a b same A B h.places c w2 s2 g.stands kept.terminate_handler handlers.0))))
       after_out n answers (source_stopped (thrown f) w2) y (s2, is, h) fares =
           let standing = stands_outside l a.program h.places stop_all (with_travelling f c) w2 s2 h.stands in
           let x = source_after_unexpected {A = A} a types kept c (source_stopped (thrown f) w2) in
-          subst (λ r. Alike l a.program at k c w s agree x (after_unexpected b numbers kept ctx r)) (sym is)
-          (alike_on l a.program agree at k c (with_travelling f inside) w s w2 s2 h x (after_unexpected b numbers kept ctx (stopped (thrown f) s2))
-          (subst (λ q. Alike l a.program h.places k c w2 s2 agree x (after_unexpected b numbers kept (context_of q c) (stopped (thrown f) s2))) h.open_calls
-          (entered_out h.places k w2 s2 f standing fares.1.raised.rests fares.1.raised.front)))
+          subst (λ r. Alike l a.program at k c w s agree x (watched_after b numbers e kept.terminate_handler ctx r)) (sym is)
+          (alike_on l a.program agree at k c (with_travelling f inside) w s w2 s2 h x (watched_after b numbers e kept.terminate_handler ctx (stopped (thrown f) s2))
+          (subst (λ q. Alike l a.program h.places k c w2 s2 agree x (watched_after b numbers e kept.terminate_handler (context_of q c) (stopped (thrown f) s2))) h.open_calls
+          (entered_out h.places k w2 s2 f standing fares.1.raised.rests fares.1.raised.front (ap source_kept_with (fares.0.held e held) ∙ keeps))))
       after_out n answers (source_stopped (cancelled q) w2) y (s2, is, h) fares =
-          (s2, ap (after_unexpected b numbers kept ctx) is, follows_outside l a.program stop_all at k w s c w2 s2 h)
+          (s2, ap (watched_after b numbers e kept.terminate_handler ctx) is, follows_outside l a.program stop_all at k w s c w2 s2 h)
       after_out n answers (source_stopped undefined w2) y h fares = tt
-      after_out n answers (source_stopped (ended q) w2) y (s2, is, h) fares = (s2, ap (after_unexpected b numbers kept ctx) is, h)
-      after_out n answers (source_stopped out_of_turns w2) y (s2, is, h) fares = (s2, ap (after_unexpected b numbers kept ctx) is, h)
-      after_out n answers (source_stopped deep w2) y (s2, is, h) fares = (s2, ap (after_unexpected b numbers kept ctx) is, h)
+      after_out n answers (source_stopped (ended q) w2) y (s2, is, h) fares = (s2, ap (watched_after b numbers e kept.terminate_handler ctx) is, h)
+      after_out n answers (source_stopped out_of_turns w2) y (s2, is, h) fares = (s2, ap (watched_after b numbers e kept.terminate_handler ctx) is, h)
+      after_out n answers (source_stopped deep w2) y (s2, is, h) fares = (s2, ap (watched_after b numbers e kept.terminate_handler ctx) is, h)
 
       run_out : Stands l a.program at c w s → (h : Option ℕ) → IsHandler a.program h
-          → Alike l a.program at k c w s agree (source_run_unexpected a types kept h c w) (run_unexpected_handler b numbers kept h ctx s)
+          → Alike l a.program at k c w s agree (source_run_unexpected a types kept h c w) (watched_handler b numbers e kept.terminate_handler h ctx s)
       run_out stands None is =
-          ends_out l a b same agree at k c w s (source_terminate_with a kept.terminate_handler c w) (terminate_with b kept.terminate_handler ctx s)
-          (terminates_out l a b same A B at c w s stands kept.terminate_handler handlers.0)
+          subst (Alike l a.program at k c w s agree (source_terminate_with a kept.terminate_handler c w)) (sym (for_same B at c w s e kept stands keeps ctx))
+          (ends_out l a b same agree at k c w s (source_terminate_with a kept.terminate_handler c w) (terminate_with b kept.terminate_handler ctx s)
+          (terminates_out l a b same A B at c w s stands kept.terminate_handler handlers.0))
       run_out stands (Some n) is =
           let standing = stands_guarded l a.program at stop_all c w s stands in
           after_out 0 (λ x y w2 at2 s2. x ≡ y) (a.call (function n) nowhere [] inside w) (b.call n [] (context_of w.open_calls inside) s)
@@ -179,18 +211,18 @@ module _ (laws : CaughtListFollows) (l : Layout) (a : SourceRunning) (b : Runnin
   module _ (c : SourceContext) where
     unexpected_out : (at : Places) (k : ℕ) (w : SourceWorld) (s : State) (e : ℕ) → Stands l a.program at (with_travelling e c) w s → contains c.travelling e ≡ false → only_front e c.handled ≡ true
         → source_is_foreign (source_exception_at w e) ≡ false
-        → Alike l a.program at k c w s agree (source_unexpected a types e c w) (unexpected b numbers e (context_of w.open_calls c) s)
+        → Alike l a.program at k c w s agree (source_unexpected a types e c w) (watched_unexpected b numbers e (context_of w.open_calls c) s)
     unexpected_out at k w s e stands rests front native =
         subst (λ z. Alike l a.program at k c w s agree
         (source_continued ((if z && some_of (λ f. not (f == e)) c.handled then source_terminate a (with_travelling e c) else emit (Enter e)) w)
         (λ u w2. source_while_handled a e c (source_run_unexpected a types (source_kept_with (source_exception_at w2 e)) (source_kept_with (source_exception_at w2 e)).unexpected_handler) w2))
-        (unexpected b numbers e (context_of w.open_calls c) s)) (sym native)
-        (subst (λ q. Alike l a.program at k c w s agree handled (while_handled b ctx (run_unexpected_handler b numbers q q.unexpected_handler ctx) s1))
+        (watched_unexpected b numbers e (context_of w.open_calls c) s)) (sym native)
+        (subst (λ q. Alike l a.program at k c w s agree handled (watched_handled b ctx (watched_handler b numbers e q.terminate_handler q.unexpected_handler ctx) s1))
         (sym (ap kept_with (exception_same l a.program at (with_travelling e c) w s stands e) ∙ kept_same a.program (source_exception_at w e)))
-        (alike_on l a.program agree at k c (handling e c) w s w1 s1 (follows_changed l a.program at k (handling e c) w w1 s s1.world refl refl refl stands1) handled (while_handled b ctx (run_unexpected_handler b numbers kept kept.unexpected_handler ctx) s1)
-        (handler_ends l a b same empty laws bar agree m steady at k c w1 s1 e stands1 rests (source_run_unexpected a types kept kept.unexpected_handler (handling e c) w1)
-        (run_unexpected_handler b numbers kept kept.unexpected_handler ctx s1)
-        (run_out kept handlers (handling e c) at k w1 s1 stands1 kept.unexpected_handler handlers.1))))
+        (alike_on l a.program agree at k c (handling e c) w s w1 s1 (follows_changed l a.program at k (handling e c) w w1 s s1.world refl refl refl stands1) handled (watched_handled b ctx (watched_handler b numbers e kept.terminate_handler kept.unexpected_handler ctx) s1)
+        (handler_watched l a b same empty laws fare agree m steady at k c w1 s1 e stands1 rests (source_run_unexpected a types kept kept.unexpected_handler (handling e c) w1)
+        (watched_handler b numbers e kept.terminate_handler kept.unexpected_handler ctx s1)
+        (run_out e kept handlers (handling e c) (contains_first e c.handled) at k w1 s1 refl stands1 kept.unexpected_handler handlers.1))))
       where
         ctx : Context
         ctx = context_of w.open_calls c
@@ -216,31 +248,31 @@ module _ (laws : CaughtListFollows) (l : Layout) (a : SourceRunning) (b : Runnin
     -- however what is under a specification comes out
     pub extent_out : (at : Places) (k : ℕ) (w : SourceWorld) (s : State) (n : ℕ) (x : SourceResult A) (y : Result B) → Alike l a.program at k (guarded_by (specification types) c) w s agree x y
         → Fares a.program n (guarded_by (specification types) c) w x
-        → Alike l a.program at k c w s agree (after_extent a types c x) (after_limit b numbers (context_of w.open_calls c) y)
+        → Alike l a.program at k c w s agree (after_extent a types c x) (watched_limit b numbers (context_of w.open_calls c) y)
     extent_out at k w s n (source_done u w2) y (v, s2, is, (h, z)) fares =
-        (v, s2, ap (after_limit b numbers (context_of w.open_calls c)) is, (follows_outside l a.program (specification types) at k w s c w2 s2 h, z))
+        (v, s2, ap (watched_limit b numbers (context_of w.open_calls c)) is, (follows_outside l a.program (specification types) at k w s c w2 s2 h, z))
     extent_out at k w s n (source_stopped (thrown e) w2) y (s2, is, h) fares =
         let inside = guarded_by (specification types) c in
         let standing = stands_outside l a.program h.places (specification types) (with_travelling e c) w2 s2 h.stands in
         let x = after_extent {A = A} a types c (source_stopped (thrown e) w2) in
-        subst (λ r. Alike l a.program at k c w s agree x (after_limit b numbers (context_of w.open_calls c) r)) (sym is)
-        (subst (λ z. Alike l a.program at k c w s agree x ((if z then stop (thrown e) else unexpected b numbers e (context_of w.open_calls c)) s2))
+        subst (λ r. Alike l a.program at k c w s agree x (watched_limit b numbers (context_of w.open_calls c) r)) (sym is)
+        (subst (λ z. Alike l a.program at k c w s agree x ((if z then stop (thrown e) else watched_unexpected b numbers e (context_of w.open_calls c)) s2))
         (sym (allowed_same h.places (with_travelling e inside) w2 s2 h.stands e)) (go standing (source_allows a.program types (source_type_at w2 e)) refl))
       where
         go : Stands l a.program h.places (with_travelling e c) w2 s2 → (z : Bool) → source_allows a.program types (source_type_at w2 e) ≡ z
             → Alike l a.program at k c w s agree ((if z then source_stop (thrown e) else source_unexpected a types e c) w2)
-            ((if z then stop (thrown e) else unexpected b numbers e (context_of w.open_calls c)) s2)
+            ((if z then stop (thrown e) else watched_unexpected b numbers e (context_of w.open_calls c)) s2)
         go standing true said = (s2, refl, follows_outside l a.program (specification types) at k w s (with_travelling e c) w2 s2 h)
         go standing false said =
             let t = source_type_at w2 e in
             let safe = subst (λ z. source_dooms t (cond (not z) (Some (specification types)) (find (source_stops a.program t) c.guards)) ≡ false) said fares.1.safe in
             let x = source_unexpected {A = A} a types e c w2 in
-            alike_on l a.program agree at k c (with_travelling e (guarded_by (specification types) c)) w s w2 s2 h x (unexpected b numbers e (context_of w.open_calls c) s2)
-            (subst (λ q. Alike l a.program h.places k c w2 s2 agree x (unexpected b numbers e (context_of q c) s2)) h.open_calls
+            alike_on l a.program agree at k c (with_travelling e (guarded_by (specification types) c)) w s w2 s2 h x (watched_unexpected b numbers e (context_of w.open_calls c) s2)
+            (subst (λ q. Alike l a.program h.places k c w2 s2 agree x (watched_unexpected b numbers e (context_of q c) s2)) h.open_calls
             (unexpected_out h.places k w2 s2 e standing fares.1.raised.rests fares.1.raised.front (typed_is_native (source_exception_at w2 e) safe)))
     extent_out at k w s n (source_stopped (cancelled q) w2) y (s2, is, h) fares =
-        (s2, ap (after_limit b numbers (context_of w.open_calls c)) is, follows_outside l a.program (specification types) at k w s c w2 s2 h)
+        (s2, ap (watched_limit b numbers (context_of w.open_calls c)) is, follows_outside l a.program (specification types) at k w s c w2 s2 h)
     extent_out at k w s n (source_stopped undefined w2) y h fares = tt
-    extent_out at k w s n (source_stopped (ended q) w2) y (s2, is, h) fares = (s2, ap (after_limit b numbers (context_of w.open_calls c)) is, h)
-    extent_out at k w s n (source_stopped out_of_turns w2) y (s2, is, h) fares = (s2, ap (after_limit b numbers (context_of w.open_calls c)) is, h)
-    extent_out at k w s n (source_stopped deep w2) y (s2, is, h) fares = (s2, ap (after_limit b numbers (context_of w.open_calls c)) is, h)
+    extent_out at k w s n (source_stopped (ended q) w2) y (s2, is, h) fares = (s2, ap (watched_limit b numbers (context_of w.open_calls c)) is, h)
+    extent_out at k w s n (source_stopped out_of_turns w2) y (s2, is, h) fares = (s2, ap (watched_limit b numbers (context_of w.open_calls c)) is, h)
+    extent_out at k w s n (source_stopped deep w2) y (s2, is, h) fares = (s2, ap (watched_limit b numbers (context_of w.open_calls c)) is, h)

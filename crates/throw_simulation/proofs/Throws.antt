@@ -1,9 +1,9 @@
 -- Objects are thrown alike.
-use Rattle.std.proofs.Common.{◌≡◌, ℕ, ◌+◌, ◌≤◌, ℤ, Bool, true, false, List, [], ◌∷◌, Option, Some, refl, sym, ap, ◌∙◌, subst, arith}
+use Rattle.std.proofs.Common.{◌≡◌, ℕ, ◌+◌, ◌≤◌, ℤ, Bool, true, false, List, [], ◌∷◌, Option, Some, refl, sym, ap, ap₂, ◌∙◌, subst, arith}
 use Rattle.std.specs.Prelude.{if◌then◌else◌}
 use Rattle.run_items.specs.declared.item.Item.TheVariants.{Make, Free}
 use Rattle.scope_rules.specs.Class.{ObjectType, contains}
-use Rattle.scope_rules.specs.World.{World as SourceWorld, Reference, building as source_building}
+use Rattle.scope_rules.specs.World.{World as SourceWorld, Reference, building as source_building, type_at as source_type_at}
 use Rattle.scope_rules.specs.Context.{Context as SourceContext, with_travelling}
 use Rattle.scope_rules.specs.Outcome.{Result as SourceResult, done as source_done, stopped as source_stopped, thrown, cancelled, ended, undefined, out_of_turns, deep, Action as SourceAction, continued as source_continued, ◌>>=◌, ◌>>◌}
 use Rattle.scope_rules.specs.Frame.{Frame as SourceFrame}
@@ -13,11 +13,12 @@ use Rattle.scope_rules.specs.Throw.{is_full as source_is_full, new_exception, af
 use Rattle.region_forms.specs.Form.{Region, op, throw as throw_op, protect, free_object, in_order, regions_from}
 use Rattle.region_forms.specs.Laws.{CaughtListFollows}
 use Rattle.region_forms.specs.Numbering.{type_number, destructor_of}
-use Rattle.region_forms.specs.World.{of_exception, address_word, object_address, exception_of, exception_in_slot, address_in, building, with_item, with_slot}
+use Rattle.region_forms.specs.World.{of_exception, type_at, address_word, object_address, exception_of, exception_in_slot, address_in, building, with_item, with_slot}
 use Rattle.region_forms.specs.Effect.{terminates, goes, with_new, freed, kept}
 use Rattle.region_forms.specs.Outcome.{State, Context, Flow, normal, Result, done, stopped, continued, pure}
 use Rattle.region_forms.specs.Ending.{Running, perform, terminate, raise}
-use Rattle.region_forms.specs.Meaning.{outwards, followed, after_building, regions}
+use Rattle.region_forms.specs.Meaning.{outwards, followed, after_building}
+use Rattle.linear_simulation.specs.Watched.{kept_on as watched_kept_on, same_type, still, watched_all as regions}
 use Rattle.region_forms.specs.LowerExpression.{Lowering, result_slot, exception_slot, first_temporary}
 use Rattle.region_forms.specs.LowerStatement.{variable_slot, thrown_as}
 use Rattle.region_simulation.specs.Places.{Places, Stood}
@@ -30,10 +31,16 @@ use Rattle.region_simulation.proofs.Following.{Agreement, follows_on, alike_less
 use Rattle.region_simulation.proofs.Storing.{same_number, other_number}
 use Rattle.throw_simulation.specs.Same.{RunAlike}
 use Rattle.throw_simulation.specs.Raises.{CanBeRaised, Never}
-use Rattle.throw_simulation.specs.Throws.{IsUnbuilt, IsBuilt, BuildsAlike, ThrowsAlike}
+use Rattle.throw_simulation.specs.Unbuilt.{IsUnbuilt}
+use Rattle.throw_simulation.specs.Throws.{IsBuilt, BuildsAlike, ThrowsAlike}
+use Rattle.throw_simulation.specs.Doomed.{numbered}
+use Rattle.throw_simulation.specs.Fares.{Fares, FaresIn}
+use Rattle.throw_simulation.proofs.Faring.{orderly_sound}
+use Rattle.throw_simulation.proofs.FaringThrows.{removed_type}
+use Rattle.throw_simulation.proofs.Keeping.{same_itself}
 use Rattle.throw_simulation.proofs.Standing.{stands_framed, follows_changed}
 use Rattle.throw_simulation.proofs.Ends.{ends_out, never_on, terminates as terminates_out}
-use Rattle.throw_simulation.proofs.Raises.{raises as raises_out}
+use Rattle.throw_simulation.proofs.Raises.{raises as raises_out, type_same}
 use Rattle.throw_simulation.proofs.New.{newly, new_number, new_unbuilt, full_same, new_on}
 use Rattle.throw_simulation.proofs.Caught.{front_unhandled}
 use Rattle.throw_simulation.proofs.Giving.{without, without_follows}
@@ -41,7 +48,8 @@ use Rattle.throw_simulation.proofs.Kept.{after_keeping, kept_on}
 
 -- what is done in the region that a freeing protects
 abbrev freeing : ℕ → Result Flow → Result Flow
-freeing x y = continued (after_building x (continued y (λ flow. pure (outwards flow)))) (λ flow. pure (outwards flow))
+freeing x y =
+    continued (watched_kept_on (continued y (λ flow. pure (outwards flow))) (after_building x (continued y (λ flow. pure (outwards flow))))) (λ flow. pure (outwards flow))
 
 module _ (l : Lowering) (call : Callee → Reference → List SourceArgument → SourceContext → SourceAction ℤ) (b : Running) (c : SourceContext)
     (same : RunAlike l.layout (source_running l call) b) (laws : CaughtListFollows) where
@@ -50,30 +58,36 @@ module _ (l : Lowering) (call : Callee → Reference → List SourceArgument →
 
   -- where building exits, the object is freed
   built_or_freed : (t : ObjectType) (e : ℕ) (at : Places) (w : SourceWorld) (s : State) (x : SourceResult ℕ) (y : Result Flow)
-      → s.frame.slots (exception_slot l) ≡ address_word (object_address e)
+      → s.frame.slots (exception_slot l) ≡ address_word (object_address e) → e ≤ w.last_number → IsUnbuilt e w → Fares l.program 0 c w x
       → Alike l.layout l.program at (first_temporary l) c w s (IsBuilt e t) x y
       → Alike l.layout l.program at (first_temporary l) c w s (IsBuilt e t) (source_after_building e x) (freeing (exception_slot l) y)
-  built_or_freed t e at w s (source_done o w2) y slot (flow, s2, is, (h, (fl, placed))) =
+  built_or_freed t e at w s (source_done o w2) y slot le unbuilt fares (flow, s2, is, (h, (fl, placed))) =
       (normal, s2, ap (freeing (exception_slot l)) is ∙ ap (λ f. done (outwards (outwards f)) s2) fl, (h, (refl, placed)))
-  built_or_freed t e at w s (source_stopped (thrown f) w2) y slot (s2, is, h) =
+  built_or_freed t e at w s (source_stopped (thrown f) w2) y slot le unbuilt fares (s2, is, h) =
       let d = with_travelling f c in
       let g = without_follows l.layout l.program h.places e (Free e) (first_temporary l) d w2 s2 h.stands in
+      let outwards_on : Flow → State → Result Flow = (λ flow. pure (outwards flow)) in
+      let same_kept : same_type (type_at s2.world f) (type_at (freed e s2.world) f) ≡ true =
+      ap₂ same_type (type_same l.layout l.program h.places d w2 s2 h.stands f)
+      (type_same l.layout l.program g.places d (without l.layout l.program h.places e (Free e) w2) (record s2 { world = freed e s2.world }) g.stands f ∙
+      ap numbered (removed_type w2 e f (Free e) (fares.0.unbuilt e le unbuilt))) ∙ same_itself (numbered (source_type_at w2 f)) in
       let address : exception_in_slot s2.frame (exception_slot l) ≡ e = ap (λ x. exception_of (address_in x)) (h.keeps.slots (exception_slot l) (omega arith) ∙ slot) in (
         record s2 { world = freed e s2.world },
-        ap (freeing (exception_slot l)) is ∙ ap (λ n. stopped (thrown f) (record s2 { world = freed n s2.world })) address,
+        ap (freeing (exception_slot l)) is ∙ ap (λ n. continued (still (same_type (type_at s2.world f) (type_at (freed n s2.world) f)) f (record s2 { world = freed n s2.world })) outwards_on) address ∙
+            ap (λ z. continued (still z f (record s2 { world = freed e s2.world })) outwards_on) same_kept,
         follows_on l.layout l.program at (first_temporary l) w s d w2 s2 d (without l.layout l.program h.places e (Free e) w2) _ h g,
       )
-  built_or_freed t e at w s (source_stopped (cancelled n) w2) y slot (s2, is, h) =
+  built_or_freed t e at w s (source_stopped (cancelled n) w2) y slot le unbuilt fares (s2, is, h) =
       let g = without_follows l.layout l.program h.places e (Free e) (first_temporary l) c w2 s2 h.stands in
       let address : exception_in_slot s2.frame (exception_slot l) ≡ e = ap (λ x. exception_of (address_in x)) (h.keeps.slots (exception_slot l) (omega arith) ∙ slot) in (
         record s2 { world = freed e s2.world },
         ap (freeing (exception_slot l)) is ∙ ap (λ q. stopped (cancelled n) (record s2 { world = freed q s2.world })) address,
         follows_on l.layout l.program at (first_temporary l) w s c w2 s2 c (without l.layout l.program h.places e (Free e) w2) _ h g,
       )
-  built_or_freed t e at w s (source_stopped undefined w2) y slot h = tt
-  built_or_freed t e at w s (source_stopped (ended x) w2) y slot (s2, is, h) = (s2, ap (freeing (exception_slot l)) is, h)
-  built_or_freed t e at w s (source_stopped out_of_turns w2) y slot (s2, is, h) = (s2, ap (freeing (exception_slot l)) is, h)
-  built_or_freed t e at w s (source_stopped deep w2) y slot (s2, is, h) = (s2, ap (freeing (exception_slot l)) is, h)
+  built_or_freed t e at w s (source_stopped undefined w2) y slot le unbuilt fares h = tt
+  built_or_freed t e at w s (source_stopped (ended x) w2) y slot le unbuilt fares (s2, is, h) = (s2, ap (freeing (exception_slot l)) is, h)
+  built_or_freed t e at w s (source_stopped out_of_turns w2) y slot le unbuilt fares (s2, is, h) = (s2, ap (freeing (exception_slot l)) is, h)
+  built_or_freed t e at w s (source_stopped deep w2) y slot le unbuilt fares (s2, is, h) = (s2, ap (freeing (exception_slot l)) is, h)
 
   -- an object that is built is kept and raised
   abbrev threw : ObjectType → Context → State → Result Flow
@@ -100,7 +114,7 @@ module _ (l : Lowering) (call : Callee → Reference → List SourceArgument →
       (raises_out l.layout a b same laws A (Unit {0}) at c w2 (after e) stands2 e can Never k))))
 
   -- an exception object is made, then built, kept and raised
-  module _ (own : Option ℕ) (v : SourceFrame) (t : ObjectType) (build : SourceAction ℕ) (rs : List Region) (known : IsOfProgram l.program t) (builds : BuildsAlike l own b v c t build rs)
+  module _ (own : Option ℕ) (v : SourceFrame) (t : ObjectType) (build : SourceAction ℕ) (rs : List Region) (known : IsOfProgram l.program t) (fares : FaresIn l.program c build) (builds : BuildsAlike l own b v c t build rs)
       {A : Type 0} (agree : Agreement A Flow) (k : ℕ) (low : k ≤ exception_slot l)
       (at : Places) (w : SourceWorld) (s : State) (stands : Stands l.layout l.program at c w s) (reach : Reaches l own at v s.frame) where
     abbrev ctx : Context
@@ -168,7 +182,7 @@ module _ (l : Lowering) (call : Callee → Reference → List SourceArgument →
         (source_continued (source_after_building e (build made)) (λ o. keep e o >> raise_exception a e c)) (regions b (regions_from rest) ctx s2) (omega (arith, low))
         (alike_then l.layout l.program (IsBuilt e t) agree at (first_temporary l) c made s2 (source_after_building e (build made))
         (freeing (exception_slot l) (regions b (regions_from rs) ctx s2)) (λ o. keep e o >> raise_exception a e c) (followed (threw t ctx))
-        (built_or_freed t e at made s2 (build made) (regions b (regions_from rs) ctx s2) slot built)
+        (built_or_freed t e at made s2 (build made) (regions b (regions_from rs) ctx s2) slot (omega arith) unbuilt (fares 0 made (omega arith) (orderly_sound c made made_stands.sound)) built)
         (λ o flow w3 s3 h (fl, placed).
         subst (λ f. Alike l.layout l.program h.places (first_temporary l) c w3 s3 agree ((keep e o >> raise_exception a e c) w3) (followed (threw t ctx) f s3)) (sym fl)
         (subst (λ n. Alike l.layout l.program h.places (first_temporary l) c w3 s3 agree ((keep e o >> raise_exception a e c) w3) (threw t (context_of n c) s3)) h.open_calls
@@ -199,6 +213,6 @@ module _ (l : Lowering) (call : Callee → Reference → List SourceArgument →
             (source_continued (source_after_building e (build made)) (λ o. keep e o >> raise_exception a e c)) (regions b (regions_from rest) ctx s2) building_on)
 
 pub throws_alike : CaughtListFollows → ThrowsAlike
-throws_alike laws l own gives call b v c same n i d t build rs known builds at w s stands scope =
+throws_alike laws l own gives call b v c same n i d t build rs known fares builds at w s stands scope =
     let there = scope.there in
-    thrown_out l call b c same laws own v t build rs known builds (FlowAgrees l gives i d) (variable_slot l n) (omega (arith, there)) at w s stands scope.reach
+    thrown_out l call b c same laws own v t build rs known fares builds (FlowAgrees l gives i d) (variable_slot l n) (omega (arith, there)) at w s stands scope.reach

@@ -10,7 +10,8 @@ use Rattle.region_forms.specs.Form.{Region, Clauses, catch, in_order, regions_fr
 use Rattle.region_forms.specs.Guard.{clauses as clauses_guard, types_of}
 use Rattle.region_forms.specs.Outcome.{State, Context, Flow, Result, continued, pure, guarded_by as region_guarded_by}
 use Rattle.region_forms.specs.Ending.{Running}
-use Rattle.region_forms.specs.Meaning.{outwards, after_try, caught, region, regions}
+use Rattle.region_forms.specs.Meaning.{outwards, after_try}
+use Rattle.linear_simulation.specs.Watched.{watched_caught as caught, watched as region, watched_all as regions}
 use Rattle.region_forms.specs.LowerExpression.{Lowering}
 use Rattle.region_forms.specs.LowerStatement.{variable_slot}
 use Rattle.region_simulation.specs.Places.{Places}

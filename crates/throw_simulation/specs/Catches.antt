@@ -17,7 +17,7 @@ use Rattle.region_simulation.specs.Reach.{KindsFit}
 use Rattle.region_simulation.specs.Flows.{DoesAlike}
 use Rattle.region_simulation.specs.Expressions.{source_running}
 use Rattle.region_simulation.specs.Statements.{AreTypedStatements, AreTypedHandlers}
-use Rattle.throw_simulation.specs.Barred.{CallsAreBarred}
+use Rattle.throw_simulation.specs.Fares.{CallsFare}
 use Rattle.throw_simulation.specs.Handlers.{EmptyDestructor}
 use Rattle.throw_simulation.specs.Throws.{InEachContext}
 use Rattle.throw_simulation.specs.Tries.{CanBeCaught, CatchesAlike}
@@ -36,14 +36,14 @@ BlocksDo l own gives call b (handler_then t x ss place hs) = BlockDoes l own giv
 -- the first handler whose clause matches is entered, with its parameter; where none does, the exception travels on
 abbrev pub HandlersCatchAlike : Type 0
 HandlersCatchAlike = InEachContext (λ l own gives call b v c.
-    KindsFit l b.kinds → CallsAreBarred (source_running l call) → EmptyDestructor l.layout (source_running l call) b
+    KindsFit l b.kinds → CallsFare (source_running l call) → EmptyDestructor l.layout (source_running l call) b
     → (n m i d : ℕ) (hs : Handlers) → i < d → n ≤ m → BlocksDo l own gives call b hs → AreTypedHandlers l own gives hs v.variables m
     → CatchesAlike l own gives b v c n i d (caught (source_running l call) hs v c) (clauses l hs i m (d + 1)))
 
 -- so a try block of statements does
 abbrev pub TryBlocksDoAlike : Type 0
 TryBlocksDoAlike = InEachContext (λ l own gives call b v c.
-    KindsFit l b.kinds → CallsAreBarred (source_running l call) → EmptyDestructor l.layout (source_running l call) b
+    KindsFit l b.kinds → CallsFare (source_running l call) → EmptyDestructor l.layout (source_running l call) b
     → (n i d : ℕ) (ss : Statements) (hs : Handlers) → i < d → BlockDoes l own gives call b ss → BlocksDo l own gives call b hs
     → AreTypedStatements l own gives ss v.variables n → AreTypedHandlers l own gives hs v.variables (n + length (all_declared_in ss))
     → CanBeCaught (guarded_by (try_block (clauses_of hs)) c) (source_statements (source_running l call) ss v (guarded_by (try_block (clauses_of hs)) c))

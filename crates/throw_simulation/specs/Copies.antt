@@ -10,7 +10,7 @@ use Rattle.region_forms.specs.Layout.{Layout}
 use Rattle.region_forms.specs.Numbering.{number_of}
 use Rattle.region_forms.specs.Outcome.{State, normal}
 use Rattle.region_forms.specs.Ending.{Running}
-use Rattle.region_forms.specs.Meaning.{region}
+use Rattle.linear_simulation.specs.Watched.{watched}
 use Rattle.region_simulation.specs.Places.{Places}
 use Rattle.region_simulation.specs.Stands.{Stands, context_of}
 use Rattle.region_simulation.specs.Alike.{Alike}
@@ -27,4 +27,4 @@ CopiesAlike =
     → IsCallable a.program (constructor k (copy_constructor a.program k)) → Stands l a.program at c w s
     → LeadsTo l a.program at n b.kinds s.frame place target k → LeadsTo l a.program at n b.kinds s.frame from source k
     → Alike l a.program at m c w s (λ u flow w2 at2 s2. flow ≡ normal) (behind_barrier a c (copy_object a k target source) w)
-    (region b (barrier (op (construct place (number_of a.program (constructor k (copy_constructor a.program k))) (arguments_from (address_argument from ∷ []))))) (context_of w.open_calls c) s)
+    (watched b (barrier (op (construct place (number_of a.program (constructor k (copy_constructor a.program k))) (arguments_from (address_argument from ∷ []))))) (context_of w.open_calls c) s)

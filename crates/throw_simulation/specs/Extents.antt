@@ -16,7 +16,7 @@ use Rattle.scope_rules.specs.Specification.{new_bad_exception, under_specificati
 use Rattle.region_forms.specs.Form.{Region, limit, in_order}
 use Rattle.region_forms.specs.Numbering.{type_number}
 use Rattle.region_forms.specs.LowerExpression.{Lowering}
-use Rattle.region_forms.specs.Meaning.{region}
+use Rattle.linear_simulation.specs.Watched.{watched}
 use Rattle.region_forms.specs.Layout.{Layout}
 use Rattle.region_forms.specs.Outcome.{State}
 use Rattle.region_forms.specs.Ending.{Running, empty_call}
@@ -56,9 +56,9 @@ ExtentsAlike =
     → (listed : List Ty) (act : SourceContext → SourceAction SourceFlow) (body : Region)
     → FaresIn a.program (guarded_by (specification (map object_type listed)) c) (act (guarded_by (specification (map object_type listed)) c))
     → Alike l.layout a.program at k (guarded_by (specification (map object_type listed)) c) w s (FlowAgrees l gives i (d + 1))
-    (act (guarded_by (specification (map object_type listed)) c) w) (region b body (context_of w.open_calls (guarded_by (specification (map object_type listed)) c)) s)
+    (act (guarded_by (specification (map object_type listed)) c) w) (watched b body (context_of w.open_calls (guarded_by (specification (map object_type listed)) c)) s)
     → Alike l.layout a.program at k c w s (FlowAgrees l gives i d) (under_specification a (Some listed) act c w)
-    (region b (limit body (map type_number (map object_type listed))) (context_of w.open_calls c) s)
+    (watched b (limit body (map type_number (map object_type listed))) (context_of w.open_calls c) s)
 
 -- so the extent of a specification in a function does the same
 abbrev pub ExtentsDoAlike : Type 0

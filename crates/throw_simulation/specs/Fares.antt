@@ -11,7 +11,7 @@ use Rattle.scope_rules.specs.Running.{Running, Argument, Callee}
 use Rattle.region_simulation.specs.Stands.{AreTogether}
 use Rattle.throw_simulation.specs.Raises.{CanBeRaised}
 use Rattle.throw_simulation.specs.Barred.{CallsAreBarred}
-use Rattle.throw_simulation.specs.Throws.{IsUnbuilt}
+use Rattle.throw_simulation.specs.Unbuilt.{IsUnbuilt}
 
 -- what is handled, travels or is live was made, and the handlers of each exception stand side by side
 pub record IsOrderly (c : Context) (w : World) : Type 0 where
@@ -20,12 +20,13 @@ pub record IsOrderly (c : Context) (w : World) : Type 0 where
   pub live : (i : ℕ) (x : Live) → slice_get w.live i ≡ Some x → x.number ≤ w.last_number
   pub together : AreTogether c.handled
 
--- No number is used again, all that is live was made, what travels stays what it is, and of the exceptions made before none is kept as built
--- that was not.
+-- No number is used again, all that is live was made, what travels or is handled stays what it is, and of the exceptions made before none is kept
+-- as built that was not.
 pub record GoesOn (c : Context) (w w2 : World) : Type 0 where
   pub later : w.last_number ≤ w2.last_number
   pub live : (i : ℕ) (x : Live) → slice_get w2.live i ≡ Some x → x.number ≤ w2.last_number
   pub kept : (e : ℕ) → contains c.travelling e ≡ true → exception_at w2 e ≡ exception_at w e
+  pub held : (e : ℕ) → contains c.handled e ≡ true → exception_at w2 e ≡ exception_at w e
   pub unbuilt : (e : ℕ) → e ≤ w.last_number → IsUnbuilt e w → IsUnbuilt e w2
 
 -- An exception that comes out travelled not before, the handlers of it that are entered are the newest, and no guard dooms it. It is handled

@@ -13,13 +13,15 @@ use Rattle.region_forms.specs.World.{exception_in_slot}
 use Rattle.region_forms.specs.LowerExpression.{Lowering}
 use Rattle.region_forms.specs.Outcome.{State}
 use Rattle.region_forms.specs.Ending.{Running, empty_call}
-use Rattle.region_forms.specs.Meaning.{operation, region}
+use Rattle.region_forms.specs.Meaning.{operation}
+use Rattle.linear_simulation.specs.Watched.{watched}
 use Rattle.region_simulation.specs.Places.{Places}
 use Rattle.region_simulation.specs.Stands.{Stands, context_of}
 use Rattle.region_simulation.specs.Alike.{Alike}
 use Rattle.region_simulation.specs.Flows.{FlowAgrees}
 use Rattle.throw_simulation.specs.Same.{RunAlike}
-use Rattle.throw_simulation.specs.Barred.{StaysInside, CallsAreBarred}
+use Rattle.throw_simulation.specs.Barred.{StaysInside}
+use Rattle.throw_simulation.specs.Fares.{CallsFare}
 use Rattle.throw_simulation.specs.Scopes.{Any}
 
 -- an exception can be entered where it comes out: it travelled not before, and if it is handled, its handlers are the newest
@@ -45,9 +47,9 @@ EmptyDestructor l a b =
 -- again.
 abbrev pub HandlersEndAlike : Type 0
 HandlersEndAlike =
-    (l : Lowering) (gives : Bool) (i d : ℕ) → i < d → (a : SourceRunning) (b : Running) → RunAlike l.layout a b → CallsAreBarred a
+    (l : Lowering) (gives : Bool) (i d : ℕ) → i < d → (a : SourceRunning) (b : Running) → RunAlike l.layout a b → CallsFare a
     → EmptyDestructor l.layout a b
     → (at : Places) (k : ℕ) (c : SourceContext) (w : SourceWorld) (s : State) (e : ℕ) → Stands l.layout a.program at (handling e c) w s → contains c.travelling e ≡ false
     → (act : SourceContext → SourceAction SourceFlow) (body : Region)
-    → Alike l.layout a.program at k (handling e c) w s (FlowAgrees l gives i (d + 1)) (act (handling e c) w) (region b body (context_of w.open_calls c) s)
-    → Alike l.layout a.program at k c w s (FlowAgrees l gives i d) (while_handled a e c act w) (region b (protect body leave_handler) (context_of w.open_calls c) s)
+    → Alike l.layout a.program at k (handling e c) w s (FlowAgrees l gives i (d + 1)) (act (handling e c) w) (watched b body (context_of w.open_calls c) s)
+    → Alike l.layout a.program at k c w s (FlowAgrees l gives i d) (while_handled a e c act w) (watched b (protect body leave_handler) (context_of w.open_calls c) s)

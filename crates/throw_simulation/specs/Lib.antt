@@ -5,6 +5,7 @@ pub mod Raises
 pub mod Barred
 pub mod Scopes
 pub mod Handlers
+pub mod Unbuilt
 pub mod Throws
 pub mod Copies
 pub mod Operands

@@ -12,8 +12,9 @@ use Rattle.region_simulation.specs.Reach.{KindsFit}
 use Rattle.region_simulation.specs.Expressions.{source_running}
 use Rattle.region_simulation.specs.Flows.{DoesAlike}
 use Rattle.region_simulation.specs.Statements.{CanThrow}
-use Rattle.throw_simulation.specs.Barred.{CallsAreBarred}
-use Rattle.throw_simulation.specs.Throws.{IsUnbuilt, InEachContext}
+use Rattle.throw_simulation.specs.Fares.{CallsFare}
+use Rattle.throw_simulation.specs.Unbuilt.{IsUnbuilt}
+use Rattle.throw_simulation.specs.Throws.{InEachContext}
 
 -- while a value is computed, no number is used again, and no exception that is being built is kept as built
 abbrev pub LeavesUnbuilt : Context → Action ℤ → Type 0
@@ -23,6 +24,6 @@ LeavesUnbuilt c act =
 -- what is thrown is an int, an object that is built from arguments, or a copy of what names stand for
 abbrev pub OperandsThrowAlike : Type 0
 OperandsThrowAlike = InEachContext (λ l own gives call b v c.
-    KindsFit l b.kinds → CallsAreBarred (source_running l call) → ((e : Expression) → LeavesUnbuilt c (value_of (source_running l call) v e c))
+    KindsFit l b.kinds → CallsFare (source_running l call) → ((e : Expression) → LeavesUnbuilt c (value_of (source_running l call) v e c))
     → (n i d : ℕ) (e : Option Expression) → CanThrow l own v.variables e
     → DoesAlike l own gives b v c n i d (source_throwing (source_running l call) v e c) (throwing l e))

@@ -16,14 +16,16 @@ use Rattle.region_forms.specs.Numbering.{number_of}
 use Rattle.region_forms.specs.Evaluation.{address_of}
 use Rattle.region_forms.specs.Outcome.{State, Context, Flow, Result, Action}
 use Rattle.region_forms.specs.Ending.{Running, after_barrier, after_scope, after_part}
-use Rattle.region_forms.specs.Meaning.{operation, region}
+use Rattle.region_forms.specs.Meaning.{operation}
+use Rattle.linear_simulation.specs.Watched.{watched}
 use Rattle.region_forms.specs.LowerExpression.{Lowering}
 use Rattle.region_simulation.specs.Places.{Places, Refers}
 use Rattle.region_simulation.specs.Stands.{Stands, context_of}
 use Rattle.region_simulation.specs.Alike.{Keeps, Follows, Alike}
 use Rattle.region_simulation.specs.Flows.{FlowAgrees}
 use Rattle.throw_simulation.specs.Same.{RunAlike}
-use Rattle.throw_simulation.specs.Barred.{NotThrown, StaysInside, IsBarred, CallsAreBarred}
+use Rattle.throw_simulation.specs.Barred.{NotThrown, StaysInside, IsBarred}
+use Rattle.throw_simulation.specs.Fares.{CallsFare}
 
 -- any answers do
 abbrev pub Any : {A B : Type 0} → A → B → SourceWorld → Places → State → Type 0
@@ -71,11 +73,11 @@ DestroysAlike =
 -- what is done in its scope, or until it is part of a complete object, comes out alike in a region that is protected by its destruction
 abbrev pub ProtectsAlike : Type 0
 ProtectsAlike =
-    (l : Lowering) (gives : Bool) (i d : ℕ) → i < d → (a : SourceRunning) (b : Running) → RunAlike l.layout a b → CallsAreBarred a
+    (l : Lowering) (gives : Bool) (i d : ℕ) → i < d → (a : SourceRunning) (b : Running) → RunAlike l.layout a b → CallsFare a
     → (at : Places) (k : ℕ) (c : SourceContext) (w : SourceWorld) (s : State) (place : Place) (target : Reference) (j : ℕ)
     → Stands l.layout a.program at c w s → LeadsTo l.layout a.program at k b.kinds s.frame place target j → (act : SourceAction SourceFlow) (body : Region)
-    → Alike l.layout a.program at k c w s (FlowAgrees l gives i (d + 1)) (act w) (region b body (context_of w.open_calls c) s)
+    → Alike l.layout a.program at k c w s (FlowAgrees l gives i (d + 1)) (act w) (watched b body (context_of w.open_calls c) s)
     → Alike l.layout a.program at k c w s (FlowAgrees l gives i d) (scope a c (source_destroy a (class_type j) target) act w)
-    (region b (protect body (destroy_scope place (number_of a.program (destructor j)))) (context_of w.open_calls c) s) ×
+    (watched b (protect body (destroy_scope place (number_of a.program (destructor j)))) (context_of w.open_calls c) s) ×
     Alike l.layout a.program at k c w s (FlowAgrees l gives i d) (until_complete a c (source_destroy a (class_type j) target) act w)
-    (region b (protect body (destroy_part place (number_of a.program (destructor j)))) (context_of w.open_calls c) s)
+    (watched b (protect body (destroy_part place (number_of a.program (destructor j)))) (context_of w.open_calls c) s)

@@ -1,7 +1,7 @@
 -- That objects are thrown alike (ISO/IEC 14882:2003, 15.1).
-use Rattle.std.specs.Prelude.{◌≡◌, ℕ, ◌≤◌, ℤ, Bool, List, [], ◌∷◌, Option, Some, slice_get}
+use Rattle.std.specs.Prelude.{◌≡◌, ℕ, ◌≤◌, ℤ, Bool, List, [], ◌∷◌, Option, Some}
 use Rattle.scope_rules.specs.Class.{ObjectType}
-use Rattle.scope_rules.specs.World.{World as SourceWorld, Installed, native, Reference}
+use Rattle.scope_rules.specs.World.{World as SourceWorld, Reference}
 use Rattle.scope_rules.specs.Context.{Context as SourceContext}
 use Rattle.scope_rules.specs.Outcome.{Action as SourceAction}
 use Rattle.scope_rules.specs.Frame.{Frame as SourceFrame}
@@ -11,7 +11,7 @@ use Rattle.region_forms.specs.Form.{Region, op, rethrow, regions_from}
 use Rattle.region_forms.specs.World.{of_exception, address_word, object_address}
 use Rattle.region_forms.specs.Outcome.{State, Flow, normal}
 use Rattle.region_forms.specs.Ending.{Running}
-use Rattle.region_forms.specs.Meaning.{regions}
+use Rattle.linear_simulation.specs.Watched.{watched_all}
 use Rattle.region_forms.specs.LowerExpression.{Lowering, exception_slot, first_temporary}
 use Rattle.region_forms.specs.LowerStatement.{thrown_as}
 use Rattle.region_simulation.specs.Places.{Places, Stood}
@@ -21,14 +21,12 @@ use Rattle.region_simulation.specs.Alike.{Alike}
 use Rattle.region_simulation.specs.Expressions.{source_running}
 use Rattle.region_simulation.specs.Flows.{DoesAlike}
 use Rattle.throw_simulation.specs.Same.{RunAlike}
+use Rattle.throw_simulation.specs.Unbuilt.{IsUnbuilt}
+use Rattle.throw_simulation.specs.Fares.{FaresIn}
 
 -- the object that is the answer is that of exception e, of type t
 abbrev pub IsBuilt : ℕ → ObjectType → ℕ → Flow → SourceWorld → Places → State → Type 0
 IsBuilt e t o flow w at s = (flow ≡ normal) × (at o ≡ Some (record { base = of_exception e; type = t }))
-
--- no exception of this number is kept as built
-abbrev pub IsUnbuilt : ℕ → SourceWorld → Type 0
-IsUnbuilt e w = (i o : ℕ) (t : ObjectType) (kept : Installed) → slice_get w.live i ≡ Some (record { number = e; exception = native t o kept }) → ⊥
 
 -- Regions build the object of an exception as an action does. The address of the exception object is in its slot, and nothing stands there
 -- yet; slots before the temporaries are kept.
@@ -36,7 +34,7 @@ abbrev pub BuildsAlike : Lowering → (own : Option ℕ) → Running → SourceF
 BuildsAlike l own b v c t build rs =
     (at : Places) (w : SourceWorld) (s : State) (e : ℕ) → Stands l.layout l.program at c w s → Reaches l own at v s.frame
     → s.frame.slots (exception_slot l) ≡ address_word (object_address e) → e ≤ w.last_number → IsUnbuilt e w → ((o : ℕ) (x : Stood) → at o ≡ Some x → x.base ≡ of_exception e → ⊥)
-    → Alike l.layout l.program at (first_temporary l) c w s (IsBuilt e t) (build w) (regions b (regions_from rs) (context_of w.open_calls c) s)
+    → Alike l.layout l.program at (first_temporary l) c w s (IsBuilt e t) (build w) (watched_all b (regions_from rs) (context_of w.open_calls c) s)
 
 -- what is said in each call of each function, in every context
 abbrev pub InEachContext : (Lowering → (own : Option ℕ) → (gives : Bool) → (Callee → Reference → List SourceArgument → SourceContext → SourceAction ℤ) → Running → SourceFrame → SourceContext → Type 0) → Type 0
@@ -48,7 +46,7 @@ InEachContext said =
 -- exception or a forced unwind, the exception object is freed.
 abbrev pub ThrowsAlike : Type 0
 ThrowsAlike = InEachContext (λ l own gives call b v c.
-    (n i d : ℕ) (t : ObjectType) (build : SourceAction ℕ) (rs : List Region) → IsOfProgram l.program t → BuildsAlike l own b v c t build rs
+    (n i d : ℕ) (t : ObjectType) (build : SourceAction ℕ) (rs : List Region) → IsOfProgram l.program t → FaresIn l.program c build → BuildsAlike l own b v c t build rs
     → DoesAlike l own gives b v c n i d (throw_new (source_running l call) c build) (thrown_as l t rs))
 
 -- the newest handled exception is thrown again

@@ -9,7 +9,7 @@ use Rattle.region_forms.specs.Form.{Region, Clauses, catch, in_order}
 use Rattle.region_forms.specs.Guard.{types_of}
 use Rattle.region_forms.specs.Outcome.{State}
 use Rattle.region_forms.specs.Ending.{Running}
-use Rattle.region_forms.specs.Meaning.{caught}
+use Rattle.linear_simulation.specs.Watched.{watched_caught}
 use Rattle.region_forms.specs.LowerExpression.{Lowering}
 use Rattle.region_forms.specs.LowerStatement.{variable_slot}
 use Rattle.region_simulation.specs.Places.{Places}
@@ -26,7 +26,7 @@ CanBeCaught c act = (w w2 : SourceWorld) (e : ℕ) → IsSound c w.last_number w
 abbrev pub CatchesAlike : Lowering → (own : Option ℕ) → (gives : Bool) → Running → SourceFrame → SourceContext → (n i d : ℕ) → (ℕ → SourceAction SourceFlow) → Clauses → Type 0
 CatchesAlike l own gives b v c n i d handled cs =
     (e : ℕ) (at : Places) (w : SourceWorld) (s : State) → Stands l.layout l.program at (with_travelling e c) w s → InScope l own n at v s → CanBeEntered c e
-    → Alike l.layout l.program at (variable_slot l n) c w s (FlowAgrees l gives i d) (handled e w) (caught b cs (context_of w.open_calls c) e s)
+    → Alike l.layout l.program at (variable_slot l n) c w s (FlowAgrees l gives i d) (handled e w) (watched_caught b cs (context_of w.open_calls c) e s)
 
 -- so a try block does the same, over whatever is done in it and whatever is done with what comes out
 abbrev pub TriesAlike : Type 0
