@@ -1,0 +1,5 @@
+use Rattle.linear_meaning.proofs.Runs.{valid_sources_run_as_meant}
+use Rattle.linear_meaning.proofs.laws.valid_sources_run_as_meant.Goals as goal
+
+pub returns : goal.returns
+returns c = record { run = valid_sources_run_as_meant c.caught_list_follows.ensures c.checked_programs_run.ensures.run }
