@@ -13,7 +13,8 @@ use Rattle.code_simulation.specs.Frames.{AddressAt}
 use Rattle.code_simulation.specs.Turning.{Reaches}
 use Rattle.stub_simulation.specs.Stretches.{BackStays, stub_ground, stub_word, Stands, AtRuntimeCall}
 use Rattle.stub_simulation.specs.EndCatch.{EndCatchRuns}
-use Rattle.stub_simulation.proofs.Walking.{Walks, update, walk_begins, walk_addi, walk_load, walk_store, slot_there, slot_stays, walk_same, walk_not_same, walk_other, walk_not_other, walk_label, walk_call, walk_back, walk_out, down, up, small_number}
+use Rattle.stub_simulation.proofs.Walking.{Walks, update, walk_begins, walk_addi, walk_load, walk_store, slot_there, slot_stays, down, up, small_number}
+use Rattle.stub_simulation.proofs.Jumping.{walk_same, walk_not_same, walk_other, walk_not_other, walk_label, walk_call, walk_back, walk_out}
 use Rattle.stub_simulation.proofs.Ending.{path, word_at, ends_at, ends_out}
 
 -- ---- up to the call that leaves the handler

@@ -20,7 +20,8 @@ use Rattle.code_simulation.proofs.Fetching.{pieces_still}
 use Rattle.code_simulation.proofs.Turning.{executes_turns}
 use Rattle.code_simulation.specs.UnitAt.{routine_pieces}
 use Rattle.stub_simulation.specs.Stretches.{stub_ground, StubAt, Room, Beside, Stands, AtRuntimeCall, AtAddress}
-use Rattle.stub_simulation.proofs.Walking.{Path, Walks, WalksOut, room_still}
+use Rattle.stub_simulation.proofs.Walking.{Path, Walks, room_still}
+use Rattle.stub_simulation.proofs.Jumping.{WalksOut}
 
 -- where one of the runtime's own functions stands
 abbrev pub path : (u : UnitCode) (base : ℕ) (f : Function) (low size : ℕ) (s : State) → Room low size s.memory → Path

@@ -1,4 +1,5 @@
 pub mod Walking
+pub mod Jumping
 pub mod Ending
 pub mod Reaching
 mod Terminate

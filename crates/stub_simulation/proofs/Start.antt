@@ -14,7 +14,8 @@ use Rattle.code_simulation.specs.UnitAt.{routine_ground}
 use Rattle.code_simulation.proofs.Framing.{function_calls}
 use Rattle.code_simulation.proofs.Turning.{executes_turns, exit_ends}
 use Rattle.stub_simulation.specs.Start.{StartRuns}
-use Rattle.stub_simulation.proofs.Walking.{Path, Walks, update, beside_none, walk_begins, walk_addi, walk_out, small_number, no_room}
+use Rattle.stub_simulation.proofs.Walking.{Path, Walks, update, beside_none, walk_begins, walk_addi, small_number, no_room}
+use Rattle.stub_simulation.proofs.Jumping.{walk_out}
 use Rattle.stub_simulation.proofs.Ending.{ends_at}
 
 -- a word of the code is near to each

@@ -8,7 +8,8 @@ use Rattle.linear_forms.specs.Stub.{terminating}
 use Rattle.code_simulation.specs.Standing.{address}
 use Rattle.stub_simulation.specs.Stretches.{stub_ground, stub_word, Stands}
 use Rattle.stub_simulation.specs.Terminate.{TerminateRuns}
-use Rattle.stub_simulation.proofs.Walking.{Walks, update, walk_begins, walk_addi, walk_load, walk_store, slot_there, walk_same, walk_not_same, walk_call, walk_out, down, up, small_number, no_room}
+use Rattle.stub_simulation.proofs.Walking.{Walks, update, walk_begins, walk_addi, walk_load, walk_store, slot_there, down, up, small_number, no_room}
+use Rattle.stub_simulation.proofs.Jumping.{walk_same, walk_not_same, walk_call, walk_out}
 use Rattle.stub_simulation.proofs.Ending.{path, word_at, ends_at, ends_aborted}
 
 -- ---- up to the test of the handler

@@ -13,7 +13,8 @@ use Rattle.code_simulation.specs.Memory.{Holds}
 use Rattle.code_simulation.specs.Standing.{address}
 use Rattle.stub_simulation.specs.Stretches.{stub_ground, Beside, Stands}
 use Rattle.stub_simulation.specs.CallUnexpected.{UnexpectedAnswers}
-use Rattle.stub_simulation.proofs.Walking.{Walks, update, beside_none, walk_begins, walk_addi, walk_load, walk_store, slot_there, slot_stays, walk_other, walk_not_other, walk_label, walk_out, up, small_number}
+use Rattle.stub_simulation.proofs.Walking.{Walks, update, beside_none, walk_begins, walk_addi, walk_load, walk_store, slot_there, slot_stays, up, small_number}
+use Rattle.stub_simulation.proofs.Jumping.{walk_other, walk_not_other, walk_label, walk_out}
 use Rattle.stub_simulation.proofs.Ending.{path, word_at, ends_out}
 use Rattle.stub_simulation.proofs.Reaching.{beside_at, slot_may, low_half, walk_word, walk_less, walk_nothing, walk_record}
 

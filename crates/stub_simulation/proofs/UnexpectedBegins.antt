@@ -12,7 +12,8 @@ use Rattle.code_simulation.specs.Frames.{AddressAt}
 use Rattle.code_simulation.specs.Turning.{Reaches}
 use Rattle.stub_simulation.specs.Stretches.{stub_ground, stub_word, Beside, Stands, AtRuntimeCall}
 use Rattle.stub_simulation.specs.CallUnexpected.{UnexpectedBegins}
-use Rattle.stub_simulation.proofs.Walking.{Walks, update, beside_none, walk_begins, walk_addi, walk_load, walk_store, slot_there, slot_stays, walk_same, walk_not_same, walk_call, walk_out, down, up, small_number}
+use Rattle.stub_simulation.proofs.Walking.{Walks, update, beside_none, walk_begins, walk_addi, walk_load, walk_store, slot_there, slot_stays, down, up, small_number}
+use Rattle.stub_simulation.proofs.Jumping.{walk_same, walk_not_same, walk_call, walk_out}
 use Rattle.stub_simulation.proofs.Ending.{path, word_at, ends_at, ends_out}
 use Rattle.stub_simulation.proofs.Reaching.{beside_at, slot_may}
 

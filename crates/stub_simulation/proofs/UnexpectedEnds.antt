@@ -7,7 +7,8 @@ use Rattle.emission_forms.specs.Piece.{entry}
 use Rattle.code_simulation.specs.Frames.{AddressAt}
 use Rattle.stub_simulation.specs.Stretches.{stub_ground, stub_word, Beside}
 use Rattle.stub_simulation.specs.CallUnexpected.{UnexpectedEnds}
-use Rattle.stub_simulation.proofs.Walking.{update, walk_begins, walk_addi, walk_load, walk_out, up, small_number}
+use Rattle.stub_simulation.proofs.Walking.{update, walk_begins, walk_addi, walk_load, up, small_number}
+use Rattle.stub_simulation.proofs.Jumping.{walk_out}
 use Rattle.stub_simulation.proofs.Ending.{path, word_at, ends_at, ends_out}
 use Rattle.stub_simulation.proofs.Reaching.{walk_function}
 use Rattle.stub_simulation.proofs.UnexpectedChecks.{kept_memory, kept}
