@@ -11,3 +11,4 @@ mod UnexpectedChecks
 mod UnexpectedEnds
 mod UnexpectedAnswers
 mod Calls
+mod ComesBack

@@ -5,3 +5,4 @@ pub mod Start
 pub mod Words
 pub mod CallUnexpected
 pub mod Calls
+pub mod ComesBack

@@ -1,6 +1,7 @@
 // Laws of the runtime's own functions on the ABI machine: calls of no effect, whose contracts state what holds of every program.
 ghost use Rattle.stub_simulation.specs.Calls.{CallsAreMade};
 ghost use Rattle.stub_simulation.specs.CallUnexpected.{UnexpectedAnswers, UnexpectedBegins, UnexpectedChecks, UnexpectedEnds};
+ghost use Rattle.stub_simulation.specs.ComesBack.{EndCatchComesBack};
 ghost use Rattle.stub_simulation.specs.EndCatch.{EndCatchRuns};
 ghost use Rattle.stub_simulation.specs.Start.{StartRuns};
 ghost use Rattle.stub_simulation.specs.Terminate.{TerminateRuns};
@@ -49,4 +50,9 @@ pub fn unexpected_ends()
 /// A turn at an ECALL makes the runtime call of the number in a7.
 pub fn calls_are_made()
     ensures { CallsAreMade }
+{}
+
+/// A call of end_catch comes back where the newest handler is not the last one of its exception.
+pub fn end_catch_comes_back()
+    ensures { EndCatchComesBack }
 {}
