@@ -26,14 +26,14 @@ use Rattle.stub_simulation.specs.ComesBack.{TellsNothing, EndCatchComesBack}
 use Rattle.stub_simulation.proofs.Calls.{calls_are_made}
 use Rattle.stub_simulation.proofs.EndCatch.{end_catch_runs}
 
-beside_then : (low size : ℕ) (a b c : List Part) → Beside low size a b → Beside low size b c → Beside low size a c
+pub beside_then : (low size : ℕ) (a b c : List Part) → Beside low size a b → Beside low size b c → Beside low size a c
 beside_then low size a b c first second = record { written = written_more a b c first.written second.written; others = λ k n v out h. second.others k n v out (first.others k n v out h) }
 
 -- the world that the runtime's call goes on to
 abbrev left_world : Object → Exceptions → World → World
 left_world o e t = gives_both 0 0 (shows (Leave o.header.number) (with_exceptions e t))
 
-call_is : (image : Image) (wish : ℕ) (t : World) → call_effect 7 image wish t ≡ runtime_end_catch t
+pub call_is : (image : Image) (wish : ℕ) (t : World) → call_effect 7 image wish t ≡ runtime_end_catch t
 unfolding call_effect numbered
 call_is image wish t = refl
 

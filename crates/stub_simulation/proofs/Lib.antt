@@ -12,3 +12,4 @@ mod UnexpectedEnds
 mod UnexpectedAnswers
 mod Calls
 mod ComesBack
+mod Frees

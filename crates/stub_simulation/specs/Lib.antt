@@ -6,3 +6,4 @@ pub mod Words
 pub mod CallUnexpected
 pub mod Calls
 pub mod ComesBack
+pub mod Frees

@@ -3,6 +3,7 @@ ghost use Rattle.stub_simulation.specs.Calls.{CallsAreMade};
 ghost use Rattle.stub_simulation.specs.CallUnexpected.{UnexpectedAnswers, UnexpectedBegins, UnexpectedChecks, UnexpectedEnds};
 ghost use Rattle.stub_simulation.specs.ComesBack.{EndCatchComesBack};
 ghost use Rattle.stub_simulation.specs.EndCatch.{EndCatchRuns};
+ghost use Rattle.stub_simulation.specs.Frees.{EndCatchFrees};
 ghost use Rattle.stub_simulation.specs.Start.{StartRuns};
 ghost use Rattle.stub_simulation.specs.Terminate.{TerminateRuns};
 ghost use Rattle.stub_simulation.specs.Words.{StubsStand};
@@ -55,4 +56,9 @@ pub fn calls_are_made()
 /// A call of end_catch comes back where the newest handler is not the last one of its exception.
 pub fn end_catch_comes_back()
     ensures { EndCatchComesBack }
+{}
+
+/// A call of end_catch frees the object of an exception without a destructor that its last handler leaves, and comes back.
+pub fn end_catch_frees()
+    ensures { EndCatchFrees }
 {}
