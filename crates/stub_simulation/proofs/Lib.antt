@@ -13,3 +13,4 @@ mod UnexpectedAnswers
 mod Calls
 mod ComesBack
 mod Frees
+mod Terminates

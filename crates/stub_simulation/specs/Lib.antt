@@ -7,3 +7,4 @@ pub mod CallUnexpected
 pub mod Calls
 pub mod ComesBack
 pub mod Frees
+pub mod Terminates

@@ -12,7 +12,7 @@ use Rattle.code_simulation.specs.Turning.{Reaches}
 use Rattle.stub_simulation.specs.Stretches.{StubAt, stub_word, frame_size, Stands, AtAddress}
 
 -- The hart is at terminate's first word, below sp is room for its frame, and a0 has a handler's address: within six turns it is at the
--- handler's first word, to return to the sixth word of terminate, and nothing is shown. Where a0 is 0, the run aborts within seven turns.
+-- handler's first word, to return to the word behind its call, and nothing is shown. Where a0 is 0, the run aborts within seven turns.
 -- Where the handler comes back, it aborts within two, whatever the handler made of the registers and of the stack.
 pub record TerminateRuns : Type 0 where
   pub calls_the_handler : (image : Image) (u : UnitCode) (base h : ℕ) (w : World) → let s = w.hart in let low = x s sp - frame_size terminating in

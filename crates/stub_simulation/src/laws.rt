@@ -6,6 +6,7 @@ ghost use Rattle.stub_simulation.specs.EndCatch.{EndCatchRuns};
 ghost use Rattle.stub_simulation.specs.Frees.{EndCatchFrees};
 ghost use Rattle.stub_simulation.specs.Start.{StartRuns};
 ghost use Rattle.stub_simulation.specs.Terminate.{TerminateRuns};
+ghost use Rattle.stub_simulation.specs.Terminates.{CallsTerminate};
 ghost use Rattle.stub_simulation.specs.Words.{StubsStand};
 
 /// Terminate calls its handler, if it has one, and aborts.
@@ -61,4 +62,9 @@ pub fn end_catch_comes_back()
 /// A call of end_catch frees the object of an exception without a destructor that its last handler leaves, and comes back.
 pub fn end_catch_frees()
     ensures { EndCatchFrees }
+{}
+
+/// A runtime call that terminates comes to the handler, or the run aborts.
+pub fn calls_terminate()
+    ensures { CallsTerminate }
 {}
