@@ -46,7 +46,7 @@ slot_is slot small =
     let number : (a - 0x6000_0000) / 0x1000 ≡ slot = omega (arith, small) in
     rw test (ap Some number)
 
-abbrev left_exceptions : Object → Exceptions → Exceptions
+abbrev pub left_exceptions : Object → Exceptions → Exceptions
 left_exceptions o e = with_header o.slot (building_again o.header) e
 
 -- the object counts as building
@@ -57,20 +57,20 @@ building o e inside small =
     ap (λ n. passing is_building (option_and_then (object_in live) n)) (slot_is o.slot small)
     ∙ ap (λ h. passing is_building (option_map (λ (y : Header). record { slot = o.slot; header = y }) h)) (header_changed e.live o.slot (Some (building_again o.header)) inside)
 
-abbrev left_world : Object → Exceptions → World → World
-left_world o e t = gives_both (object_of o.slot) 0 (shows (Destroy o.header.number) (shows (Leave o.header.number) (with_exceptions (left_exceptions o e) t)))
+abbrev pub left_world : Object → ℕ → Exceptions → World → World
+left_world o d e t = gives_both (object_of o.slot) d (shows (Destroy o.header.number) (shows (Leave o.header.number) (with_exceptions (left_exceptions o e) t)))
 
-told_of : (o : Object) (type : ℕ) (e : Exceptions) (t : World) (kind : HeaderKind) → kind ≡ Native type 0 →
-    goes (told o kind (shows (Leave o.header.number) (with_exceptions (let_go o kind e) t))) ≡ goes (left_world o e t)
-told_of o type e t kind is = ap (λ k. goes (told o k (shows (Leave o.header.number) (with_exceptions (let_go o k e) t)))) is
+told_of : (o : Object) (type d : ℕ) (e : Exceptions) (t : World) (kind : HeaderKind) → kind ≡ Native type d →
+    goes (told o kind (shows (Leave o.header.number) (with_exceptions (let_go o kind e) t))) ≡ goes (left_world o d e t)
+told_of o type d e t kind is = ap (λ k. goes (told o k (shows (Leave o.header.number) (with_exceptions (let_go o k e) t)))) is
 
-left_is : (image : Image) (wish : ℕ) (o : Object) (type : ℕ) (e was : Exceptions) (t : World) → t.exceptions ≡ was → newest_object was ≡ Some o → o.header.kind ≡ Native type 0 → ended was ≡ (Some (Last o.slot), e) →
-    call_effect 7 image wish t ≡ goes (left_world o e t)
-left_is image wish o type e was t same newest kind by =
+pub left_is : (image : Image) (wish : ℕ) (o : Object) (type d : ℕ) (e was : Exceptions) (t : World) → t.exceptions ≡ was → newest_object was ≡ Some o → o.header.kind ≡ Native type d → ended was ≡ (Some (Last o.slot), e) →
+    call_effect 7 image wish t ≡ goes (left_world o d e t)
+left_is image wish o type d e was t same newest kind by =
     call_is image wish t ∙ ap (λ n. needs t n (λ y. leaves y t (left_by y (ended t.exceptions)))) (ap newest_object same ∙ newest) ∙ ap (λ es. leaves o t (left_by o (ended es))) same
-    ∙ ap (λ l. leaves o t (left_by o l)) by ∙ told_of o type e t o.header.kind kind
+    ∙ ap (λ l. leaves o t (left_by o l)) by ∙ told_of o type d e t o.header.kind kind
 
-free_is : (image : Image) (wish : ℕ) (t : World) → call_effect 4 image wish t ≡ free t
+pub free_is : (image : Image) (wish : ℕ) (t : World) → call_effect 4 image wish t ≡ free t
 unfolding call_effect numbered
 free_is image wish t = refl
 
@@ -83,13 +83,13 @@ freed_is image wish o e t same given inside small =
 
 -- ---- the hart behind a call that gives two numbers
 
-record Given (u : UnitCode) (base : ℕ) (f : Function) (k low size p q stack : ℕ) (t : State) : Type 0 where
-  stands : Stands u base f k low size t
-  pointer : x t 2 ≡ stack
-  first : x t 10 ≡ p
-  second : x t 11 ≡ q
+pub record Given (u : UnitCode) (base : ℕ) (f : Function) (k low size p q stack : ℕ) (t : State) : Type 0 where
+  pub stands : Stands u base f k low size t
+  pub pointer : x t 2 ≡ stack
+  pub first : x t 10 ≡ p
+  pub second : x t 11 ≡ q
 
-given : (u : UnitCode) (base : ℕ) (f : Function) (k low size p q stack : ℕ) (s : State) → Stands u base f k low size s → x s 2 ≡ stack →
+pub given : (u : UnitCode) (base : ℕ) (f : Function) (k low size p q stack : ℕ) (s : State) → Stands u base f k low size s → x s 2 ≡ stack →
     Given u base f k low size p q stack (record s { regs = with_reg (with_reg s.regs 10 p) 11 q })
 given u base f k low size p q stack s h at =
     let once : List ℕ = with_reg s.regs 10 p in
@@ -114,9 +114,9 @@ end_catch_frees image u base o type e w enough stands aligned small newest kind 
     let one = end_catch_runs.leaves image u base w enough stands small in
     let v1 : World = one.after in
     let h1 = one.holds in
-    let v2 : World = counted (left_world o e (asked h1.behind v1)) in
-    let two : Turns image 1 v1 v2 (Leave n ∷ Destroy n ∷ []) = calls_are_made.goes_on image 7 v1 (left_world o e (asked h1.behind v1)) h1.behind h1.calls h1.asks
-    (λ wish. left_is image wish o type e w.exceptions (asked h1.behind v1) h1.kept.runtime.exceptions newest kind by) in
+    let v2 : World = counted (left_world o 0 e (asked h1.behind v1)) in
+    let two : Turns image 1 v1 v2 (Leave n ∷ Destroy n ∷ []) = calls_are_made.goes_on image 7 v1 (left_world o 0 e (asked h1.behind v1)) h1.behind h1.calls h1.asks
+    (λ wish. left_is image wish o type 0 e w.exceptions (asked h1.behind v1) h1.kept.runtime.exceptions newest kind by) in
     let s2 : State = v2.hart in
     let g2 = given u base end_catch 4 low 48 object 0 low h1.behind h1.stands h1.pointer in
     let three = end_catch_runs.frees_at_once image u base object v2 (subst (λ a. Stands u base end_catch 4 a 48 s2) (sym g2.pointer) g2.stands) g2.first (λ z. absurd (omega (arith, z))) (omega (arith, slot_small)) g2.second in

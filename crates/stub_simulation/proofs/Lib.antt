@@ -14,3 +14,4 @@ mod Calls
 mod ComesBack
 mod Frees
 mod Terminates
+mod Destroys

@@ -8,3 +8,4 @@ pub mod Calls
 pub mod ComesBack
 pub mod Frees
 pub mod Terminates
+pub mod Destroys

@@ -2,6 +2,7 @@
 ghost use Rattle.stub_simulation.specs.Calls.{CallsAreMade};
 ghost use Rattle.stub_simulation.specs.CallUnexpected.{UnexpectedAnswers, UnexpectedBegins, UnexpectedChecks, UnexpectedEnds};
 ghost use Rattle.stub_simulation.specs.ComesBack.{EndCatchComesBack};
+ghost use Rattle.stub_simulation.specs.Destroys.{EndCatchDestroys};
 ghost use Rattle.stub_simulation.specs.EndCatch.{EndCatchRuns};
 ghost use Rattle.stub_simulation.specs.Frees.{EndCatchFrees};
 ghost use Rattle.stub_simulation.specs.Start.{StartRuns};
@@ -67,4 +68,9 @@ pub fn end_catch_frees()
 /// A runtime call that terminates comes to the handler, or the run aborts.
 pub fn calls_terminate()
     ensures { CallsTerminate }
+{}
+
+/// A call of end_catch comes to the destructor of an object that its last handler leaves, and behind it frees the object and comes back.
+pub fn end_catch_destroys()
+    ensures { EndCatchDestroys }
 {}
