@@ -135,8 +135,8 @@ fn main_body(a: Global) -> Result<Region, NoMemory> {
     let inside = Box::new(a, Region::Seq(returned))?;
     let scope = Region::Protect(inside, Cleanup::Scope(at(Root::Slot(0)), 5));
     let statements = Region::Seq(vec![in a; built, scope]?);
-    let first = stored(Root::Slot(1), Value::Number(0));
-    Ok(Region::Seq(vec![in a; first, statements]?))
+    let last = stored(Root::Slot(1), Value::Number(0));
+    Ok(Region::Seq(vec![in a; statements, last]?))
 }
 
 // The member is set through the address of the own object.
