@@ -1,0 +1,4 @@
+pub mod Verdicts
+pub mod Types
+pub mod Asked
+pub mod Laws
