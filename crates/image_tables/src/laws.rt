@@ -1,0 +1,24 @@
+// Laws of the tables of linked images: calls of no effect, whose contracts state what holds of every unit.
+ghost use Rattle.image_tables.specs.FrameLaws.{FramesSay, StartIsOutermost};
+ghost use Rattle.image_tables.specs.TableLaws.{StartPasses, TablesSay};
+
+/// Behind the two words of its prologue that take the frame and save the return address, the frame of a function has its size, and nothing
+/// but the return address is saved.
+pub fn frames_say()
+    ensures { FramesSay }
+{}
+
+/// Nothing is outward of the first function of a run.
+pub fn start_is_outermost()
+    ensures { StartIsOutermost }
+{}
+
+/// Of a frame inside a function the personality routine says what the call site of its operation says.
+pub fn tables_say()
+    ensures { TablesSay }
+{}
+
+/// An exception goes on outward from the call of main.
+pub fn start_passes()
+    ensures { StartPasses }
+{}
