@@ -6,3 +6,6 @@ pub mod Fixed
 pub mod Kept
 pub mod Stubs
 pub mod Told
+pub mod FixedBytes
+pub mod Records
+pub mod TypesRead

@@ -76,10 +76,10 @@ bases_there : (rows : ℕ) (types : List TypeRow) → AllByRecursion (λ t. Base
 bases_there rows [] all = tt
 bases_there rows (x ∷ xs) all = (all.0, bases_there rows xs all.1)
 
-types_count : (u : UnitCode) → length (emitted_of u).types ≡ length u.types
+pub types_count : (u : UnitCode) → length (emitted_of u).types ≡ length u.types
 types_count u = length-map u.types listed_type
 
-types_asked : (u : UnitCode) (i : CleanImage) → IsImageOf u i → TypesAreAsked (records_end u) u.types
+pub types_asked : (u : UnitCode) (i : CleanImage) → IsImageOf u i → TypesAreAsked (records_end u) u.types
 types_asked u i image = record {
   bases = bases_there (length u.types) u.types (subst (λ n. AllByRecursion (λ t. BaseIsThere n t.base) (emitted_of u).types) (types_count u) image.linkable.bases);
   room = omega (arith, types_count u);

@@ -4,3 +4,4 @@ pub mod Rows
 pub mod Asked
 pub mod FrameLaws
 pub mod TableLaws
+pub mod TypeLaws

@@ -1,6 +1,7 @@
 // Laws of the tables of linked images: calls of no effect, whose contracts state what holds of every unit.
 ghost use Rattle.image_tables.specs.FrameLaws.{FramesSay, StartIsOutermost};
 ghost use Rattle.image_tables.specs.TableLaws.{StartPasses, TablesSay};
+ghost use Rattle.image_tables.specs.TypeLaws.{TypesAreRead};
 
 /// Behind the two words of its prologue that take the frame and save the return address, the frame of a function has its size, and nothing
 /// but the return address is saved.
@@ -21,4 +22,9 @@ pub fn tables_say()
 /// An exception goes on outward from the call of main.
 pub fn start_passes()
     ensures { StartPasses }
+{}
+
+/// Behind the record of a type the runtime finds the records of all its bases.
+pub fn types_are_read()
+    ensures { TypesAreRead }
 {}

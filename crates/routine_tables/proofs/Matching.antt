@@ -25,7 +25,7 @@ record_same : (end rows t u : ℕ) → 24 * rows < end → t < rows → u < rows
 record_same end rows t u room there inside =
     same_test (record_at end t) (record_at end u) t u (λ e. omega (arith, e, room, there, inside)) (λ e. ap (record_at end) e)
 
-base_is_there : (rows : ℕ) (xs : List TypeRow) (t : ℕ) → AllByRecursion (λ x. BaseIsThere rows x.base) xs → BaseIsThere rows (base_row (slice_get xs t))
+pub base_is_there : (rows : ℕ) (xs : List TypeRow) (t : ℕ) → AllByRecursion (λ x. BaseIsThere rows x.base) xs → BaseIsThere rows (base_row (slice_get xs t))
 base_is_there rows [] t all = tt
 base_is_there rows (x ∷ xs) zero all = all.0
 base_is_there rows (x ∷ xs) (suc t) all = base_is_there rows xs t all.1
