@@ -42,12 +42,11 @@ use Rattle.image_link.proofs.Stands.{constants_low}
 use Rattle.image_link.proofs.Whole.{code_end}
 use Rattle.routine_tables.specs.Verdicts.{told_of, forced_judge}
 use Rattle.routine_tables.specs.Types.{thrown_as}
-use Rattle.routine_tables.specs.Asked.{NamesType, PadIsInside, TableIsAsked, TypesAreAsked}
+use Rattle.routine_tables.specs.Asked.{NamesType, ListsNameTypes, PadIsInside, TableIsAsked, TypesAreAsked}
 use Rattle.routine_tables.specs.Laws as routine
 use Rattle.routine_tables.proofs.Telling as routines
 use Rattle.image_tables.specs.Read.{IsImageOf}
 use Rattle.image_tables.specs.Functions.{IsThere, routine_of, records_end, first_byte, operation_at}
-use Rattle.image_tables.specs.Asked.{ListsNameTypes}
 use Rattle.image_tables.specs.TableLaws.{IsRunOf, GoesOnBehind, TablesSay, StartPasses}
 use Rattle.image_tables.proofs.Placed.{placed, StandsAt, function_there, function_stands, start_stands}
 use Rattle.image_tables.proofs.Found.{FunctionFound, image_function}

@@ -23,12 +23,12 @@ use Rattle.image_link.proofs.Bounds.{code_length}
 use Rattle.image_link.proofs.ReadMemory.{read_part}
 use Rattle.image_link.proofs.Stands.{constants_low}
 use Rattle.image_link.proofs.Whole.{globals_end, records_end as records_done, code_end}
-use Rattle.routine_tables.specs.Types.{types_within}
+use Rattle.routine_tables.specs.Types.{types_within, ChainEndsWithin}
 use Rattle.routine_tables.proofs.Matching.{base_is_there}
 use Rattle.image_tables.specs.Read.{IsImageOf}
 use Rattle.image_tables.specs.Functions.{records_end}
 use Rattle.image_tables.specs.TableLaws.{IsRunOf}
-use Rattle.image_tables.specs.TypeLaws.{EndsWithin, TypesAreRead}
+use Rattle.image_tables.specs.TypeLaws.{TypesAreRead}
 use Rattle.image_tables.proofs.FixedBytes.{fixed_part, low_part, constant_byte, HoldsBytes, word_there, word_is}
 use Rattle.image_tables.proofs.Records.{record_found}
 use Rattle.image_tables.proofs.Told.{types_asked, types_count}
@@ -127,7 +127,7 @@ nothing_within : (n : ℕ) (rows : List TypeRow) → types_within n rows None �
 nothing_within zero rows = refl
 nothing_within (suc n) rows = refl
 
-chain_read : (n : ℕ) (u : UnitCode) (i : CleanImage) (s : State) (t : ℕ) → IsImageOf u i → IsRunOf i s → t < length u.types → EndsWithin n u.types (Some t) →
+chain_read : (n : ℕ) (u : UnitCode) (i : CleanImage) (s : State) (t : ℕ) → IsImageOf u i → IsRunOf i s → t < length u.types → ChainEndsWithin n u.types (Some t) →
     records_within n s (record_at (records_end u) t) ≡ Some (map (record_at (records_end u)) (types_within n u.types (Some t)))
 unfolding records_within
 chain_read zero u i s t image run inside ends = absurd ends
@@ -136,7 +136,7 @@ chain_read (suc n) u i s t image run inside ends =
     let there = base_is_there (length u.types) u.types t (types_asked u i image).bases in
     let is : base_row (slice_get u.types t) ≡ row.0.base = ap base_row row.1 in
     ap (and_bases a (records_within n s)) (base_read u i s t row.0 image run inside row.1)
-    ∙ (by row.0.base (subst (BaseIsThere (length u.types)) is there) (subst (EndsWithin n u.types) is ends) (λ b below more. chain_read n u i s b image run below more)
+    ∙ (by row.0.base (subst (BaseIsThere (length u.types)) is there) (subst (ChainEndsWithin n u.types) is ends) (λ b below more. chain_read n u i s b image run below more)
     ∙ ap (λ o. Some (a ∷ map (record_at end) (types_within n u.types o))) (sym is))
   where
     end : ℕ
@@ -148,8 +148,8 @@ chain_read (suc n) u i s t image run inside ends =
     room : 24 * length u.types < end
     room = (types_asked u i image).room
 
-    by : (o : Option ℕ) → BaseIsThere (length u.types) o → EndsWithin n u.types o →
-        ((b : ℕ) → b < length u.types → EndsWithin n u.types (Some b) → records_within n s (record_at end b) ≡ Some (map (record_at end) (types_within n u.types (Some b)))) →
+    by : (o : Option ℕ) → BaseIsThere (length u.types) o → ChainEndsWithin n u.types o →
+        ((b : ℕ) → b < length u.types → ChainEndsWithin n u.types (Some b) → records_within n s (record_at end b) ≡ Some (map (record_at end) (types_within n u.types (Some b)))) →
         and_bases a (records_within n s) (Some (base_at end o)) ≡ Some (a ∷ map (record_at end) (types_within n u.types o))
     by None below more later = ap (λ ts. Some (a ∷ map (record_at end) ts)) (sym (nothing_within n u.types))
     by (Some b) below more later =
@@ -158,7 +158,7 @@ chain_read (suc n) u i s t image run inside ends =
         ap (λ x. if x then Some (a ∷ []) else option_map (λ bases. a ∷ bases) (records_within n s (record_at end b))) some
         ∙ ap (option_map (λ bases. a ∷ bases)) (later b below more)
 
-same_ends : (n m : ℕ) (rows : List TypeRow) (o : Option ℕ) → EndsWithin n rows o → EndsWithin m rows o → types_within n rows o ≡ types_within m rows o
+same_ends : (n m : ℕ) (rows : List TypeRow) (o : Option ℕ) → ChainEndsWithin n rows o → ChainEndsWithin m rows o → types_within n rows o ≡ types_within m rows o
 same_ends n m rows None one two = nothing_within n rows ∙ sym (nothing_within m rows)
 same_ends zero m rows (Some t) one two = absurd one
 same_ends (suc n) zero rows (Some t) one two = absurd two

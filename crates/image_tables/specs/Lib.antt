@@ -1,7 +1,6 @@
 pub mod Read
 pub mod Functions
 pub mod Rows
-pub mod Asked
 pub mod FrameLaws
 pub mod TableLaws
 pub mod TypeLaws

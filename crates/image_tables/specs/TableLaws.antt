@@ -18,9 +18,9 @@ use Rattle.emission_forms.specs.StubCode.{start_routine}
 use Rattle.image_forms.specs.Linkable.{BaseIsThere}
 use Rattle.routine_tables.specs.Verdicts.{told_of, forced_judge}
 use Rattle.routine_tables.specs.Types.{thrown_as}
+use Rattle.routine_tables.specs.Asked.{ListsNameTypes}
 use Rattle.image_tables.specs.Read.{IsImageOf}
 use Rattle.image_tables.specs.Functions.{IsThere, routine_of, records_end, first_byte, operation_at}
-use Rattle.image_tables.specs.Asked.{ListsNameTypes}
 
 -- the memory of a run of an image: nothing has been written where it may not be
 abbrev pub IsRunOf : CleanImage → State → Type 0

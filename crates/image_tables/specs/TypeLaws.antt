@@ -1,27 +1,14 @@
 -- The type records of a linked image, as the runtime reads them (Itanium C++ ABI, "Run-Time Type Information").
-use Rattle.std.specs.Prelude.{⊤, ◌≡◌, ◌<◌, ℕ, zero, suc, List, length, map, slice_get, Option, Some, None}
-use Rattle.region_forms.specs.Form.{TypeRow}
-use Rattle.region_forms.specs.Guard.{base_row}
+use Rattle.std.specs.Prelude.{◌≡◌, ◌<◌, ℕ, length, map, Some}
 use Rattle.rv64_isa.specs.State.{State}
 use Rattle.elf_image.specs.Clean.{CleanImage}
 use Rattle.cxa_runtime.specs.Types.{type_records}
 use Rattle.linear_forms.specs.Linear.{UnitCode}
 use Rattle.image_forms.specs.Placed.{record_at}
-use Rattle.routine_tables.specs.Types.{with_bases}
+use Rattle.routine_tables.specs.Types.{with_bases, ChainEnds}
 use Rattle.image_tables.specs.Read.{IsImageOf}
 use Rattle.image_tables.specs.Functions.{records_end}
 use Rattle.image_tables.specs.TableLaws.{IsRunOf}
-
--- a type, its base, the base of that and so on are at most so many
-abbrev pub EndsWithin : ℕ → List TypeRow → Option ℕ → Type 0
-EndsWithin n rows None = ⊤
-EndsWithin zero rows (Some t) = ⊥
-EndsWithin (suc n) rows (Some t) = EndsWithin n rows (base_row (slice_get rows t))
-
--- so many that the runtime reads them all, and no more than there are
-pub record ChainEnds (rows : List TypeRow) (t : ℕ) : Type 0 where
-  pub read : EndsWithin 64 rows (Some t)
-  pub all : EndsWithin (suc (length rows)) rows (Some t)
 
 -- behind the record of a type the runtime finds those of all its bases, whatever has been written where memory may be written
 abbrev pub TypesAreRead : Type 0

@@ -2,12 +2,17 @@
 use Rattle.std.specs.Prelude.{⊤, ◌≡◌, ◌<◌, ◌≤◌, ℕ, suc, ◌*◌, ◌-◌, List, length, slice_get, Option, Some, None}
 use Rattle.std.specs.List.{AllByRecursion}
 use Rattle.region_forms.specs.Form.{TypeRow}
+use Rattle.linear_forms.specs.Linear.{UnitCode}
 use Rattle.emission_forms.specs.Routine.{Routine, op_byte}
 use Rattle.image_forms.specs.Linkable.{BaseIsThere}
 
 -- an index, which counts from 1, names a type, and not the entry of `catch (...)`
 abbrev pub NamesType : List ℕ → ℕ → Type 0
 NamesType types i = (t : ℕ) × (0 < i) × (slice_get types (i - 1) ≡ Some (suc t))
+
+-- no list of a specification has the entry of `catch (...)`
+abbrev pub ListsNameTypes : UnitCode → Type 0
+ListsNameTypes u = AllByRecursion (λ g. AllByRecursion (AllByRecursion (NamesType g.types)) g.lists) u.functions
 
 -- a pad does not stand at the first byte of its routine
 abbrev pub PadIsInside : Routine → Option ℕ → Type 0
