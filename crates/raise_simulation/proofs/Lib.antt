@@ -1,0 +1,11 @@
+mod Offsets
+mod Outward
+mod Walking
+mod Asking
+mod Registers
+mod Searching
+mod Landing
+mod Resuming
+mod Forcing
+mod Agreeing
+mod Continuing
