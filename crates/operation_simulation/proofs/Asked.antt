@@ -17,7 +17,7 @@ use Rattle.operation_simulation.specs.Asked.{RootAsked, ValueAsked, LocationAske
 
 module _ (p : Plan) (n : ℕ) (frame : Frame) (v : World) (memory : List Part) (stack back : ℕ) (st : CallStands p n frame v memory stack back) where
   held_live : (s : ℕ) → ((e k : ℕ) → address_in (frame.slots s) ≡ Some (record { base = of_exception e; offset = k }) → p.live (of_exception e) ≡ true) → (b : Base) (k : ℕ) →
-      address_in (frame.slots s) ≡ Some (record { base = b; offset = k }) → HeldBy p frame.call b → p.live b ≡ true
+      address_in (frame.slots s) ≡ Some (record { base = b; offset = k }) → HeldBy p v frame.call b → p.live b ≡ true
   held_live s asked (of_global g) k e h = h
   held_live s asked (of_variable d t) k e h = h.0
   held_live s asked (of_exception d) k e h = asked d k e

@@ -1,11 +1,15 @@
 -- The beginning of main is matched.
-use Rattle.std.proofs.Common.{◌≡◌, ◌≢◌, ◌∙◌, refl, sym, ap, subst, arith, ℕ, zero, suc, ◌+◌, ◌-◌, ◌*◌, ◌%◌, ◌^◌, ◌<◌, ◌≤◌, ℤ, pos, ◌+ℤ◌, List, [], ◌∷◌, flat_map, length, Some, None, inl}
-use Rattle.std.specs.Prelude.{◌==◌, Bool, true, false, slice_get, if◌then◌else◌}
+use Rattle.std.proofs.Common.{◌≡◌, ◌≢◌, ◌∙◌, refl, sym, ap, subst, arith, ℕ, zero, suc, ◌+◌, ◌-◌, ◌*◌, ◌%◌, ◌^◌, ◌<◌, ◌≤◌, ℤ, pos, ◌+ℤ◌, List, [], ◌∷◌, flat_map, length, Option, Some, None, inl}
+use Rattle.std.specs.List.{IsDistinct}
+use Rattle.std.specs.Prelude.{nat_eq, replicate, ◌==◌, Bool, true, false, slice_get, if◌then◌else◌}
 use Rattle.std.proofs.lemmas.Int.{ints}
 use Rattle.std.proofs.lemmas.Bool.Decides.{nat_tests}
 use Rattle.rv64_isa.specs.State.{State, Part, with_value}
 use Rattle.rv64_isa.specs.Step.{x}
 use Rattle.eh_outer.specs.declared.module.Reply.{Reply}
+use Rattle.caught_stack.specs.declared.header.Header.{Header}
+use Rattle.caught_stack.specs.Live.{slots, all_vacant, header_of, live_count}
+use Rattle.cxa_runtime.specs.World as abi
 use Rattle.region_forms.specs.World.{Base, of_global, of_variable, of_exception, Address, World}
 use Rattle.region_forms.specs.Meaning.{global_memory, first_world}
 use Rattle.linear_forms.specs.Linear.{UnitCode}
@@ -30,7 +34,8 @@ use Rattle.code_simulation.proofs.Stepping.{steps_then}
 use Rattle.code_simulation.proofs.Framing.{function_calls, prologue_enters}
 use Rattle.operation_simulation.specs.Plan.{Plan, function, shape, routine, first_word, setting}
 use Rattle.operation_simulation.specs.Calls.{IsBegun, start_back, stack_end}
-use Rattle.operation_simulation.specs.Matches.{FrameIs, MemoryMatches}
+use Rattle.operation_simulation.specs.Exceptions.{Addresses, addresses_of, exceptions_in, kept_by, ExceptionsMatch}
+use Rattle.operation_simulation.specs.Matches.{FrameIs, RuntimeMatches, MemoryMatches}
 use Rattle.operation_simulation.specs.Entering.{opened}
 use Rattle.operation_simulation.specs.Beginning.{global_byte, is_global, plan_before, StandsBefore, MainBegins}
 use Rattle.operation_simulation.proofs.Words.{even_base}
@@ -70,10 +75,10 @@ first_int values a z e = by a.base a.offset e
 -- what a global's place is
 record GlobalPlace (u : UnitCode) (base g : ℕ) : Type 0 where
   at : global_byte u base g + (24 * length u.types + 4 * (g + 1)) ≡ base
-  low : global_byte u base g + 4 ≤ 0x7000_0000
+  low : global_byte u base g + 4 ≤ 0x6000_0000
   even : global_byte u base g % 4 ≡ 0
 
-global_place : (u : UnitCode) (base g : ℕ) → 24 * length u.types + 4 * length u.globals ≤ base → base ≤ 0x7000_0000 → base % 4 ≡ 0 → g < length u.globals → GlobalPlace u base g
+global_place : (u : UnitCode) (base g : ℕ) → 24 * length u.types + 4 * length u.globals ≤ base → base ≤ 0x6000_0000 → base % 4 ≡ 0 → g < length u.globals → GlobalPlace u base g
 global_place u base g deep low even inside = record { at = omega (arith, deep, inside); low = omega (arith, deep, inside, low); even = omega (arith, deep, inside, even) }
 
 globals_apart : (x y t g h i j base : ℕ) → x + (t + 4 * (g + 1)) ≡ base → y + (t + 4 * (h + 1)) ≡ base → i < 4 → j < 4 → x + i ≡ y + j → g ≡ h
@@ -81,9 +86,9 @@ globals_apart x y t g h i j base ex ey hi hj e = omega (arith, ex, ey, hi, hj, e
 
 -- ---- what main's frame stands above
 
-beneath_first : (u : UnitCode) (base : ℕ) (s : State) (input : List ℕ) (replies : List (List Reply)) (place value : ℕ) → StandsBefore u base s → 0x7000_0000 ≤ place → place + 8 ≤ stack_end →
-    Beneath (plan_before u base) (first_world u.globals input replies) (with_value s.memory place 8 value) stack_end
-beneath_first u base s input replies place value h low high = record {
+beneath_first : (u : UnitCode) (base : ℕ) (tables : ℕ → ℕ) (s : State) (input : List ℕ) (replies : List (List Reply)) (place value : ℕ) → StandsBefore u base tables s → 0x7000_0000 ≤ place → place + 8 ≤ stack_end →
+    Beneath (plan_before u base tables) (first_world u.globals input replies) (with_value s.memory place 8 value) stack_end
+beneath_first u base tables s input replies place value h low high = record {
   unit = unit_stays p s.memory new w h.unit;
   apart = record {
     apart = λ a b la lb differ. apart_at a b (live_global u a la) (live_global u b lb) differ;
@@ -94,6 +99,12 @@ beneath_first u base s input replies place value h low high = record {
   inside = λ a z live there. let first = first_int u.globals a z there in (omega (arith, first.2), refl);
   ints = λ a z live there. int_at a z (first_int u.globals a z there);
   fresh = λ c s o later. refl;
+  objects = record {
+    may = λ a n low high. may_still s.memory new a n w (h.objects a n low high);
+    made = λ e live. absurd (cc live);
+    fresh = λ e o more. refl;
+    away = λ b live plain. inl (away_at b (live_global u b live));
+  };
   may = stack_stays s.memory new w h.may;
   end = omega arith;
   begun = λ b live. let global = live_global u b live in subst (IsBegun (first_world u.globals input replies)) (sym global.1) tt;
@@ -108,7 +119,7 @@ beneath_first u base s input replies place value h low high = record {
 }
   where
     p : Plan
-    p = plan_before u base
+    p = plan_before u base tables
 
     new : List Part
     new = with_value s.memory place 8 value
@@ -140,6 +151,9 @@ beneath_first u base s input replies place value h low high = record {
     clear_at : (b : Base) → (g : ℕ) × (b ≡ of_global g) × (g < length u.globals) → p.at b + 4 ≤ 0x7000_0000
     clear_at b x = let at : p.at b ≡ global_byte u base x.0 = ap (λ c. p.at c) x.1 in omega (arith, at, (place_of x.0 x.2).low)
 
+    away_at : (b : Base) → (g : ℕ) × (b ≡ of_global g) × (g < length u.globals) → p.at b + 4 ≤ 0x6000_0000
+    away_at b x = let at : p.at b ≡ global_byte u base x.0 = ap (λ c. p.at c) x.1 in omega (arith, at, (place_of x.0 x.2).low)
+
     int_at : (a : Address) (z : ℤ) → (g : ℕ) × (a.base ≡ of_global g) × (a.offset ≡ 0) × (slice_get u.globals g ≡ Some z) → IntAt new (p.at a.base + a.offset) z
     int_at a z x =
         let at : global_byte u base x.0 ≡ p.at a.base + a.offset = omega (arith, ap (λ c. p.at c) x.1, x.2) in
@@ -156,22 +170,22 @@ reached_word g t k few inside is = record {
 }
 
 -- main's frame is taken, and the return address is that behind the call of main
-record MainEntered (u : UnitCode) (base : ℕ) (s : State) : Type 0 where
+record MainEntered (u : UnitCode) (base : ℕ) (tables : ℕ → ℕ) (s : State) : Type 0 where
   after : State
   runs : Executes 8 s after
-  pc : after.pc ≡ address (setting (plan_before u base) u.main).ground (first_word (plan_before u base) u.main + 6)
+  pc : after.pc ≡ address (setting (plan_before u base tables) u.main).ground (first_word (plan_before u base tables) u.main + 6)
   registers : length after.regs ≡ 32
-  memory : after.memory ≡ with_value s.memory (stack_end - (shape (plan_before u base) u.main).size + return_offset) 8 (start_back (plan_before u base))
-  stack : x after sp ≡ stack_end - (shape (plan_before u base) u.main).size
+  memory : after.memory ≡ with_value s.memory (stack_end - (shape (plan_before u base tables) u.main).size + return_offset) 8 (start_back (plan_before u base tables))
+  stack : x after sp ≡ stack_end - (shape (plan_before u base tables) u.main).size
 
-main_entered : (u : UnitCode) (base : ℕ) (s : State) → StandsBefore u base s → MainEntered u base s
-main_entered u base s h =
-    let p : Plan = plan_before u base in
+main_entered : (u : UnitCode) (base : ℕ) (tables : ℕ → ℕ) (s : State) → StandsBefore u base tables s → MainEntered u base tables s
+main_entered u base tables s h =
+    let p : Plan = plan_before u base tables in
     let g0 : Ground = routine_ground u base (λ t. stub_target t) 0 start_routine in
     let g1 : Ground = ground_at u base (record { target = target_byte u; label = λ l. l }) in
     let gm : Ground = (setting p u.main).ground in
     let f : Shape = shape p u.main in
-    let start = h.unit.start in
+    let start = h.unit.stubs.start in
     let pieces = h.unit.functions u.main h.main in
     let even = even_base p s.memory h.unit in
     let frame_is : FrameIs (function p u.main) = h.unit.frames u.main h.main in
@@ -206,11 +220,11 @@ main_entered u base s h =
       stack = third.stack ∙ ap (λ a. a - f.size) same_stack;
     }
 
-first_begins : (u : UnitCode) (base : ℕ) (s : State) (input : List ℕ) (replies : List (List Reply)) → StandsBefore u base s →
-    let p = plan_before u base in let low = stack_end - (shape p u.main).size in
+first_begins : (u : UnitCode) (base : ℕ) (tables : ℕ → ℕ) (s : State) (input : List ℕ) (replies : List (List Reply)) → StandsBefore u base tables s →
+    let p = plan_before u base tables in let low = stack_end - (shape p u.main).size in
     Begins p 0 u.main (first_world u.globals input replies) (with_value s.memory (low + return_offset) 8 (start_back p)) stack_end low (start_back p) []
-first_begins u base s input replies h =
-    let p : Plan = plan_before u base in
+first_begins u base tables s input replies h =
+    let p : Plan = plan_before u base tables in
     let f : Shape = shape p u.main in
     let low : ℕ = stack_end - f.size in
     let back : ℕ = start_back p in
@@ -219,7 +233,7 @@ first_begins u base s input replies h =
     let may : MayWrite s.memory (low + return_offset) 8 = h.may (low + return_offset) 8 (omega (arith, frame_is.small)) (omega (arith, frame_is.small, frame_is.size)) in
     let whole : back % 2 ^ 64 ≡ back = omega (arith, h.low) in
     record {
-      below = beneath_first u base s input replies (low + return_offset) back h (omega (arith, frame_is.small)) (omega (arith, frame_is.small, frame_is.size));
+      below = beneath_first u base tables s input replies (low + return_offset) back h (omega (arith, frame_is.small)) (omega (arith, frame_is.small, frame_is.size));
       known = h.main;
       frame = omega (arith, frame_is.small);
       room = omega (arith, frame_is.small);
@@ -234,15 +248,63 @@ first_begins u base s input replies h =
       };
     }
 
+-- ---- a new runtime
+
+none_live : (n slot : ℕ) → header_of (replicate n None) slot ≡ None
+none_live zero slot = refl
+none_live (suc n) zero = refl
+none_live (suc n) (suc slot) = none_live n slot
+
+none_counted : (n : ℕ) → live_count (replicate n None) ≡ 0
+none_counted zero = refl
+none_counted (suc n) = none_counted n
+
+as_many : {A : Type 0} (a : A) (n : ℕ) → length (replicate n a) ≡ n
+as_many a zero = refl
+as_many a (suc n) = ap suc (as_many a n)
+
+no_headers : (slot : ℕ) → header_of all_vacant slot ≡ None
+unfolding all_vacant
+no_headers slot = none_live slots slot
+
+no_count : live_count all_vacant ≡ 0
+unfolding all_vacant
+no_count = none_counted slots
+
+all_slots : length all_vacant ≡ slots
+unfolding all_vacant
+all_slots = let none : Option Header = None in as_many none slots
+
+none_twice : IsDistinct nat_eq []
+unfolding IsDistinct
+none_twice = tt
+
+new_exceptions : (t : Addresses) (s : State) (globals : List ℤ) (input : List ℕ) (replies : List (List Reply)) → ExceptionsMatch t [] (exceptions_in (first_world globals input replies)) (kept_by (abi.begins s input replies))
+new_exceptions t s globals input replies = record {
+  sound = record { slots = all_slots; live = refl; once = none_twice; counted = refl };
+  headers = λ slot h there. absurd (let none : Some h ≡ None = sym there ∙ no_headers slot in cc none);
+  live = λ e x there. absurd (cc there);
+  count = no_count;
+  once = tt;
+  numbers = λ e x there. absurd (cc there);
+  caught = tt;
+  uncaught = refl;
+  terminate_handler = refl;
+  unexpected_handler = refl;
+  distinct = tt;
+  left = λ e there. absurd (cc there);
+}
+
 pub main_begins : MainBegins
-main_begins image u base w input replies h same_input same_replies number quiet =
-    let p : Plan = plan_before u base in
+main_begins image u base tables s input replies h =
+    let p : Plan = plan_before u base tables in
     let m : ℕ = u.main in
     let low : ℕ = stack_end - (shape p m).size in
-    let entered = main_entered u base w.hart h in
+    let w : abi.World = abi.begins s input replies in
+    let entered = main_entered u base tables s h in
     let v : World = first_world u.globals input replies in
-    let new : List Part = with_value w.hart.memory (low + return_offset) 8 (start_back p) in
-    let all = opened_matches p 0 m v new stack_end low (start_back p) [] (first_begins u base w.hart input replies h) 1 [] (λ ints. (refl, refl)) in
+    let new : List Part = with_value s.memory (low + return_offset) 8 (start_back p) in
+    let all = opened_matches p 0 m v new stack_end low (start_back p) [] (first_begins u base tables s input replies h) 1 [] (λ ints. (refl, refl)) in
     let q : Plan = opened p m 0 low in
     let to : LinearState = first_state u input replies in
     let six : op_word (routine p m) 0 ≡ 6 = refl in
@@ -253,6 +315,13 @@ main_begins image u base w input replies h same_input same_replies number quiet 
       memory = subst (λ ps. MemoryMatches q m to.top.frame to.frames to.world ps (x entered.after sp) (start_back p)) (sym entered.memory)
           (subst (λ a. MemoryMatches q m to.top.frame to.frames to.world new a (start_back p)) (sym entered.stack) all);
     } in
-    let came = matched image q m to w (start_back p) 8 8 entered.after (omega arith) (λ some. some) entered.runs there
-    (record { input = same_input; replies = same_replies; last_number = number; terminating = quiet }) in
+    let runtime : RuntimeMatches q [] to.world w = record {
+      input = refl;
+      replies = refl;
+      last_number = refl;
+      terminating = refl;
+      exceptions = new_exceptions (addresses_of q) s u.globals input replies;
+      plan = record { live = λ e. refl; size = λ e live. absurd (cc live); ints = λ e live. absurd (cc live) };
+    } in
+    let came = matched image q m to w (start_back p) 8 8 entered.after (omega arith) (λ some. some) entered.runs there runtime in
     record { turns = came.turns; few = came.few; after = came.after; runs = came.runs; holds = came.holds }

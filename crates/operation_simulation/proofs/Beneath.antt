@@ -13,7 +13,7 @@ use Rattle.code_simulation.specs.Frames.{Reached, AddressAt, WordHolds}
 use Rattle.operation_simulation.specs.Plan.{Plan, shape, slot_kinds, setting}
 use Rattle.operation_simulation.specs.Extents.{newer, StandApart, IntsInside}
 use Rattle.operation_simulation.specs.Calls.{IsBegun, stack_end}
-use Rattle.operation_simulation.specs.Matches.{UnitStands, StackMay, StillFresh, MemoryMatches}
+use Rattle.operation_simulation.specs.Matches.{UnitStands, StackMay, StillFresh, ObjectsStand, MemoryMatches}
 use Rattle.operation_simulation.specs.Entering.{WordFits, WordsFit}
 use Rattle.operation_simulation.proofs.Keeping.{IntsHold}
 use Rattle.operation_simulation.proofs.Holding.{live_begun}
@@ -58,6 +58,7 @@ pub record Beneath (p : Plan) (v : World) (memory : List Part) (stack : ℕ) : T
   pub inside : IntsInside p v
   pub ints : IntsHold p v memory
   pub fresh : StillFresh v
+  pub objects : ObjectsStand p v memory
   pub may : StackMay memory
   pub end : stack ≤ stack_end
   pub begun : (b : Base) → p.live b ≡ true → IsBegun v b
@@ -72,9 +73,10 @@ beneath_call p n frame fs v memory stack back h = record {
   inside = h.inside;
   ints = h.top.holds.ints;
   fresh = h.fresh;
+  objects = h.objects;
   may = h.may;
   end = omega (arith, h.top.below);
-  begun = λ b live. live_begun v b frame.call h.newest (h.last b live);
+  begun = λ b live. live_begun p v b frame.call h.objects.made live h.newest (h.last b live);
   clear = λ b live. h.top.clear b live (h.last b live);
   reached = λ g inside. let r = h.top.holds.reached g inside in record { is = r.is; near = r.near };
   all_globals = h.top.holds.all_globals;

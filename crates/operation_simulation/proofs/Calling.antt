@@ -1,6 +1,6 @@
 -- A call of a compiled function is matched.
-use Rattle.std.proofs.Common.{◌≡◌, ◌∙◌, refl, sym, ap, subst, arith, ℕ, ◌+◌, ◌-◌, ◌*◌, ◌^◌, ◌<◌, ◌≤◌, List, [], ◌∷◌, ◌++◌, length, length-append, append_assoc, Option, Some, None}
-use Rattle.std.specs.Prelude.{slice_get, true}
+use Rattle.std.proofs.Common.{◌≡◌, ◌∙◌, refl, sym, ap, subst, arith, ℕ, ◌+◌, ◌-◌, ◌*◌, ◌^◌, ◌<◌, ◌≤◌, List, [], ◌∷◌, ◌++◌, length, length-append, append_assoc, Option, Some, None, inl, inr}
+use Rattle.std.specs.Prelude.{◌⊎◌, slice_get, true}
 use Rattle.rv64_isa.specs.State.{State, Part, with_value}
 use Rattle.rv64_isa.specs.Step.{x}
 use Rattle.cxa_runtime.specs.World as abi
@@ -10,7 +10,7 @@ use Rattle.region_forms.specs.World.{Address, Word, address_word, Frame, World}
 use Rattle.region_forms.specs.Evaluation.{with_some, address_of, words_in}
 use Rattle.region_forms.specs.Effect.{new_frame, new_world}
 use Rattle.linear_forms.specs.Linear.{LinearOp}
-use Rattle.linear_forms.specs.Stub.{compiled}
+use Rattle.linear_forms.specs.Stub.{Function, compiled, end_catch, call_unexpected}
 use Rattle.linear_forms.specs.Activation.{Activation, State as LinearState, goes_to, depth_of}
 use Rattle.linear_forms.specs.Machine.{step}
 use Rattle.linear_forms.specs.UnitRun.{code_of}
@@ -27,16 +27,20 @@ use Rattle.code_simulation.specs.Frames.{byte_of, Ready}
 use Rattle.code_simulation.specs.Laws.{AddressesAreComputed}
 use Rattle.code_simulation.proofs.Fetching.{pieces_split, pieces_still}
 use Rattle.code_simulation.proofs.Stepping.{steps_then}
+use Rattle.stub_simulation.specs.Stretches.{frame_size}
 use Rattle.operation_simulation.specs.Plan.{Plan, function, shape, slot_kinds, routine, first_word, setting}
+use Rattle.operation_simulation.specs.StubCalls.{DestructorWaits, UnexpectedWaits, LeavingWaits, StubWaits}
 use Rattle.operation_simulation.specs.Calls.{CallOf, call_of, stored_behind, stack_end, CallsWait, frame_of, open_bytes}
-use Rattle.operation_simulation.specs.Matches.{SameOutside, FrameIs, MemoryMatches, Matches}
+use Rattle.operation_simulation.specs.Exceptions.{LinearExceptions, addresses_of, exceptions_in, kept_by, destroyed, ExceptionsMatch, PlanHas}
+use Rattle.operation_simulation.specs.Matches.{RuntimeMatches, FrameIs, MemoryMatches, Matches}
 use Rattle.operation_simulation.specs.Operations.{Matched}
 use Rattle.operation_simulation.specs.Entering.{opened, frame_for, ObjectStands, ArgumentsStand, with_object, given_to, CallFits, CallsRun}
 use Rattle.operation_simulation.proofs.Asked.{object_stands, arguments_stand}
 use Rattle.operation_simulation.proofs.Words.{OperationAt, operation_at, word_below}
 use Rattle.operation_simulation.proofs.Matching.{Stands, stands_by, Arrives, matched}
 use Rattle.operation_simulation.proofs.Passing.{address_passed, Passes, word_passed, passes_then, arguments_pass}
-use Rattle.operation_simulation.proofs.Given.{same_beside}
+use Rattle.operation_simulation.proofs.Given.{same_beside, number_beside}
+use Rattle.operation_simulation.proofs.Closing.{destroyed_nothing}
 use Rattle.operation_simulation.proofs.Opened.{opened_matches}
 use Rattle.operation_simulation.proofs.Opening.{call_opened, waits_opened}
 use Rattle.operation_simulation.proofs.Entering.{call_step, object_passed, before, passing, CallCode, call_code_of}
@@ -91,24 +95,49 @@ all_pass addresses p n frame fs v back here (Some q) args given s h regs at code
 
 -- ---- where sp is
 
+-- one of the runtime's own functions that waits and comes back takes its frame
+stub_bytes_are : (p : Plan) (a : Activation) (v : World) (memory : List Part) (stack back outer : ℕ) → StubWaits p a v memory stack back outer → frame_of p.unit p.hidden a.function ≡ frame_size a.function
+stub_bytes_are p a v memory stack back outer h = by h.waits
+  where
+    own : (f : Function) → a.function ≡ f → frame_of p.unit p.hidden f ≡ frame_size f → frame_of p.unit p.hidden a.function ≡ frame_size a.function
+    own f is e = subst (λ g. frame_of p.unit p.hidden g ≡ frame_size g) (sym is) e
+
+    by : DestructorWaits p a v memory stack back ⊎ UnexpectedWaits p a v memory stack back ⊎ LeavingWaits p a v memory stack back → frame_of p.unit p.hidden a.function ≡ frame_size a.function
+    by (inl w) = own end_catch w.callee refl
+    by (inr (inl w)) = own call_unexpected w.callee refl
+    by (inr (inr w)) = own call_unexpected w.callee refl
+
 waiting_end : (p : Plan) (fs : List Activation) (v : World) (memory : List Part) (stack back limit : ℕ) → CallsWait p fs v memory stack back limit → stack + open_bytes p fs ≡ stack_end
 waiting_end p [] v memory stack back limit h = omega (arith, h.1)
-waiting_end p (a ∷ fs) v memory stack back limit h =
-    omega (arith, waiting_end p fs v memory (stack + (shape p h.1).size) h.2 a.frame.call h.4, ap (frame_of p) h.3.callee)
+waiting_end p (a ∷ fs) v memory stack back limit (inl h) =
+    omega (arith, waiting_end p fs v memory (stack + (shape p h.1).size) h.2 a.frame.call h.4, ap (frame_of p.unit p.hidden) h.3.callee)
+waiting_end p (a ∷ fs) v memory stack back limit (inr (inl h)) =
+    omega (arith, waiting_end p fs v memory (stack + frame_size a.function) h.0 limit h.2, stub_bytes_are p a v memory stack back h.0 h.1)
+waiting_end p (a ∷ fs) v memory stack back limit (inr (inr h)) = omega (arith, h.1, ap (frame_of p.unit p.hidden) h.0.callee)
 
 pub stack_at : (p : Plan) (n : ℕ) (st : LinearState) (w : abi.World) (back : ℕ) → Stands p n st w back → x w.hart sp + open_bytes p (st.top ∷ st.frames) ≡ stack_end
 stack_at p n st w back h =
-    omega (arith, waiting_end p st.frames st.world w.hart.memory (x w.hart sp + (shape p n).size) back st.top.frame.call h.memory.waiting, ap (frame_of p) h.runs)
+    omega (arith, waiting_end p st.frames st.world w.hart.memory (x w.hart sp + (shape p n).size) back st.top.frame.call h.memory.waiting, ap (frame_of p.unit p.hidden) h.runs)
 
 -- ---- a call
 
 pub same_next : (a b : LinearState) → goes_to a ≡ goes_to b → a ≡ b
 same_next a b e = cc e
 
-outside_enters : (p : Plan) (m : ℕ) (given : List Word) (d : ℕ) (v : World) (w : abi.World) → SameOutside v w → SameOutside (new_world (slot_kinds p m) given d v) w
-outside_enters p m given d v w h =
+runtime_enters : (p : Plan) (n m low : ℕ) (a : Activation) (fs : List Activation) (given : List Word) (d : ℕ) (v : World) (w : abi.World) → a.function ≡ compiled n → RuntimeMatches p fs v w →
+    RuntimeMatches (opened p m v.calls low) (a ∷ fs) (new_world (slot_kinds p m) given d v) w
+runtime_enters p n m low a fs given d v w callee h =
     let same = same_beside (slot_kinds p m) v.calls 0 given v in
-    record { input = h.input ∙ sym same.input; replies = h.replies ∙ sym same.replies; last_number = h.last_number ∙ sym same.last_number; terminating = h.terminating ∙ sym same.ending }
+    let u : World = new_world (slot_kinds p m) given d v in
+    record {
+      input = h.input ∙ sym same.input;
+      replies = h.replies ∙ sym same.replies;
+      last_number = h.last_number ∙ ap (λ (e : LinearExceptions). e.last_number) (sym same.kept);
+      terminating = h.terminating ∙ sym same.ending;
+      exceptions = subst (λ ds. ExceptionsMatch (addresses_of p) ds (exceptions_in u) (kept_by w)) (ap (λ ds. ds ++ destroyed fs) (sym (destroyed_nothing p n a callee)))
+          (subst (λ es. ExceptionsMatch (addresses_of p) (destroyed fs) es (kept_by w)) (sym same.kept) h.exceptions);
+      plan = subst (PlanHas (opened p m v.calls low)) (ap (λ (e : LinearExceptions). e.live) (sym same.kept)) (record { live = h.plan.live; size = h.plan.size; ints = h.plan.ints });
+    }
 
 -- where the new call is
 abbrev pub enters_to : Plan → ℕ → List Word → LinearState → LinearState
@@ -145,7 +174,8 @@ call_arrives p n st w o c given back to stood there is fits code room h to_is re
     let new_memory : List Part = with_value m1.memory (low + return_offset) 8 (address (setting p n).ground here) in
     let d : ℕ = depth_of (st.top ∷ st.frames) + 1 in
     let frame_is : FrameIs (function p m) = under.unit.frames m fits.known in
-    let all = opened_matches p n m st.world new_memory stack low (address (setting p n).ground here) given begun.1 d (st.top ∷ st.frames) (λ ints. (
+    let numbered : (d : ℕ) → st.world.last_number ≤ (new_world (slot_kinds p m) given d st.world).last_number = λ d. omega (arith, number_beside (slot_kinds p m) st.world.calls 0 given st.world) in
+    let all = opened_matches p n m st.world new_memory stack low (address (setting p n).ground here) given begun.1 d (st.top ∷ st.frames) (λ ints. inl (
       under.newest,
       n,
       back,
@@ -153,15 +183,14 @@ call_arrives p n st w o c given back to stood there is fits code room h to_is re
         callee = stood.runs;
         op = o;
         there = there;
-        call = c;
-        calls = is;
+        calls = inl (c, is);
         front = front;
         is = pieces;
         returns = omega (arith, length-append (passing (shape p n) c) (function_called (compiled m)));
-        stands = call_opened p m st.world.calls low n st.top.frame st.world (new_world (slot_kinds p m) given d st.world) new_memory stack back frame_is under.newest (omega (arith, room)) ints
+        stands = call_opened p m st.world.calls low n st.top.frame st.world (new_world (slot_kinds p m) given d st.world) new_memory stack back frame_is (numbered d) under.newest (omega (arith, room)) ints
             under.top;
       },
-      waits_opened p m st.world.calls low st.frames st.world (new_world (slot_kinds p m) given d st.world) new_memory (stack + (shape p n).size) back st.top.frame.call frame_is (omega (arith, under.newest))
+      waits_opened p m st.world.calls low st.frames st.world (new_world (slot_kinds p m) given d st.world) new_memory (stack + (shape p n).size) back st.top.frame.call frame_is (numbered d) (omega (arith, under.newest))
           (omega (arith, room)) ints under.waiting,
     )) in
     let six : op_word (routine p m) 0 ≡ 6 = refl in
@@ -221,10 +250,12 @@ call_runs addresses image p n st next w o c given back h there is given_is fits 
         let enters = callee_entered p n c.number here st.top.frame st.frames st.world back m1 (subst (λ a. MemoryMatches p n st.top.frame st.frames st.world m1.memory a back) (sym passes.stack) passes.memory)
         passes.registers passes.pc (pieces_still w.hart.memory m1.memory (setting p n).ground here (function_called (compiled c.number)) passes.written pieces) fits.known (omega (arith, room, passes.stack)) in
         let there_u = call_arrives p n st w o c given back next h there is fits code room (record { passes = passes; enters = enters }) (sym next_is) (address (setting p n).ground (here + 2)) refl below in
-        let outside = subst (λ (y : LinearState). SameOutside y.world w) next_is (outside_enters p c.number given (depth_of (st.top ∷ st.frames) + 1) st.world w h.outside) in
+        let low : ℕ = x w.hart sp - (shape p c.number).size in
+        let runtime = subst (λ (y : LinearState). RuntimeMatches (opened p c.number st.world.calls low) y.frames y.world w) next_is
+        (runtime_enters p n c.number low st.top st.frames given (depth_of (st.top ∷ st.frames) + 1) st.world w h.runs h.runtime) in
         subst (λ a. Matched image (length (linear_code (shape p n) o) + 4) w [] (λ v. Matches (opened p c.number st.world.calls a) next v)) low_is
         (matched image (opened p c.number st.world.calls (x w.hart sp - (shape p c.number).size)) c.number next w (address (setting p n).ground (here + 2)) (length (linear_code (shape p n) o) + 4) (passes.steps + 6) enters.after
-        (omega (arith, passes.most, total)) (λ some. omega arith) (steps_then passes.steps 6 w.hart m1 enters.after passes.runs enters.runs) there_u outside)
+        (omega (arith, passes.most, total)) (λ some. omega arith) (steps_then passes.steps 6 w.hart m1 enters.after passes.runs enters.runs) there_u runtime)
 
 pub calls_run : AddressesAreComputed → CallsRun
 calls_run addresses image p n st next w o c given h runs there is given_is fits e = call_runs addresses image p n st next w o c given h.back (stands_by p n st w h runs) there is given_is fits e

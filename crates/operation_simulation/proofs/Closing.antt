@@ -1,16 +1,22 @@
 -- What stands still does where calls newer than one are no longer live.
-use Rattle.std.proofs.Common.{◌≡◌, refl, ap₂, arith, ℕ, ◌+◌, ◌<◌, ◌≤◌, List, [], ◌∷◌}
+use Rattle.std.proofs.Common.{◌≡◌, ◌∙◌, refl, ap, ap₂, subst, arith, ℕ, ◌+◌, ◌<◌, ◌≤◌, List, [], ◌∷◌, ◌++◌, inl, inr}
 use Rattle.std.specs.Prelude.{◌&&◌, not, Bool, true, false}
 use Rattle.std.proofs.lemmas.Bool.Decides.{nat_tests}
 use Rattle.rv64_isa.specs.State.{Part}
 use Rattle.region_forms.specs.World.{Base, of_global, of_variable, of_exception, Word, nothing, number_word, address_word, flying, unwinding, Frame, World}
+use Rattle.cxa_runtime.specs.World as abi
+use Rattle.linear_forms.specs.Stub.{compiled}
 use Rattle.linear_forms.specs.Activation.{Activation}
 use Rattle.code_simulation.specs.Frames.{WordHolds}
+use Rattle.stub_simulation.specs.Stretches.{frame_size}
 use Rattle.operation_simulation.specs.Plan.{Plan, shape, setting}
 use Rattle.operation_simulation.specs.Extents.{newer}
 use Rattle.operation_simulation.specs.Calls.{HeldBy, CallStands, CallsWait}
-use Rattle.operation_simulation.specs.Matches.{UnitStands, MemoryMatches}
+use Rattle.operation_simulation.specs.Exceptions.{addresses_of, exceptions_in, kept_by, destroyed_by, destroyed, ExceptionsMatch}
+use Rattle.operation_simulation.specs.Matches.{UnitStands, RuntimeMatches, MemoryMatches}
 use Rattle.operation_simulation.specs.Returns.{closed}
+use Rattle.operation_simulation.proofs.StubKeeping.{stub_same, stub_stays}
+use Rattle.operation_simulation.proofs.Holding.{same_number}
 
 both_are : (a b : Bool) → (a && not b) ≡ true → (a ≡ true) × (b ≡ false)
 both_are true false e = (refl, refl)
@@ -25,10 +31,10 @@ pub live_after : (p : Plan) (c : ℕ) (b : Base) → p.live b ≡ true → newer
 live_after p c b e f = ap₂ (λ x y. x && not y) e f
 
 -- what a call holds still is live where newer calls than that one, or a later one, are over
-held_closed : (p : Plan) (c d : ℕ) (b : Base) → d ≤ c → HeldBy p d b → HeldBy (closed p c) d b
-held_closed p c d (of_global g) le h = live_after p c (of_global g) h refl
-held_closed p c d (of_variable e s) le h = (live_after p c (of_variable e s) h.0 (grind (arith, nat_tests, le, h.1)), h.1)
-held_closed p c d (of_exception e) le h = tt
+held_closed : (p : Plan) (v : World) (c d : ℕ) (b : Base) → d ≤ c → HeldBy p v d b → HeldBy (closed p c) v d b
+held_closed p v c d (of_global g) le h = live_after p c (of_global g) h refl
+held_closed p v c d (of_variable e s) le h = (live_after p c (of_variable e s) h.0 (grind (arith, nat_tests, le, h.1)), h.1)
+held_closed p v c d (of_exception e) le h = h
 
 word_closed : (p : Plan) (c n : ℕ) (memory : List Part) (a : ℕ) (word : Word) → WordHolds (setting p n) memory a word → WordHolds (setting (closed p c) n) memory a word
 word_closed p c n memory a nothing h = tt
@@ -53,7 +59,7 @@ call_closed p c n frame v memory stack back old st = record {
     all_globals = λ g inside. live_after p c _ (st.holds.all_globals g inside) refl;
   };
   slots = record { variables = st.slots.variables; whole = st.slots.whole; aligned = st.slots.aligned; ints = st.slots.ints };
-  held = λ s b inside is. held_closed p c frame.call b.base old (st.held s b inside is);
+  held = λ s b inside is. held_closed p v c frame.call b.base old (st.held s b inside is);
   saved = st.saved;
   alone = λ b live. st.alone b (live_before p c b live).0;
   clear = λ b live not_newer. st.clear b (live_before p c b live).0 not_newer;
@@ -61,8 +67,8 @@ call_closed p c n frame v memory stack back old st = record {
 
 waits_closed : (p : Plan) (c : ℕ) (fs : List Activation) (v : World) (memory : List Part) (stack back limit : ℕ) → limit ≤ c → CallsWait p fs v memory stack back limit → CallsWait (closed p c) fs v memory stack back limit
 waits_closed p c [] v memory stack back limit old h = h
-waits_closed p c (a ∷ fs) v memory stack back limit old h =
-    let w = h.3 in (
+waits_closed p c (a ∷ fs) v memory stack back limit old (inl h) =
+    let w = h.3 in inl (
       h.0,
       h.1,
       h.2,
@@ -70,7 +76,6 @@ waits_closed p c (a ∷ fs) v memory stack back limit old h =
         callee = w.callee;
         op = w.op;
         there = w.there;
-        call = w.call;
         calls = w.calls;
         front = w.front;
         is = w.is;
@@ -79,6 +84,13 @@ waits_closed p c (a ∷ fs) v memory stack back limit old h =
       },
       waits_closed p c fs v memory (stack + (shape p h.1).size) h.2 a.frame.call (omega (arith, h.0, old)) h.4,
     )
+waits_closed p c (a ∷ fs) v memory stack back limit old (inr (inl h)) = inr (inl (
+  h.0,
+  stub_stays p (closed p c) v v memory memory a stack back (record { base = refl; tables = λ n. refl; object = λ e le. refl }) (same_number v) (stub_same a.function stack memory) h.0
+      (λ b live. h.1.stands.alone b (live_before p c b live).0) h.1,
+  waits_closed p c fs v memory (stack + frame_size a.function) h.0 limit old h.2,
+))
+waits_closed p c (a ∷ fs) v memory stack back limit old (inr (inr h)) = inr (inr h)
 
 -- the call that waits is the newest again
 pub popped : (p : Plan) (n m : ℕ) (frame : Frame) (a : Activation) (fs : List Activation) (v : World) (memory : List Part) (stack back outer : ℕ) → MemoryMatches p n frame (a ∷ fs) v memory stack back →
@@ -100,8 +112,39 @@ popped p n m frame a fs v memory stack back outer h less stands waiting =
       may = h.may;
       last = λ b live. (live_before p c b live).1;
       fresh = h.fresh;
+      objects = record {
+        may = h.objects.may;
+        made = λ e live. h.objects.made e (live_before p c (of_exception e) live).0;
+        fresh = h.objects.fresh;
+        away = λ b live. h.objects.away b (live_before p c b live).0;
+      };
       unit = unit_closed p c memory h.unit;
     }
   where
     unit_closed : (p : Plan) (c : ℕ) (memory : List Part) → UnitStands p memory → UnitStands (closed p c) memory
-    unit_closed p c memory h = record { few = h.few; short = h.short; frames = h.frames; registers = h.registers; start = h.start; functions = h.functions }
+    unit_closed p c memory h = record { few = h.few; short = h.short; frames = h.frames; registers = h.registers; stubs = h.stubs; functions = h.functions }
+
+-- ---- what the runtime keeps
+
+-- no destructor of an exception's object waits for a compiled function's call
+pub destroyed_nothing : (p : Plan) (m : ℕ) (a : Activation) → a.function ≡ compiled m → destroyed_by a.function a.frame ≡ []
+destroyed_nothing p m a callee = ap (λ f. destroyed_by f a.frame) callee
+
+-- exceptions that are live stay so
+still_live : (b : Bool) → (b && not false) ≡ b
+still_live true = refl
+still_live false = refl
+
+pub runtime_popped : (p : Plan) (c : ℕ) (a : Activation) (fs : List Activation) (v : World) (w : abi.World) → RuntimeMatches p (a ∷ fs) v w → destroyed_by a.function a.frame ≡ [] → RuntimeMatches (closed p c) fs v w
+runtime_popped p c a fs v w h none = record {
+  input = h.input;
+  replies = h.replies;
+  last_number = h.last_number;
+  terminating = h.terminating;
+  exceptions = subst (λ ds. ExceptionsMatch (addresses_of p) ds (exceptions_in v) (kept_by w)) (ap (λ ds. ds ++ destroyed fs) none) h.exceptions;
+  plan = record {
+    live = λ e. still_live (p.live (of_exception e)) ∙ h.plan.live e;
+    size = λ e live. h.plan.size e (live_before p c (of_exception e) live).0;
+    ints = λ e live. h.plan.ints e (live_before p c (of_exception e) live).0;
+  };
+}

@@ -137,7 +137,7 @@ exits : CallsAreTurns → (image : Image) (pick : ℕ → ℕ) (k : ℕ) (p : Pl
 exits turns image pick k p w z unit h some =
     let g : Ground = routine_ground p.unit p.base (λ t. stub_target t) 0 start_routine in
     let t : State = h.after in
-    let code : PiecesAt w.hart.memory g 2 (runtime_call exit_call) = (unit.start.1.1.0, (unit.start.1.1.1.0, tt)) in
+    let code : PiecesAt w.hart.memory g 2 (runtime_call exit_call) = (unit.stubs.start.1.1.0, (unit.stubs.start.1.1.1.0, tt)) in
     let at = turns.call g 2 0 t (omega arith) (subst (λ ps. PiecesAt ps g 2 (runtime_call exit_call)) (sym h.memory) code) h.pc h.registers in
     let steps : ℕ = h.steps + 1 in
     let ran = executes_turns image steps w w.hart at.called refl (steps_then h.steps 1 w.hart t at.called h.runs at.first) in
@@ -155,5 +155,5 @@ mains_end turns image pick k p n st w r z v h runs there frames result e some =
     let stood = stands_by p n st w h runs in
     let waiting : CallsWait p [] st.world w.hart.memory (x w.hart sp + (shape p n).size) h.back st.top.frame.call
     = subst (λ gs. CallsWait p gs st.world w.hart.memory (x w.hart sp + (shape p n).size) h.back st.top.frame.call) frames stood.memory.waiting in
-    let small : h.back < 2 ^ 64 = omega (arith, waiting.0, stood.memory.unit.start.1.1.0.word.below) in
+    let small : h.back < 2 ^ 64 = omega (arith, waiting.0, stood.memory.unit.stubs.start.1.1.0.word.below) in
     exits turns image pick k p w z stood.memory.unit (back_at_start p n st w h.back r z stood there result (end_value p n st r z v runs there frames e) waiting.0 small) some

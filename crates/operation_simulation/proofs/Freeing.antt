@@ -3,15 +3,18 @@ use Rattle.std.proofs.Common.{◌≡◌, refl, arith, ℕ, ◌+◌, ◌≤◌, L
 use Rattle.std.specs.Prelude.{◌⊎◌, true}
 use Rattle.rv64_isa.specs.State.{Part, with_value}
 use Rattle.region_forms.specs.World.{Base, Frame, World}
+use Rattle.linear_forms.specs.Stub.{Function}
 use Rattle.linear_forms.specs.Activation.{Activation}
 use Rattle.emission_forms.specs.Shape.{slot_offset, return_offset}
 use Rattle.code_simulation.specs.Memory.{Apart, Written}
 use Rattle.code_simulation.proofs.Storing.{value_written, may_still}
+use Rattle.stub_simulation.specs.Stretches.{frame_size}
 use Rattle.operation_simulation.specs.Plan.{Plan, shape, setting}
 use Rattle.operation_simulation.specs.Calls.{CallStands, CallsWait}
 use Rattle.operation_simulation.specs.Matches.{MemoryMatches}
 use Rattle.operation_simulation.proofs.Keeping.{IntsHold, int_stays, word_stays, address_stays}
-use Rattle.operation_simulation.proofs.Holding.{unit_stays, stack_stays}
+use Rattle.operation_simulation.proofs.StubKeeping.{StubKeeps, stub_stays}
+use Rattle.operation_simulation.proofs.Holding.{unit_stays, stack_stays, objects_stay, same_number}
 
 -- bytes of the stack below a place
 pub record IsFree (stack a k : ℕ) : Type 0 where
@@ -55,11 +58,18 @@ free_call p n frame v memory stack back a k value live free ints st = record {
   clear = st.clear;
 }
 
+-- the frame of one of the runtime's own functions from that place on
+free_stub : (memory : List Part) (stack a k value : ℕ) (f : Function) → IsFree stack a k → StubKeeps f stack memory (with_value memory a k value)
+free_stub memory stack a k value f free = record {
+  address = λ o b inside there. address_stays memory a k value (stack + o) b (above_apart stack a k (stack + o) 8 free (inr (omega arith))) there;
+  int = λ o z inside there. int_stays memory a k value (stack + o) z (above_apart stack a k (stack + o) 4 free (inr (omega arith))) there;
+}
+
 pub free_waits : (p : Plan) (fs : List Activation) (v : World) (memory : List Part) (stack back limit a k value : ℕ) → LiveApart p a k → IntsHold p v (with_value memory a k value) → IsFree stack a k →
     CallsWait p fs v memory stack back limit → CallsWait p fs v (with_value memory a k value) stack back limit
 free_waits p [] v memory stack back limit a k value live ints free h = h
-free_waits p (c ∷ fs) v memory stack back limit a k value live ints free h =
-    let w = h.3 in (
+free_waits p (c ∷ fs) v memory stack back limit a k value live ints free (inl h) =
+    let w = h.3 in inl (
       h.0,
       h.1,
       h.2,
@@ -67,7 +77,6 @@ free_waits p (c ∷ fs) v memory stack back limit a k value live ints free h =
         callee = w.callee;
         op = w.op;
         there = w.there;
-        call = w.call;
         calls = w.calls;
         front = w.front;
         is = w.is;
@@ -76,6 +85,12 @@ free_waits p (c ∷ fs) v memory stack back limit a k value live ints free h =
       },
       free_waits p fs v memory (stack + (shape p h.1).size) h.2 c.frame.call a k value live ints (record { low = free.low; high = omega (arith, free.high) }) h.4,
     )
+free_waits p (c ∷ fs) v memory stack back limit a k value live ints free (inr (inl h)) = inr (inl (
+  h.0,
+  stub_stays p p v v memory (with_value memory a k value) c stack back (record { base = refl; tables = λ n. refl; object = λ e le. refl }) (same_number v) (free_stub memory stack a k value c.function free) h.0 h.1.stands.alone h.1,
+  free_waits p fs v memory (stack + frame_size c.function) h.0 limit a k value live ints (record { low = free.low; high = omega (arith, free.high) }) h.2,
+))
+free_waits p (c ∷ fs) v memory stack back limit a k value live ints free (inr (inr h)) = inr (inr h)
 
 pub free_matches : (p : Plan) (n : ℕ) (frame : Frame) (fs : List Activation) (v : World) (memory : List Part) (stack back a k value : ℕ) → MemoryMatches p n frame fs v memory stack back → IsFree stack a k →
     MemoryMatches p n frame fs v (with_value memory a k value) stack back
@@ -99,5 +114,6 @@ free_matches p n frame fs v memory stack back a k value h free =
       may = stack_stays memory new w h.may;
       last = h.last;
       fresh = h.fresh;
+      objects = objects_stay p v memory new w h.objects;
       unit = unit_stays p memory new w h.unit;
     }

@@ -5,6 +5,7 @@ use Rattle.std.proofs.lemmas.Bool.Decides.{nat_tests}
 use Rattle.region_forms.specs.Form.{SlotKind, int_slot, address_slot, object_slot, help_slot, Kinds}
 use Rattle.region_forms.specs.World.{of_variable, Address, Word, nothing, number_word, address_word, flying, unwinding, Frame, World, same_address}
 use Rattle.region_forms.specs.Effect.{passed_to, int_passed_to, frame_passed, world_passed}
+use Rattle.operation_simulation.specs.Exceptions.{LinearExceptions, exceptions_in}
 use Rattle.operation_simulation.proofs.Bases.{address_is}
 
 call_kept : (k : SlotKind) (s : ℕ) (x : Word) (f : Frame) → (passed_to k s x f).call ≡ f.call
@@ -74,22 +75,22 @@ pub record SameBeside (v u : World) : Type 0 where
   pub calls : u.calls ≡ v.calls
   pub input : u.input ≡ v.input
   pub replies : u.replies ≡ v.replies
-  pub last_number : u.last_number ≡ v.last_number
+  pub kept : exceptions_in u ≡ exceptions_in v
   pub ending : u.ending ≡ v.ending
   pub items : u.items ≡ v.items
 
 same_one : (k : SlotKind) (c s : ℕ) (x : Word) (v : World) → SameBeside v (int_passed_to k c s x v)
-same_one int_slot c s (number_word y) v = record { calls = refl; input = refl; replies = refl; last_number = refl; ending = refl; items = refl }
-same_one int_slot c s nothing v = record { calls = refl; input = refl; replies = refl; last_number = refl; ending = refl; items = refl }
-same_one int_slot c s (address_word b) v = record { calls = refl; input = refl; replies = refl; last_number = refl; ending = refl; items = refl }
-same_one int_slot c s (flying d t) v = record { calls = refl; input = refl; replies = refl; last_number = refl; ending = refl; items = refl }
-same_one int_slot c s (unwinding n) v = record { calls = refl; input = refl; replies = refl; last_number = refl; ending = refl; items = refl }
-same_one address_slot c s x v = record { calls = refl; input = refl; replies = refl; last_number = refl; ending = refl; items = refl }
-same_one object_slot c s x v = record { calls = refl; input = refl; replies = refl; last_number = refl; ending = refl; items = refl }
-same_one help_slot c s x v = record { calls = refl; input = refl; replies = refl; last_number = refl; ending = refl; items = refl }
+same_one int_slot c s (number_word y) v = record { calls = refl; input = refl; replies = refl; kept = refl; ending = refl; items = refl }
+same_one int_slot c s nothing v = record { calls = refl; input = refl; replies = refl; kept = refl; ending = refl; items = refl }
+same_one int_slot c s (address_word b) v = record { calls = refl; input = refl; replies = refl; kept = refl; ending = refl; items = refl }
+same_one int_slot c s (flying d t) v = record { calls = refl; input = refl; replies = refl; kept = refl; ending = refl; items = refl }
+same_one int_slot c s (unwinding n) v = record { calls = refl; input = refl; replies = refl; kept = refl; ending = refl; items = refl }
+same_one address_slot c s x v = record { calls = refl; input = refl; replies = refl; kept = refl; ending = refl; items = refl }
+same_one object_slot c s x v = record { calls = refl; input = refl; replies = refl; kept = refl; ending = refl; items = refl }
+same_one help_slot c s x v = record { calls = refl; input = refl; replies = refl; kept = refl; ending = refl; items = refl }
 
 pub same_beside : (kinds : Kinds) (c i : ℕ) (given : List Word) (v : World) → SameBeside v (world_passed kinds c i given v)
-same_beside kinds c i [] v = record { calls = refl; input = refl; replies = refl; last_number = refl; ending = refl; items = refl }
+same_beside kinds c i [] v = record { calls = refl; input = refl; replies = refl; kept = refl; ending = refl; items = refl }
 same_beside kinds c i (x ∷ given) v =
     let one = same_one (kinds i) c i x v in
     let rest = same_beside kinds c (i + 1) given (int_passed_to (kinds i) c i x v) in
@@ -97,7 +98,10 @@ same_beside kinds c i (x ∷ given) v =
       calls = rest.calls ∙ one.calls;
       input = rest.input ∙ one.input;
       replies = rest.replies ∙ one.replies;
-      last_number = rest.last_number ∙ one.last_number;
+      kept = rest.kept ∙ one.kept;
       ending = rest.ending ∙ one.ending;
       items = rest.items ∙ one.items;
     }
+
+pub number_beside : (kinds : Kinds) (c i : ℕ) (given : List Word) (v : World) → (world_passed kinds c i given v).last_number ≡ v.last_number
+number_beside kinds c i given v = ap (λ (e : LinearExceptions). e.last_number) (same_beside kinds c i given v).kept

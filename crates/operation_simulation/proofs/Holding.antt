@@ -7,9 +7,10 @@ use Rattle.region_forms.specs.World.{Base, of_global, of_variable, of_exception,
 use Rattle.region_forms.specs.WellFormed.{is_variable}
 use Rattle.region_forms.specs.Evaluation.{Location, in_memory, in_frame}
 use Rattle.region_forms.specs.Effect.{goes, stored_at}
+use Rattle.linear_forms.specs.Stub.{Function, end_catch, terminating, call_unexpected}
 use Rattle.linear_forms.specs.Activation.{Activation}
 use Rattle.emission_forms.specs.Shape.{slot_offset, return_offset}
-use Rattle.emission_forms.specs.StubCode.{start_routine}
+use Rattle.emission_forms.specs.StubCode.{start_routine, stub_first, stub_routine}
 use Rattle.emission_forms.specs.Emitted.{stub_target}
 use Rattle.code_simulation.specs.Memory.{Holds, MayWrite, Written}
 use Rattle.code_simulation.specs.Numbers.{IsInt, extended}
@@ -18,13 +19,14 @@ use Rattle.code_simulation.specs.Frames.{byte_of, IntAt, AddressAt, WordHolds, l
 use Rattle.code_simulation.proofs.Numbers.{int_stored}
 use Rattle.code_simulation.proofs.Storing.{four_stored, eight_stored, may_still}
 use Rattle.code_simulation.proofs.Fetching.{pieces_still}
+use Rattle.stub_simulation.specs.Stretches.{stub_ground, StubAt}
 use Rattle.operation_simulation.specs.Plan.{Plan, shape, slot_kinds, setting, routine, first_word}
 use Rattle.operation_simulation.specs.Extents.{newer, IntsInside, LocationStands}
 use Rattle.operation_simulation.specs.Calls.{HeldBy, IsBegun, CallStands}
-use Rattle.operation_simulation.specs.Matches.{UnitStands, StackMay, StillFresh, MemoryMatches}
+use Rattle.operation_simulation.specs.Matches.{UnitStands, StackMay, StillFresh, ObjectsStand, MemoryMatches}
 use Rattle.operation_simulation.specs.Laws.{StoresStayApart}
 use Rattle.operation_simulation.proofs.Bases.{true_is_not, address_is}
-use Rattle.operation_simulation.proofs.Keeping.{Store, place_of, after, StoreFits, store_written, IntsHold, ints_stay, int_store, ints_written, inside_written, apart_stays, slot_stays, address_stays, call_stays, other_by_ints, waits_stay}
+use Rattle.operation_simulation.proofs.Keeping.{Store, place_of, after, StoreFits, store_written, IntsHold, ints_stay, int_store, ints_written, inside_written, apart_stays, slot_stays, address_stays, call_stays, other_by_ints, stub_kept, waits_stay}
 
 -- ---- code and the stack
 
@@ -34,12 +36,40 @@ unit_stays p old new w h = record {
   short = h.short;
   frames = h.frames;
   registers = h.registers;
-  start = pieces_still old new (routine_ground p.unit p.base (λ t. stub_target t) 0 start_routine) 0 (routine_pieces start_routine) w h.start;
+  stubs = record {
+    start = pieces_still old new (routine_ground p.unit p.base (λ t. stub_target t) 0 start_routine) 0 (routine_pieces start_routine) w h.stubs.start;
+    terminate = stub_still terminating h.stubs.terminate;
+    end_catch = stub_still end_catch h.stubs.end_catch;
+    call_unexpected = stub_still call_unexpected h.stubs.call_unexpected;
+  };
   functions = λ n known. pieces_still old new (setting p n).ground (first_word p n) (routine_pieces (routine p n)) w (h.functions n known);
 }
+  where
+    stub_still : (f : Function) → StubAt p.unit p.base f old → StubAt p.unit p.base f new
+    stub_still f at = pieces_still old new (stub_ground p.unit p.base f) (stub_first f) (routine_pieces (stub_routine f)) w at
 
 pub stack_stays : (old new : List Part) → Written old new → StackMay old → StackMay new
 stack_stays old new w h a n low high = may_still old new a n w (h a n low high)
+
+-- ---- exception objects
+
+pub objects_stay : (p : Plan) (v : World) (old new : List Part) → Written old new → ObjectsStand p v old → ObjectsStand p v new
+objects_stay p v old new w h = record { may = λ a n low high. may_still old new a n w (h.may a n low high); made = h.made; fresh = h.fresh; away = h.away }
+
+-- what is written is of an exception that was made
+objects_written : (p : Plan) (a : Address) (z : ℤ) (v : World) (memory : List Part) → p.live a.base ≡ true → ObjectsStand p v memory → ObjectsStand p (written a z v) memory
+objects_written p a z v memory live h = record { may = h.may; made = h.made; fresh = λ e o new. fresh_at e o new (same_address a (record { base = of_exception e; offset = o })) refl; away = h.away }
+  where
+    fresh_at : (e o : ℕ) → v.last_number < e → (t : Bool) → same_address a (record { base = of_exception e; offset = o }) ≡ t →
+        (if t then Some z else v.memory (record { base = of_exception e; offset = o })) ≡ None
+    fresh_at e o new false is = h.fresh e o new
+    fresh_at e o new true is =
+        let same : a.base ≡ of_exception e = ap (λ (b : Address). b.base) (address_is a (record { base = of_exception e; offset = o }) is) in
+        absurd (omega (arith, new, h.made e (ap p.live (sym same) ∙ live)))
+
+-- as many exceptions have been made
+pub same_number : (v : World) → v.last_number ≤ v.last_number
+same_number v = omega arith
 
 -- ---- an int among ints
 
@@ -64,15 +94,16 @@ int_matches p n frame fs v memory stack back a z h int live ints fits aligned =
     let w : Written memory new = store_written p memory c ok in
     let all : IntsHold p u new = ints_written p memory a z v ok h.inside int aligned h.top.holds.ints in
     record {
-      top = call_stays p n frame v u memory stack back c ok (other_by_ints p n frame c h.top.slots ints) all h.top;
+      top = call_stays p n frame v u memory stack back c (same_number v) ok (other_by_ints p n frame c h.top.slots ints) all h.top;
       newest = h.newest;
-      waiting = waits_stay p fs v u memory new (stack + (shape p n).size) back frame.call
-          (λ m g s b less st. call_stays p m g v u memory s b c ok (other_by_ints p m g c st.slots ints) all st) h.waiting;
+      waiting = waits_stay p fs v u memory new (stack + (shape p n).size) back frame.call (same_number v) (stub_kept p memory c ok)
+          (λ m g s b less st. call_stays p m g v u memory s b c (same_number v) ok (other_by_ints p m g c st.slots ints) all st) h.waiting;
       apart = apart_stays p memory c ok;
       inside = inside_written p a z v h.inside ints fits;
       may = stack_stays memory new w h.may;
       last = h.last;
       fresh = fresh_written a z v frame.call h.newest (h.last a.base live) h.fresh;
+      objects = objects_written p a z v new live (objects_stay p v memory new w h.objects);
       unit = unit_stays p memory new w h.unit;
     }
 
@@ -84,7 +115,7 @@ slot_store p frame s size value = record { base = of_variable frame.call s; offs
 
 pub slot_set : (p : Plan) (n : ℕ) (frame : Frame) (v : World) (memory : List Part) (stack back s size value : ℕ) (word : Word) → CallStands p n frame v memory stack back → IntsInside p v →
     s < length (shape p n).slots → is_variable (slot_kinds p n s) ≡ false → StoreFits p memory (slot_store p frame s size value) →
-    WordHolds (setting p n) (after p (slot_store p frame s size value) memory) (stack + slot_offset (shape p n) s) word → ((b : Address) → address_in word ≡ Some b → HeldBy p frame.call b.base) →
+    WordHolds (setting p n) (after p (slot_store p frame s size value) memory) (stack + slot_offset (shape p n) s) word → ((b : Address) → address_in word ≡ Some b → HeldBy p v frame.call b.base) →
     CallStands p n (with_slot s word frame) v (after p (slot_store p frame s size value) memory) stack back
 slot_set p n frame v memory stack back s size value word st inside there plain ok new_word new_held = record {
   known = st.known;
@@ -134,7 +165,7 @@ slot_set p n frame v memory stack back s size value word st inside there plain o
         absurd (true_is_not (is_variable (slot_kinds p n t)) variable (ap (λ k. is_variable (slot_kinds p n k)) (sym eq) ∙ plain))
     variable_at t in_range variable false e = st.slots.variables t in_range variable
 
-    held_at : (t : ℕ) (b : Address) → t < length (shape p n).slots → (e : Bool) → address_in (if e then word else frame.slots t) ≡ Some b → HeldBy p frame.call b.base
+    held_at : (t : ℕ) (b : Address) → t < length (shape p n).slots → (e : Bool) → address_in (if e then word else frame.slots t) ≡ Some b → HeldBy p v frame.call b.base
     held_at t b in_range true is = new_held b is
     held_at t b in_range false is = st.held t b in_range is
 
@@ -145,7 +176,7 @@ older c d s t less e = let same : d ≡ c = cc e in omega (arith, less, same)
 pub slot_matches : (p : Plan) (n : ℕ) (frame : Frame) (fs : List Activation) (v : World) (memory : List Part) (stack back s size value : ℕ) (word : Word) → MemoryMatches p n frame fs v memory stack back →
     s < length (shape p n).slots → is_variable (slot_kinds p n s) ≡ false → size ≤ 8 →
     WordHolds (setting p n) (with_value memory (stack + slot_offset (shape p n) s) size value) (stack + slot_offset (shape p n) s) word →
-    ((b : Address) → address_in word ≡ Some b → HeldBy p frame.call b.base) → MemoryMatches p n (with_slot s word frame) fs v (with_value memory (stack + slot_offset (shape p n) s) size value) stack back
+    ((b : Address) → address_in word ≡ Some b → HeldBy p v frame.call b.base) → MemoryMatches p n (with_slot s word frame) fs v (with_value memory (stack + slot_offset (shape p n) s) size value) stack back
 slot_matches p n frame fs v memory stack back s size value word h there plain few new_word new_held =
     let c : Store = slot_store p frame s size value in
     let place : p.at (of_variable frame.call s) + 0 ≡ stack + slot_offset (shape p n) s = omega (arith, h.top.holds.variables s there) in
@@ -160,13 +191,14 @@ slot_matches p n frame fs v memory stack back s size value word h there plain fe
     subst (λ ps. MemoryMatches p n (with_slot s word frame) fs v ps stack back) same (record {
       top = slot_set p n frame v memory stack back s size value word h.top h.inside there plain ok word_there new_held;
       newest = h.newest;
-      waiting = waits_stay p fs v v memory new (stack + (shape p n).size) back frame.call
-          (λ m g k b less st. call_stays p m g v v memory k b c ok (λ t inside e. absurd (older g.call frame.call s t less e)) all st) h.waiting;
+      waiting = waits_stay p fs v v memory new (stack + (shape p n).size) back frame.call (same_number v) (stub_kept p memory c ok)
+          (λ m g k b less st. call_stays p m g v v memory k b c (same_number v) ok (λ t inside e. absurd (older g.call frame.call s t less e)) all st) h.waiting;
       apart = apart_stays p memory c ok;
       inside = h.inside;
       may = stack_stays memory new w h.may;
       last = h.last;
       fresh = h.fresh;
+      objects = objects_stay p v memory new w h.objects;
       unit = unit_stays p memory new w h.unit;
     })
 
@@ -229,16 +261,16 @@ location_matches p n frame new_frame fs v new_world memory stack back (in_frame 
     (slot_matches p n frame fs v memory stack back s 4 (extended z) (number_word z) h ok.0 ok.1 (omega arith) there (λ b none. absurd (cc none))))
 
 -- what is of no newer call than one that has begun has begun
-pub live_begun : (v : World) (b : Base) (top : ℕ) → top < v.calls → newer top b ≡ false → IsBegun v b
-live_begun v (of_global g) top begun old = tt
-live_begun v (of_variable c s) top begun old = grind (arith, nat_tests, begun, old)
-live_begun v (of_exception e) top begun old = tt
+pub live_begun : (p : Plan) (v : World) (b : Base) (top : ℕ) → ((e : ℕ) → p.live (of_exception e) ≡ true → e ≤ v.last_number) → p.live b ≡ true → top < v.calls → newer top b ≡ false → IsBegun v b
+live_begun p v (of_global g) top made live begun old = tt
+live_begun p v (of_variable c s) top made live begun old = grind (arith, nat_tests, begun, old)
+live_begun p v (of_exception e) top made live begun old = made e live
 
 -- and what is live in no newer call may be held
-pub held_by_live : (p : Plan) (c : ℕ) (b : Base) → p.live b ≡ true → newer c b ≡ false → HeldBy p c b
-held_by_live p c (of_global g) live old = live
-held_by_live p c (of_variable d s) live old = (live, grind (arith, nat_tests, old))
-held_by_live p c (of_exception e) live old = tt
+pub held_by_live : (p : Plan) (v : World) (c : ℕ) (b : Base) → ((e : ℕ) → p.live (of_exception e) ≡ true → e ≤ v.last_number) → p.live b ≡ true → newer c b ≡ false → HeldBy p v c b
+held_by_live p v c (of_global g) made live old = live
+held_by_live p v c (of_variable d s) made live old = (live, grind (arith, nat_tests, old))
+held_by_live p v c (of_exception e) made live old = made e live
 
 -- an address is put in a slot
 pub address_matches : (p : Plan) (n : ℕ) (frame : Frame) (fs : List Activation) (v : World) (memory : List Part) (stack back s : ℕ) (b : Address) → MemoryMatches p n frame fs v memory stack back →
@@ -255,14 +287,14 @@ address_matches p n frame fs v memory stack back s b h there plain small live =
       below = omega (arith, bounds.1);
       holds = subst (Holds new place 8) whole (eight_stored memory place value (slot_may p n frame fs v memory stack back s 8 h there plain (omega arith)));
     } in
-    slot_matches p n frame fs v memory stack back s 8 value (address_word b) h there plain (omega arith) held (λ d is. let same : b ≡ d = cc is in subst (λ (k : Address). HeldBy p frame.call k.base) same (held_by_live p frame.call b.base live (h.last b.base live)))
+    slot_matches p n frame fs v memory stack back s 8 value (address_word b) h there plain (omega arith) held (λ d is. let same : b ≡ d = cc is in subst (λ (k : Address). HeldBy p v frame.call k.base) same (held_by_live p v frame.call b.base h.objects.made live (h.last b.base live)))
 
 pub stores_stay_apart : StoresStayApart
 stores_stay_apart = record {
   others = λ p n frame v memory stack back b o size value apart inside live none fits other st.
       let c : Store = record { base = b; offset = o; size = size; value = value } in
       let ok : StoreFits p memory c = record { apart = apart; live = live; inside = fits } in
-      call_stays p n frame v v memory stack back c ok other (ints_stay p memory c v ok inside none st.holds.ints) st;
+      call_stays p n frame v v memory stack back c (same_number v) ok other (ints_stay p memory c v ok inside none st.holds.ints) st;
   int = λ p n frame new_frame fs v new_world memory stack back l z h int ok e. location_matches p n frame new_frame fs v new_world memory stack back l z h int ok e;
   address = λ p n frame fs v memory stack back s b h there plain small live. address_matches p n frame fs v memory stack back s b h there plain small live;
 }

@@ -4,16 +4,20 @@ use Rattle.std.specs.Prelude.{◌⊎◌, Bool, true, false, if◌then◌else◌}
 use Rattle.rv64_isa.specs.State.{Part, with_value}
 use Rattle.region_forms.specs.World.{Base, of_global, of_variable, of_exception, Address, Word, nothing, number_word, address_word, flying, unwinding, Frame, World, object_address, same_address, written}
 use Rattle.region_forms.specs.WellFormed.{is_variable}
+use Rattle.linear_forms.specs.Stub.{Function}
 use Rattle.linear_forms.specs.Activation.{Activation}
 use Rattle.emission_forms.specs.Shape.{slot_offset, return_offset}
 use Rattle.code_simulation.specs.Memory.{Holds, MayWrite, Apart, Written}
 use Rattle.code_simulation.specs.Numbers.{IsInt, int_bits, extended}
 use Rattle.code_simulation.specs.Frames.{Setting, byte_of, IntAt, AddressAt, WordHolds, FrameHolds}
+use Rattle.stub_simulation.specs.Stretches.{frame_size}
 use Rattle.code_simulation.proofs.Numbers.{int_stored}
 use Rattle.code_simulation.proofs.Storing.{holds_apart, four_stored, may_still, value_written}
 use Rattle.operation_simulation.specs.Plan.{Plan, shape, slot_kinds, setting}
 use Rattle.operation_simulation.specs.Extents.{StandApart, IntsInside, SlotsStand}
-use Rattle.operation_simulation.specs.Calls.{IsBegun, CallStands, CallsWait}
+use Rattle.operation_simulation.specs.StubCalls.{StubStands}
+use Rattle.operation_simulation.specs.Calls.{HeldBy, CallStands, CallsWait}
+use Rattle.operation_simulation.proofs.StubKeeping.{StubKeeps, stub_stays}
 use Rattle.operation_simulation.proofs.Bases.{true_is_not, base_cases, address_is, address_is_not}
 
 -- some bytes of one thing get a number
@@ -139,11 +143,11 @@ apart_stays p memory c h = record {
 
 -- ---- open calls
 
--- what has begun has begun later
-pub begun_still : (v u : World) (b : Base) → v.calls ≤ u.calls → IsBegun v b → IsBegun u b
-begun_still v u (of_global g) later h = tt
-begun_still v u (of_variable c s) later h = omega (arith, h, later)
-begun_still v u (of_exception e) later h = tt
+-- what a call holds it holds when more exceptions have been made
+pub held_later : (p : Plan) (v u : World) (c : ℕ) (b : Base) → v.last_number ≤ u.last_number → HeldBy p v c b → HeldBy p u c b
+held_later p v u c (of_global g) later h = h
+held_later p v u c (of_variable d s) later h = h
+held_later p v u c (of_exception e) later h = omega (arith, h, later)
 
 -- no slot that begins where the store is holds a word
 abbrev pub IsOther : Plan → ℕ → Store → Frame → Type 0
@@ -167,9 +171,9 @@ slot_stays p n frame v memory stack s c holds slots h other inside = by (is_vari
         (other_apart p memory c (of_variable frame.call s) (stack + slot_offset (shape p n) s) 0 8 h (holds.own s inside) ne (omega (arith, holds.variables s inside)) (omega (arith, slots.whole s inside e)))
         (holds.slots s inside)
 
-pub call_stays : (p : Plan) (n : ℕ) (frame : Frame) (v u : World) (memory : List Part) (stack back : ℕ) (c : Store) → StoreFits p memory c → IsOther p n c frame → IntsHold p u (after p c memory) →
-    CallStands p n frame v memory stack back → CallStands p n frame u (after p c memory) stack back
-call_stays p n frame v u memory stack back c h other ints st = record {
+pub call_stays : (p : Plan) (n : ℕ) (frame : Frame) (v u : World) (memory : List Part) (stack back : ℕ) (c : Store) → v.last_number ≤ u.last_number → StoreFits p memory c → IsOther p n c frame →
+    IntsHold p u (after p c memory) → CallStands p n frame v memory stack back → CallStands p n frame u (after p c memory) stack back
+call_stays p n frame v u memory stack back c later h other ints st = record {
   known = st.known;
   small = st.small;
   above = st.above;
@@ -184,7 +188,7 @@ call_stays p n frame v u memory stack back c h other ints st = record {
     all_globals = st.holds.all_globals;
   };
   slots = st.slots;
-  held = st.held;
+  held = λ s b inside is. held_later p v u frame.call b.base later (st.held s b inside is);
   saved = address_stays memory (place_of p c) c.size c.value (stack + return_offset) back (saved_apart st) st.saved;
   alone = st.alone;
   clear = st.clear;
@@ -199,15 +203,32 @@ other_by_ints p n frame c slots ints s inside same = slots.variables s inside (s
 
 -- ---- calls that wait
 
-pub waits_stay : (p : Plan) (fs : List Activation) (v u : World) (old new : List Part) (stack back limit : ℕ) →
+-- the frame of one of the runtime's own functions is apart from the store
+pub stub_kept : (p : Plan) (memory : List Part) (c : Store) → StoreFits p memory c → (f : Function) (stack back : ℕ) → StubStands p f memory stack back → StubKeeps f stack memory (after p c memory)
+stub_kept p memory c h f stack back st = record {
+  address = λ o b inside there. address_stays memory (place_of p c) c.size c.value (stack + o) b (out o 8 inside) there;
+  int = λ o z inside there. int_stays memory (place_of p c) c.size c.value (stack + o) z (out o 4 inside) there;
+}
+  where
+    out : (o k : ℕ) → o + k ≤ frame_size f → Apart (place_of p c) c.size (stack + o) k
+    out o k inside i j hi hj e = st.alone c.base h.live (c.offset + i) (o + j) (omega (arith, h.inside, hi)) (omega (arith, inside, hj)) (omega (arith, e))
+
+pub waits_stay : (p : Plan) (fs : List Activation) (v u : World) (old new : List Part) (stack back limit : ℕ) → v.last_number ≤ u.last_number →
+    ((f : Function) (stack back : ℕ) → StubStands p f old stack back → StubKeeps f stack old new) →
     ((n : ℕ) (frame : Frame) (stack back : ℕ) → frame.call < limit → CallStands p n frame v old stack back → CallStands p n frame u new stack back) →
     CallsWait p fs v old stack back limit → CallsWait p fs u new stack back limit
-waits_stay p [] v u old new stack back limit keep h = h
-waits_stay p (a ∷ fs) v u old new stack back limit keep h =
-    let w = h.3 in (
+waits_stay p [] v u old new stack back limit later stub keep h = h
+waits_stay p (a ∷ fs) v u old new stack back limit later stub keep (inl h) =
+    let w = h.3 in inl (
       h.0,
       h.1,
       h.2,
-      record { callee = w.callee; op = w.op; there = w.there; call = w.call; calls = w.calls; front = w.front; is = w.is; returns = w.returns; stands = keep h.1 a.frame stack h.2 h.0 w.stands },
-      waits_stay p fs v u old new (stack + (shape p h.1).size) h.2 a.frame.call (λ n frame s b less st. keep n frame s b (omega (arith, less, h.0)) st) h.4,
+      record { callee = w.callee; op = w.op; there = w.there; calls = w.calls; front = w.front; is = w.is; returns = w.returns; stands = keep h.1 a.frame stack h.2 h.0 w.stands },
+      waits_stay p fs v u old new (stack + (shape p h.1).size) h.2 a.frame.call later stub (λ n frame s b less st. keep n frame s b (omega (arith, less, h.0)) st) h.4,
     )
+waits_stay p (a ∷ fs) v u old new stack back limit later stub keep (inr (inl h)) = inr (inl (
+  h.0,
+  stub_stays p p v u old new a stack back (record { base = refl; tables = λ n. refl; object = λ e le. refl }) later (stub a.function stack h.0 h.1.stands) h.0 h.1.stands.alone h.1,
+  waits_stay p fs v u old new (stack + frame_size a.function) h.0 limit later stub keep h.2,
+))
+waits_stay p (a ∷ fs) v u old new stack back limit later stub keep (inr (inr h)) = inr (inr h)

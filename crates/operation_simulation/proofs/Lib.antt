@@ -1,4 +1,5 @@
 pub mod Bases
+pub mod StubKeeping
 pub mod Keeping
 pub mod Holding
 pub mod Words

@@ -9,7 +9,7 @@ use Rattle.rv64_isa.specs.Step.{step_of, x}
 use Rattle.cxa_runtime.specs.World as abi
 use Rattle.cxa_runtime.specs.Raising.{Image}
 use Rattle.region_forms.specs.Form.{Value, call_value, builtin, int_argument, no_arguments, argument_then, Op, evaluate, call}
-use Rattle.region_forms.specs.World.{of_variable, number_word, Frame, World, with_item}
+use Rattle.region_forms.specs.World.{of_variable, of_exception, number_word, Frame, World, with_item}
 use Rattle.region_forms.specs.Evaluation.{with_some, value_in, words_in}
 use Rattle.region_forms.specs.Effect.{goes, if_some, number_at}
 use Rattle.linear_forms.specs.Linear.{LinearOp, plain}
@@ -44,15 +44,17 @@ use Rattle.operation_simulation.specs.Operations.{Matched}
 use Rattle.operation_simulation.specs.Lines.{Writes, LinesRun}
 use Rattle.operation_simulation.proofs.Asked.{value_stands}
 use Rattle.operation_simulation.proofs.Words.{OperationAt, operation_at}
-use Rattle.operation_simulation.proofs.Keeping.{waits_stay}
-use Rattle.operation_simulation.proofs.Matching.{Stands, stands_by, ready_here}
+use Rattle.operation_simulation.proofs.StubKeeping.{stub_same}
+use Rattle.operation_simulation.proofs.Keeping.{held_later, waits_stay}
+use Rattle.operation_simulation.proofs.Holding.{same_number}
+use Rattle.operation_simulation.proofs.Matching.{Stands, stands_by, ready_here, runtime_stays}
 use Rattle.operation_simulation.proofs.Quiet.{moved, step_is, plain_is}
 
 -- ---- a world with more items
 
 -- a world that has the same ints and calls is held alike
-call_alike : (p : Plan) (n : ℕ) (frame : Frame) (v u : World) (memory : List Part) (stack back : ℕ) → u.memory ≡ v.memory → u.calls ≡ v.calls → CallStands p n frame v memory stack back → CallStands p n frame u memory stack back
-call_alike p n frame v u memory stack back ints calls st = record {
+call_alike : (p : Plan) (n : ℕ) (frame : Frame) (v u : World) (memory : List Part) (stack back : ℕ) → u.memory ≡ v.memory → v.last_number ≤ u.last_number → CallStands p n frame v memory stack back → CallStands p n frame u memory stack back
+call_alike p n frame v u memory stack back ints later st = record {
   known = st.known;
   small = st.small;
   above = st.above;
@@ -67,23 +69,30 @@ call_alike p n frame v u memory stack back ints calls st = record {
     all_globals = st.holds.all_globals;
   };
   slots = st.slots;
-  held = st.held;
+  held = λ s b inside is. held_later p v u frame.call b.base later (st.held s b inside is);
   saved = st.saved;
   alone = st.alone;
   clear = st.clear;
 }
 
-pub matches_alike : (p : Plan) (n : ℕ) (frame : Frame) (fs : List Activation) (v u : World) (memory : List Part) (stack back : ℕ) → u.memory ≡ v.memory → u.calls ≡ v.calls → MemoryMatches p n frame fs v memory stack back →
-    MemoryMatches p n frame fs u memory stack back
-matches_alike p n frame fs v u memory stack back ints calls h = record {
-  top = call_alike p n frame v u memory stack back ints calls h.top;
+pub matches_alike : (p : Plan) (n : ℕ) (frame : Frame) (fs : List Activation) (v u : World) (memory : List Part) (stack back : ℕ) → u.memory ≡ v.memory → u.calls ≡ v.calls → v.last_number ≤ u.last_number →
+    MemoryMatches p n frame fs v memory stack back → MemoryMatches p n frame fs u memory stack back
+matches_alike p n frame fs v u memory stack back ints calls later h = record {
+  top = call_alike p n frame v u memory stack back ints later h.top;
   newest = omega (arith, h.newest, calls);
-  waiting = waits_stay p fs v u memory memory (stack + (shape p n).size) back frame.call (λ m g s b less st. call_alike p m g v u memory s b ints calls st) h.waiting;
+  waiting = waits_stay p fs v u memory memory (stack + (shape p n).size) back frame.call later (λ f s b stub. stub_same f s memory)
+      (λ m g s b less st. call_alike p m g v u memory s b ints later st) h.waiting;
   apart = h.apart;
   inside = λ a z live there. h.inside a z live (ap (λ m. m a) (sym ints) ∙ there);
   may = h.may;
   last = h.last;
-  fresh = λ c s o later. ap (λ m. m (record { base = of_variable c s; offset = o })) ints ∙ h.fresh c s o (omega (arith, later, calls));
+  fresh = λ c s o more. ap (λ m. m (record { base = of_variable c s; offset = o })) ints ∙ h.fresh c s o (omega (arith, more, calls));
+  objects = record {
+    may = h.objects.may;
+    made = λ e live. omega (arith, h.objects.made e live, later);
+    fresh = λ e o more. ap (λ m. m (record { base = of_exception e; offset = o })) ints ∙ h.objects.fresh e o (omega (arith, more, later));
+    away = h.objects.away;
+  };
   unit = h.unit;
 }
 
@@ -160,7 +169,7 @@ line_runs turns image p n st next w back o v h there line stands went =
     let stack : x at.behind sp ≡ x s sp = at.kept sp (λ e. absurd (omega (arith, e))) ∙ value.computes.goes.kept sp (kept_low 0 sp (omega arith)) in
     let memory : at.behind.memory ≡ s.memory = at.memory ∙ value.computes.goes.memory in
     let world : World = with_item (Line went.value) st.world in
-    let held = matches_alike p n st.top.frame st.frames st.world world s.memory (x s sp) back refl refl h.memory in
+    let held = matches_alike p n st.top.frame st.frames st.world world s.memory (x s sp) back refl refl (same_number st.world) h.memory in
     let to : LinearState = moved st (st.top.place + 1) st.top.frame world in
     subst (λ (y : LinearState). Matched image (length (linear_code f o)) w (Line went.value ∷ []) (λ b. Matches p y b)) went.next_is (record {
       turns = k + 1;
@@ -175,12 +184,8 @@ line_runs turns image p n st next w back o v h there line stands went =
         registers = at.registers;
         pc = at.pc ∙ omega (arith, stood.next, total);
         memory = subst (λ ps. MemoryMatches p n st.top.frame st.frames world ps (x at.behind sp) back) (sym memory) (subst (λ a. MemoryMatches p n st.top.frame st.frames world s.memory a back) (sym stack) held);
-        outside = record {
-          input = ran.runtime.input ∙ h.outside.input;
-          replies = ran.runtime.replies ∙ h.outside.replies;
-          last_number = ran.runtime.last_number ∙ h.outside.last_number;
-          terminating = ran.runtime.terminating ∙ h.outside.terminating;
-        };
+        runtime = let r = runtime_stays p st.frames st.world w u ran.runtime h.runtime in
+            record { input = r.input; replies = r.replies; last_number = r.last_number; terminating = r.terminating; exceptions = r.exceptions; plan = r.plan };
       };
     })
 

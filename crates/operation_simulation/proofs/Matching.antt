@@ -6,7 +6,7 @@ use Rattle.cxa_runtime.specs.World as abi
 use Rattle.cxa_runtime.specs.Raising.{Image}
 use Rattle.region_forms.specs.World.{World}
 use Rattle.linear_forms.specs.Stub.{compiled}
-use Rattle.linear_forms.specs.Activation.{State as LinearState}
+use Rattle.linear_forms.specs.Activation.{Activation, State as LinearState}
 use Rattle.emission_forms.specs.Registers.{sp}
 use Rattle.emission_forms.specs.Routine.{op_word}
 use Rattle.code_simulation.specs.Executes.{steps as after_steps, Executes}
@@ -15,7 +15,8 @@ use Rattle.code_simulation.specs.Frames.{Ready}
 use Rattle.code_simulation.specs.Turning.{SameRuntime}
 use Rattle.code_simulation.proofs.Turning.{executes_turns}
 use Rattle.operation_simulation.specs.Plan.{Plan, shape, slot_kinds, routine, first_word, setting}
-use Rattle.operation_simulation.specs.Matches.{SameOutside, MemoryMatches, Matches}
+use Rattle.operation_simulation.specs.Exceptions.{addresses_of, exceptions_in, kept_by, destroyed, ExceptionsMatch}
+use Rattle.operation_simulation.specs.Matches.{RuntimeMatches, MemoryMatches, Matches}
 use Rattle.operation_simulation.specs.Operations.{Matched}
 
 -- ---- what matches, for a function by its number
@@ -25,13 +26,13 @@ pub record Stands (p : Plan) (n : ℕ) (st : LinearState) (w : abi.World) (back 
   pub registers : length w.hart.regs ≡ 32
   pub pc : w.hart.pc ≡ address (setting p n).ground (first_word p n + op_word (routine p n) st.top.place)
   pub memory : MemoryMatches p n st.top.frame st.frames st.world w.hart.memory (x w.hart sp) back
-  pub outside : SameOutside st.world w
+  pub runtime : RuntimeMatches p st.frames st.world w
 
 pub stands_by : (p : Plan) (n : ℕ) (st : LinearState) (w : abi.World) (h : Matches p st w) → st.top.function ≡ compiled n → Stands p n st w h.back
 stands_by p n st w h runs =
     let both : compiled h.number ≡ compiled n = sym h.runs ∙ runs in
     let same : h.number ≡ n = cc both in
-    subst (λ k. Stands p k st w h.back) same (record { runs = h.runs; registers = h.registers; pc = h.pc; memory = h.memory; outside = h.outside })
+    subst (λ k. Stands p k st w h.back) same (record { runs = h.runs; registers = h.registers; pc = h.pc; memory = h.memory; runtime = h.runtime })
 
 pub ready_here : (p : Plan) (n : ℕ) (st : LinearState) (w : abi.World) (back : ℕ) → Stands p n st w back → Ready (setting p n) (shape p n) (slot_kinds p n) st.top.frame st.world w.hart
 ready_here p n st w back h = record { registers = h.registers; holds = h.memory.top.holds }
@@ -52,12 +53,21 @@ some_steps g here words (suc n) s t from to runs some = omega arith
 
 -- ---- turns
 
-pub outside_stays : (v : World) (w u : abi.World) → SameRuntime w u → SameOutside v w → SameOutside v u
-outside_stays v w u same h = record {
+-- the runtime keeps the same of exceptions
+kept_same : (w u : abi.World) → SameRuntime w u → kept_by w ≡ kept_by u
+kept_same w u same =
+    ap (λ e. record { exceptions = e; terminate_handler = w.terminate_handler; unexpected_handler = w.unexpected_handler }) (sym same.exceptions)
+    ∙ ap (λ h. record { exceptions = u.exceptions; terminate_handler = h; unexpected_handler = w.unexpected_handler }) (sym same.terminate_handler)
+    ∙ ap (λ h. record { exceptions = u.exceptions; terminate_handler = u.terminate_handler; unexpected_handler = h }) (sym same.unexpected_handler)
+
+pub runtime_stays : (p : Plan) (fs : List Activation) (v : World) (w u : abi.World) → SameRuntime w u → RuntimeMatches p fs v w → RuntimeMatches p fs v u
+runtime_stays p fs v w u same h = record {
   input = same.input ∙ h.input;
   replies = same.replies ∙ h.replies;
   last_number = same.last_number ∙ h.last_number;
   terminating = same.terminating ∙ h.terminating;
+  exceptions = subst (ExceptionsMatch (addresses_of p) (destroyed fs) (exceptions_in v)) (kept_same w u same) h.exceptions;
+  plan = h.plan;
 }
 
 -- the state of a hart where the next state of the machine for linear code stands
@@ -68,8 +78,8 @@ pub record Arrives (p : Plan) (n : ℕ) (next : LinearState) (back : ℕ) (t : S
   pub memory : MemoryMatches p n next.top.frame next.frames next.world t.memory (x t sp) back
 
 pub matched : (image : Image) (p : Plan) (n : ℕ) (next : LinearState) (w : abi.World) (back words k : ℕ) (t : State) → k ≤ words → (0 < words → 0 < k) → Executes k w.hart t → Arrives p n next back t →
-    SameOutside next.world w → Matched image words w [] (λ v. Matches p next v)
-matched image p n next w back words k t few some runs there outside =
+    RuntimeMatches p next.frames next.world w → Matched image words w [] (λ v. Matches p next v)
+matched image p n next w back words k t few some runs there runtime =
     let ran = executes_turns image k w w.hart t refl runs in
     let at : Arrives p n next back ran.after.hart = subst (Arrives p n next back) (sym ran.hart) there in
     record {
@@ -85,7 +95,7 @@ matched image p n next w back words k t few some runs there outside =
         registers = at.registers;
         pc = at.pc;
         memory = at.memory;
-        outside = outside_stays next.world w ran.after ran.runtime outside;
+        runtime = runtime_stays p next.frames next.world w ran.after ran.runtime runtime;
       };
     }
 

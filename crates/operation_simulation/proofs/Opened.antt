@@ -15,11 +15,11 @@ use Rattle.code_simulation.specs.Frames.{IntAt, WordHolds}
 use Rattle.operation_simulation.specs.Plan.{Plan, function, shape, slot_kinds, setting}
 use Rattle.operation_simulation.specs.Extents.{newer, StandApart, IntsInside}
 use Rattle.operation_simulation.specs.Calls.{HeldBy, IsBegun, CallStands, CallsWait}
-use Rattle.operation_simulation.specs.Matches.{FrameIs, StillFresh, MemoryMatches}
+use Rattle.operation_simulation.specs.Matches.{FrameIs, StillFresh, IsAway, is_exception, ObjectsStand, MemoryMatches}
 use Rattle.operation_simulation.specs.Entering.{is_slot, slot_room, WordFits, opened}
-use Rattle.operation_simulation.proofs.Keeping.{IntsHold}
+use Rattle.operation_simulation.proofs.Keeping.{IntsHold, held_later}
 use Rattle.operation_simulation.proofs.Slots.{SlotPlace, slot_place_of, plain_room, word_fits, given_bytes, got_inside}
-use Rattle.operation_simulation.proofs.Given.{frame_call, slot_given, IntGiven, int_given, same_beside}
+use Rattle.operation_simulation.proofs.Given.{frame_call, slot_given, IntGiven, int_given, same_beside, number_beside}
 use Rattle.operation_simulation.proofs.Opening.{many, SlotOrNot, slot_or_not, begun_is_old, NewSlot, new_slot, OldBase, old_base, word_opened, unit_opened}
 use Rattle.operation_simulation.proofs.Beneath.{passed_there, not_newer, begun_last, no_word, none_by, Begins}
 
@@ -88,6 +88,12 @@ module _ (p : Plan) (n m : ℕ) (v : World) (memory : List Part) (stack low back
   called : frame.call ≡ c
   called = frame_call (slot_kinds p m) 0 given (record { call = v.calls; slots = λ s. nothing })
 
+  same_number : (d : ℕ) → (new_world (slot_kinds p m) given d v).last_number ≡ v.last_number
+  same_number d = number_beside (slot_kinds p m) c 0 given v
+
+  numbered : (d : ℕ) → v.last_number ≤ (new_world (slot_kinds p m) given d v).last_number
+  numbered d = omega (arith, same_number d)
+
   later : (d : ℕ) → (new_world (slot_kinds p m) given d v).calls ≡ c + 1
   later d = ap (λ k. k + 1) (same_beside (slot_kinds p m) c 0 given v).calls
 
@@ -108,17 +114,17 @@ module _ (p : Plan) (n m : ℕ) (v : World) (memory : List Part) (stack low back
       (λ j word e at other. no_word (slot_kinds p m s) word variable other (subst (λ k. WordFits (slot_kinds p m k) word) (sym at) (word_fits (slot_kinds p m) 0 j given word h.fits e)))
       refl
 
-  held_new : (b : Base) → p.live b ≡ true → HeldBy q c b
+  held_new : (b : Base) → p.live b ≡ true → HeldBy q v c b
   held_new b live = by b live (h.below.begun b live) (live_old b live)
     where
-      by : (b : Base) → p.live b ≡ true → IsBegun v b → is_slot c (many p m) b ≡ false → HeldBy q c b
+      by : (b : Base) → p.live b ≡ true → IsBegun v b → is_slot c (many p m) b ≡ false → HeldBy q v c b
       by (of_global g) live begun old = live
       by (of_variable d s) live begun old = ((old_base p m c low (of_variable d s) old).live ∙ live, omega (arith, begun))
-      by (of_exception e) live begun old = tt
+      by (of_exception e) live begun old = begun
 
-  all_held : (s : ℕ) (b : Address) → address_in (frame.slots s) ≡ Some b → HeldBy q c b.base
+  all_held : (s : ℕ) (b : Address) → address_in (frame.slots s) ≡ Some b → HeldBy q v c b.base
   all_held s b is =
-      slot_given (slot_kinds p m) 0 given (record { call = v.calls; slots = λ k. nothing }) s (λ word. address_in word ≡ Some b → HeldBy q c b.base)
+      slot_given (slot_kinds p m) 0 given (record { call = v.calls; slots = λ k. nothing }) s (λ word. address_in word ≡ Some b → HeldBy q v c b.base)
       (λ j word e at other found. held_new b.base (h.lives j word b e found)) (λ none. absurd (cc none)) is
 
   -- ---- bytes of the new slots, and of all else
@@ -229,7 +235,7 @@ module _ (p : Plan) (n m : ℕ) (v : World) (memory : List Part) (stack low back
       aligned = λ s inside plain. subst (λ k. q.at (of_variable k s) % 8 ≡ 0) (sym called) (omega (arith, (new s inside).at, (slot s inside).even, low_even));
       ints = λ s inside. subst (λ k. q.ints (of_variable k s) ≡ is_variable (slot_kinds p m s)) (sym called) (new s inside).ints;
     };
-    held = λ s b inside found. subst (λ k. HeldBy q k b.base) (sym called) (all_held s b found);
+    held = λ s b inside found. subst (λ k. HeldBy q (new_world (slot_kinds p m) given d v) k b.base) (sym called) (held_later q v (new_world (slot_kinds p m) given d v) c b.base (numbered d) (all_held s b found));
     saved = h.saved;
     alone = λ b live. alone_at b live (slot_or_not c (many p m) b);
     clear = λ b live older. clear_at b live (slot_or_not c (many p m) b);
@@ -296,6 +302,32 @@ module _ (p : Plan) (n m : ℕ) (v : World) (memory : List Part) (stack low back
           let same : e ≡ c = cc bases in
           omega (arith, same, later_call, later d)
 
+  objects_new : (d : ℕ) → ObjectsStand q (new_world (slot_kinds p m) given d v) memory
+  objects_new d = record {
+    may = h.below.objects.may;
+    made = λ e live. omega (arith, h.below.objects.made e live, same_number d);
+    fresh = λ e o more. none_by ((new_world (slot_kinds p m) given d v).memory (record { base = of_exception e; offset = o }))
+        (λ z there. none_at e o z (omega (arith, more, same_number d)) (int_given (slot_kinds p m) c 0 given v (record { base = of_exception e; offset = o }) z there));
+    away = λ b live plain. away_at b live plain (slot_or_not c (many p m) b);
+  }
+    where
+      none_at : (e o : ℕ) (z : ℤ) → v.last_number < e → IntGiven (slot_kinds p m) c 0 given v (record { base = of_exception e; offset = o }) z → ⊥
+      none_at e o z more (inl got) =
+          let none = h.below.objects.fresh e o more in
+          let both : Some z ≡ None = sym got ∙ none in
+          cc both
+      none_at e o z more (inr one) =
+          let bases : of_exception e ≡ of_variable c (0 + one.0) = ap (λ (k : Address). k.base) one.2 in
+          cc bases
+
+      away_at : (b : Base) → q.live b ≡ true → is_exception b ≡ false → SlotOrNot c (many p m) b → IsAway (q.at b) (q.size b)
+      away_at b live plain (inl own) = let one = own_at b own.0 own.1 own.2 in inr (omega (arith, one.at, h.room))
+      away_at b live plain (inr not_one) = let old = old_at b live not_one in to old.same (h.below.objects.away b old.live plain)
+        where
+          to : OldBase p m c low b → IsAway (p.at b) (p.size b) → IsAway (q.at b) (q.size b)
+          to same (inl under) = inl (omega (arith, same.at, same.size, under))
+          to same (inr above) = inr (omega (arith, same.at, above))
+
   -- where the calls that wait stand above it
   pub opened_matches : (d : ℕ) (fs : List Activation) → (IntsHold q (new_world (slot_kinds p m) given d v) memory → CallsWait q fs (new_world (slot_kinds p m) given d v) memory stack back c) →
       MemoryMatches q m frame fs (new_world (slot_kinds p m) given d v) memory low back
@@ -310,5 +342,6 @@ module _ (p : Plan) (n m : ℕ) (v : World) (memory : List Part) (stack low back
         may = h.below.may;
         last = last_new;
         fresh = fresh_new d;
+        objects = objects_new d;
         unit = unit_opened p m c low memory h.below.unit;
       }

@@ -9,12 +9,14 @@ use Rattle.linear_forms.specs.Activation.{Activation}
 use Rattle.emission_forms.specs.Shape.{slot_offset, return_offset}
 use Rattle.code_simulation.specs.Memory.{Apart}
 use Rattle.code_simulation.specs.Frames.{AddressAt, WordHolds}
+use Rattle.stub_simulation.specs.Stretches.{frame_size}
 use Rattle.operation_simulation.specs.Plan.{Plan, function, shape, slot_kinds, setting}
 use Rattle.operation_simulation.specs.Extents.{newer}
 use Rattle.operation_simulation.specs.Calls.{HeldBy, IsBegun, CallStands, CallsWait}
 use Rattle.operation_simulation.specs.Matches.{FrameIs, UnitStands}
 use Rattle.operation_simulation.specs.Entering.{is_slot, slot_of, slot_room, opened}
 use Rattle.operation_simulation.proofs.Bases.{number_is, number_itself, both_true, true_is_not}
+use Rattle.operation_simulation.proofs.StubKeeping.{stub_same, stub_stays}
 use Rattle.operation_simulation.proofs.Keeping.{IntsHold}
 use Rattle.operation_simulation.proofs.Slots.{slot_place_of}
 
@@ -85,15 +87,15 @@ old_base p m c stack b e = record {
 -- ---- calls that are open already
 
 -- what an older call holds is no slot of the new one, and still is live
-held_is_old : (p : Plan) (c k d : ℕ) (b : Base) → d < c → HeldBy p d b → is_slot c k b ≡ false
-held_is_old p c k d (of_global g) less h = refl
-held_is_old p c k d (of_variable e s) less h = let other : (e == c) ≡ false = grind (arith, nat_tests, less, h.1) in ap (λ t. t && nat_lt s k) other
-held_is_old p c k d (of_exception e) less h = refl
+held_is_old : (p : Plan) (v : World) (c k d : ℕ) (b : Base) → d < c → HeldBy p v d b → is_slot c k b ≡ false
+held_is_old p v c k d (of_global g) less h = refl
+held_is_old p v c k d (of_variable e s) less h = let other : (e == c) ≡ false = grind (arith, nat_tests, less, h.1) in ap (λ t. t && nat_lt s k) other
+held_is_old p v c k d (of_exception e) less h = refl
 
-held_opened : (p : Plan) (m c low d : ℕ) (b : Base) → d < c → HeldBy p d b → HeldBy (opened p m c low) d b
-held_opened p m c low d (of_global g) less h = h
-held_opened p m c low d (of_variable e s) less h = ((old_base p m c low (of_variable e s) (held_is_old p c (many p m) d (of_variable e s) less h)).live ∙ h.0, h.1)
-held_opened p m c low d (of_exception e) less h = tt
+held_opened : (p : Plan) (v u : World) (m c low d : ℕ) (b : Base) → v.last_number ≤ u.last_number → d < c → HeldBy p v d b → HeldBy (opened p m c low) u d b
+held_opened p v u m c low d (of_global g) later less h = h
+held_opened p v u m c low d (of_variable e s) later less h = ((old_base p m c low (of_variable e s) (held_is_old p v c (many p m) d (of_variable e s) less h)).live ∙ h.0, h.1)
+held_opened p v u m c low d (of_exception e) later less h = omega (arith, h, later)
 
 pub word_opened : (p : Plan) (m c stack n k : ℕ) (memory : List Part) (a : ℕ) (word : Word) → ((b : Address) → address_in word ≡ Some b → is_slot c (many p m) b.base ≡ false) →
     WordHolds (setting p n) memory a word → WordHolds (setting (opened p m c stack) k) memory a word
@@ -104,17 +106,30 @@ word_opened p m c stack n k memory a (address_word b) old h =
 word_opened p m c stack n k memory a (flying e target) old h = h
 word_opened p m c stack n k memory a (unwinding e) old h = tt
 
+-- bytes from a place above the new frame on are apart from what is live, if they were
+frame_apart : (p : Plan) (m c low stack size : ℕ) (b : Base) → FrameIs (function p m) → low + (shape p m).size ≤ stack → ((d : Base) → p.live d ≡ true → Apart (p.at d) (p.size d) stack size) →
+    (opened p m c low).live b ≡ true → SlotOrNot c (many p m) b → Apart ((opened p m c low).at b) ((opened p m c low).size b) stack size
+frame_apart p m c low stack size b is room alone live (inl own) i j hi hj e =
+    let new = new_slot p m c low own.0 own.2 in
+    let place = slot_place_of (function p m) own.0 is own.2 in
+    let at : (opened p m c low).at b ≡ low + slot_offset (shape p m) own.0 = ap (λ d. (opened p m c low).at d) own.1 ∙ new.at in
+    let room_is : (opened p m c low).size b ≡ slot_room (shape p m) own.0 = ap (λ d. (opened p m c low).size d) own.1 ∙ new.size in
+    omega (arith, at, room_is, place.high, room, hi, e)
+frame_apart p m c low stack size b is room alone live (inr not_one) i j hi hj e =
+    let same = old_base p m c low b not_one in
+    alone b (sym same.live ∙ live) i j (omega (arith, hi, same.size)) hj (omega (arith, e, same.at))
+
 -- the frame of a call that is open already, above the new one
-pub call_opened : (p : Plan) (m c low n : ℕ) (frame : Frame) (v u : World) (memory : List Part) (stack back : ℕ) → FrameIs (function p m) → frame.call < c →
+pub call_opened : (p : Plan) (m c low n : ℕ) (frame : Frame) (v u : World) (memory : List Part) (stack back : ℕ) → FrameIs (function p m) → v.last_number ≤ u.last_number → frame.call < c →
     low + (shape p m).size ≤ stack → IntsHold (opened p m c low) u memory → CallStands p n frame v memory stack back → CallStands (opened p m c low) n frame u memory stack back
-call_opened p m c low n frame v u memory stack back is older room ints st = record {
+call_opened p m c low n frame v u memory stack back is later older room ints st = record {
   known = st.known;
   small = st.small;
   above = st.above;
   below = st.below;
   holds = record {
     room = st.holds.room;
-    slots = λ s inside. word_opened p m c low n n memory (stack + slot_offset (shape p n) s) (frame.slots s) (λ b e. held_is_old p c (many p m) frame.call b.base older (st.held s b inside e)) (st.holds.slots s inside);
+    slots = λ s inside. word_opened p m c low n n memory (stack + slot_offset (shape p n) s) (frame.slots s) (λ b e. held_is_old p v c (many p m) frame.call b.base older (st.held s b inside e)) (st.holds.slots s inside);
     variables = λ s inside. (old s).at ∙ st.holds.variables s inside;
     own = λ s inside. (old s).live ∙ st.holds.own s inside;
     ints = ints;
@@ -127,9 +142,9 @@ call_opened p m c low n frame v u memory stack back is older room ints st = reco
     aligned = λ s inside plain. omega (arith, (old s).at, st.slots.aligned s inside plain);
     ints = λ s inside. (old s).ints ∙ st.slots.ints s inside;
   };
-  held = λ s b inside e. held_opened p m c low frame.call b.base older (st.held s b inside e);
+  held = λ s b inside e. held_opened p v u m c low frame.call b.base later older (st.held s b inside e);
   saved = st.saved;
-  alone = λ b live. alone_at b live (slot_or_not c (many p m) b);
+  alone = λ b live. frame_apart p m c low (stack + return_offset) 8 b is (omega (arith, room)) st.alone live (slot_or_not c (many p m) b);
   clear = λ b live old_one. clear_at b live old_one (slot_or_not c (many p m) b);
 }
   where
@@ -137,17 +152,6 @@ call_opened p m c low n frame v u memory stack back is older room ints st = reco
     old s =
         let other : (frame.call == c) ≡ false = grind (arith, nat_tests, older) in
         old_base p m c low (of_variable frame.call s) (ap (λ t. t && nat_lt s (many p m)) other)
-
-    alone_at : (b : Base) → (opened p m c low).live b ≡ true → SlotOrNot c (many p m) b → Apart ((opened p m c low).at b) ((opened p m c low).size b) (stack + return_offset) 8
-    alone_at b live (inl own) i j hi hj e =
-        let new = new_slot p m c low own.0 own.2 in
-        let place = slot_place_of (function p m) own.0 is own.2 in
-        let at : (opened p m c low).at b ≡ low + slot_offset (shape p m) own.0 = ap (λ d. (opened p m c low).at d) own.1 ∙ new.at in
-        let size : (opened p m c low).size b ≡ slot_room (shape p m) own.0 = ap (λ d. (opened p m c low).size d) own.1 ∙ new.size in
-        omega (arith, at, size, place.high, room, hi, e)
-    alone_at b live (inr not_one) i j hi hj e =
-        let same = old_base p m c low b not_one in
-        st.alone b (sym same.live ∙ live) i j (omega (arith, hi, same.size)) hj (omega (arith, e, same.at))
 
     clear_at : (b : Base) → (opened p m c low).live b ≡ true → newer frame.call b ≡ false → SlotOrNot c (many p m) b →
         ((opened p m c low).at b + (opened p m c low).size b ≤ 0x7000_0000) ⊎ (stack ≤ (opened p m c low).at b)
@@ -161,11 +165,11 @@ call_opened p m c low n frame v u memory stack back is older room ints st = reco
         to same (inl below) = inl (omega (arith, same.at, same.size, below))
         to same (inr above) = inr (omega (arith, same.at, above))
 
-pub waits_opened : (p : Plan) (m c low : ℕ) (fs : List Activation) (v u : World) (memory : List Part) (stack back limit : ℕ) → FrameIs (function p m) → limit ≤ c →
+pub waits_opened : (p : Plan) (m c low : ℕ) (fs : List Activation) (v u : World) (memory : List Part) (stack back limit : ℕ) → FrameIs (function p m) → v.last_number ≤ u.last_number → limit ≤ c →
     low + (shape p m).size ≤ stack → IntsHold (opened p m c low) u memory → CallsWait p fs v memory stack back limit → CallsWait (opened p m c low) fs u memory stack back limit
-waits_opened p m c low [] v u memory stack back limit is less room ints h = h
-waits_opened p m c low (a ∷ fs) v u memory stack back limit is less room ints h =
-    let w = h.3 in (
+waits_opened p m c low [] v u memory stack back limit is later less room ints h = h
+waits_opened p m c low (a ∷ fs) v u memory stack back limit is later less room ints (inl h) =
+    let w = h.3 in inl (
       h.0,
       h.1,
       h.2,
@@ -173,15 +177,21 @@ waits_opened p m c low (a ∷ fs) v u memory stack back limit is less room ints 
         callee = w.callee;
         op = w.op;
         there = w.there;
-        call = w.call;
         calls = w.calls;
         front = w.front;
         is = w.is;
         returns = w.returns;
-        stands = call_opened p m c low h.1 a.frame v u memory stack h.2 is (omega (arith, h.0, less)) room ints w.stands;
+        stands = call_opened p m c low h.1 a.frame v u memory stack h.2 is later (omega (arith, h.0, less)) room ints w.stands;
       },
-      waits_opened p m c low fs v u memory (stack + (shape p h.1).size) h.2 a.frame.call is (omega (arith, h.0, less)) (omega (arith, room)) ints h.4,
+      waits_opened p m c low fs v u memory (stack + (shape p h.1).size) h.2 a.frame.call is later (omega (arith, h.0, less)) (omega (arith, room)) ints h.4,
     )
+waits_opened p m c low (a ∷ fs) v u memory stack back limit is later less room ints (inr (inl h)) = inr (inl (
+  h.0,
+  stub_stays p (opened p m c low) v u memory memory a stack back (record { base = refl; tables = λ n. refl; object = λ e le. refl }) later (stub_same a.function stack memory) h.0
+      (λ b live. frame_apart p m c low stack (frame_size a.function) b is room h.1.stands.alone live (slot_or_not c (many p m) b)) h.1,
+  waits_opened p m c low fs v u memory (stack + frame_size a.function) h.0 limit is later less (omega (arith, room)) ints h.2,
+))
+waits_opened p m c low (a ∷ fs) v u memory stack back limit is later less room ints (inr (inr h)) = inr (inr h)
 
 pub unit_opened : (p : Plan) (m c low : ℕ) (memory : List Part) → UnitStands p memory → UnitStands (opened p m c low) memory
-unit_opened p m c low memory h = record { few = h.few; short = h.short; frames = h.frames; registers = h.registers; start = h.start; functions = h.functions }
+unit_opened p m c low memory h = record { few = h.few; short = h.short; frames = h.frames; registers = h.registers; stubs = h.stubs; functions = h.functions }

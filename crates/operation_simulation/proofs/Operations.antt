@@ -49,7 +49,7 @@ use Rattle.operation_simulation.proofs.Words.{OperationAt, operation_at, place_b
 use Rattle.operation_simulation.proofs.Holding.{MayHold, location_may, location_matches, slot_may, slot_place, address_matches}
 use Rattle.operation_simulation.proofs.Matching.{Stands, stands_by, ready_here, some_steps, Arrives, matched, memory_at}
 use Rattle.operation_simulation.proofs.Asked.{operation_stands}
-use Rattle.operation_simulation.proofs.Quiet.{moved, plain_whole, plain_dropped, plain_needs, store_step, bind_step, value_step, jump_step, label_step, test_step, outside_stored}
+use Rattle.operation_simulation.proofs.Quiet.{moved, plain_whole, plain_dropped, plain_needs, store_step, bind_step, value_step, jump_step, label_step, test_step, runtime_stored}
 
 -- the first word of the next operation
 abbrev word_here : Plan → ℕ → LinearState → ℕ
@@ -112,7 +112,7 @@ store_runs places image p n st next w back q v h there no_call stands e =
     let there_u : Arrives p n to back u = record { runs = h.runs; registers = written.registers; pc = pc; memory = memory_at p n to back (x s sp) (with_value s.memory place 4 (extended went.value)) u memory stack_u held } in
     subst (λ y. IsMatched image p n (plain (store q v)) y w) went.next_is
     (matched image p n to w back (length (linear_code f (plain (store q v)))) k u (omega (arith, value.computes.goes.most, written.most, sum, total))
-    (some_steps g here (length (linear_code f (plain (store q v)))) k s u h.pc (pc ∙ omega (arith, stood.next)) runs) runs there_u (outside_stored went.location went.value st.top.frame went.frame st.world went.world w went.stored h.outside))
+    (some_steps g here (length (linear_code f (plain (store q v)))) k s u h.pc (pc ∙ omega (arith, stood.next)) runs) runs there_u (runtime_stored p st.frames went.location went.value st.top.frame went.frame st.world went.world w went.stored h.runtime))
 
 -- ---- an address is bound
 
@@ -166,7 +166,7 @@ bind_runs addresses image p n st next w back slot q h there stands e =
     let there_u : Arrives p n to back u = record { runs = h.runs; registers = got.goes.registers; pc = pc; memory = memory_at p n to back (x s sp) (with_value s.memory place 8 value) u memory stack held } in
     subst (λ y. IsMatched image p n (plain (bind slot q)) y w) went.next_is
     (matched image p n to w back (length (linear_code f (plain (bind slot q)))) k u (omega (arith, got.goes.most, sum))
-    (λ some. omega arith) runs there_u h.outside)
+    (λ some. omega arith) runs there_u h.runtime)
 
 -- ---- no word at all
 
@@ -176,7 +176,7 @@ same_place image p n st w back o h there none =
     let stood = here_at p n st w back o h there in
     let to : LinearState = moved st (st.top.place + 1) st.top.frame st.world in
     let there_u : Arrives p n to back w.hart = record { runs = h.runs; registers = h.registers; pc = h.pc ∙ omega (arith, stood.next, none); memory = h.memory } in
-    matched image p n to w back (length (linear_code (shape p n) o)) 0 w.hart (omega arith) (λ some. absurd (omega (arith, some, none))) (no_steps w.hart) there_u h.outside
+    matched image p n to w back (length (linear_code (shape p n) o)) 0 w.hart (omega arith) (λ some. absurd (omega (arith, some, none))) (no_steps w.hart) there_u h.runtime
 
 -- ---- jumps
 
@@ -200,7 +200,7 @@ jump_runs image p n st w back l h there =
     let runs = jump_goes p n st w back l (word_here p n st) 0 w.hart h refl stood.code.0 h.pc (omega arith) (omega (arith, stood.inside)) in
     let to : LinearState = moved st place st.top.frame st.world in
     let there_u : Arrives p n to back u = record { runs = h.runs; registers = h.registers; pc = refl; memory = h.memory } in
-    matched image p n to w back 1 1 u (omega arith) (λ some. omega arith) runs there_u h.outside
+    matched image p n to w back 1 1 u (omega arith) (λ some. omega arith) runs there_u h.runtime
 
 test_runs : (image : Image) (p : Plan) (n : ℕ) (st next : LinearState) (w : abi.World) (back l : ℕ) (v : Value) → Stands p n st w back → slice_get (function p n).ops st.top.place ≡ Some (jump_zero v l) →
     OperationStands p n st.top.frame (jump_zero v l) → step (code_of p.unit) st ≡ goes_to next → IsMatched image p n (jump_zero v l) next w
@@ -236,7 +236,7 @@ test_runs image p n st next w back l v h there stands e =
           memory = memory_at p n to back (x w.hart sp) w.hart.memory u first.memory (first.kept sp (kept_low 0 sp (omega arith))) h.memory;
         } in
         matched image p n to w back (length (linear_code (shape p n) (jump_zero v l))) first.steps u (omega (arith, first.most, sum))
-        (some_steps (setting p n).ground (word_here p n st) (length (linear_code (shape p n) (jump_zero v l))) first.steps w.hart u h.pc (pc ∙ omega (arith, stood.next)) first.runs) first.runs there_u h.outside
+        (some_steps (setting p n).ground (word_here p n st) (length (linear_code (shape p n) (jump_zero v l))) first.steps w.hart u h.pc (pc ∙ omega (arith, stood.next)) first.runs) first.runs there_u h.runtime
     by true first stood sum piece =
         let m : State = first.after in
         let g : Ground = (setting p n).ground in
@@ -253,7 +253,7 @@ test_runs image p n st next w back l v h there stands e =
           memory = memory_at p n to back (x w.hart sp) w.hart.memory u first.memory (first.kept sp (kept_low 0 sp (omega arith))) h.memory;
         } in
         matched image p n to w back (length (linear_code (shape p n) (jump_zero v l))) (first.steps + 1) u (omega (arith, first.most, sum)) (λ some. omega arith)
-        (steps_then first.steps 1 w.hart m u first.runs second) there_u h.outside
+        (steps_then first.steps 1 w.hart m u first.runs second) there_u h.runtime
 
 -- ---- all of them
 

@@ -1,5 +1,5 @@
 -- What a step of the machine for linear code is at an operation that calls nothing.
-use Rattle.std.proofs.Common.{◌≡◌, ◌∙◌, refl, sym, ap, subst, arith, ℕ, ◌+◌, ◌≤◌, ℤ, [], Option, Some, None}
+use Rattle.std.proofs.Common.{◌≡◌, ◌∙◌, refl, sym, ap, subst, arith, ℕ, ◌+◌, ◌≤◌, ℤ, List, [], Option, Some, None}
 use Rattle.std.specs.Prelude.{Bool, true, false, slice_get, if◌then◌else◌}
 use Rattle.scope_rules.specs.Arithmetic.{is_zero}
 use Rattle.region_forms.specs.Form.{Kinds, Place, Value, number, load, unary, binary, call_value, Op, evaluate, store, bind}
@@ -9,7 +9,7 @@ use Rattle.region_forms.specs.Effect.{goes, if_some, finished, valued, stored_at
 use Rattle.linear_forms.specs.Linear.{LinearOp, plain, label, jump, jump_zero}
 use Rattle.linear_forms.specs.Tables.{label_place}
 use Rattle.linear_forms.specs.Stub.{compiled}
-use Rattle.linear_forms.specs.Activation.{State, goes_to, compiled_op, fetch, place_of, at, on, kinds}
+use Rattle.linear_forms.specs.Activation.{Activation, State, goes_to, compiled_op, fetch, place_of, at, on, kinds}
 use Rattle.linear_forms.specs.Machine.{act_on, step}
 use Rattle.linear_forms.specs.Operation.{act, performed, jumped, jumped_zero}
 use Rattle.linear_forms.specs.UnitRun.{code_of}
@@ -19,7 +19,7 @@ use Rattle.emission_forms.specs.ValueCode.{needs, value_code}
 use Rattle.emission_forms.specs.OperationCode.{dropped_code, whole_value}
 use Rattle.operation_simulation.specs.Plan.{Plan, function, slot_kinds}
 use Rattle.cxa_runtime.specs.World as abi
-use Rattle.operation_simulation.specs.Matches.{SameOutside}
+use Rattle.operation_simulation.specs.Matches.{RuntimeMatches}
 use Rattle.operation_simulation.specs.Operations.{NoCall}
 
 -- the state at another place of the same call
@@ -164,10 +164,12 @@ test_step p n st next v l runs there h =
         to true e = let f : goes_to (moved st (label_place (function p n).ops l 0) st.top.frame st.world) ≡ goes_to next = sym (jump_is p n st l runs) ∙ e in cc f
         to false e = cc e
 
--- ---- what is outside
+-- ---- what the runtime has
 
-pub outside_stored : (l : Location) (z : ℤ) (frame new_frame : Frame) (v new_world : World) (w : abi.World) → stored_at l z frame v ≡ goes new_frame new_world → SameOutside v w → SameOutside new_world w
-outside_stored (in_memory a) z frame new_frame v new_world w e h =
+pub runtime_stored : (p : Plan) (fs : List Activation) (l : Location) (z : ℤ) (frame new_frame : Frame) (v new_world : World) (w : abi.World) → stored_at l z frame v ≡ goes new_frame new_world →
+    RuntimeMatches p fs v w → RuntimeMatches p fs new_world w
+runtime_stored p fs (in_memory a) z frame new_frame v new_world w e h =
     let same : written a z v ≡ new_world = cc e in
-    subst (λ u. SameOutside u w) same (record { input = h.input; replies = h.replies; last_number = h.last_number; terminating = h.terminating })
-outside_stored (in_frame s) z frame new_frame v new_world w e h = let same : v ≡ new_world = cc e in subst (λ u. SameOutside u w) same h
+    subst (λ u. RuntimeMatches p fs u w) same
+    (record { input = h.input; replies = h.replies; last_number = h.last_number; terminating = h.terminating; exceptions = h.exceptions; plan = h.plan })
+runtime_stored p fs (in_frame s) z frame new_frame v new_world w e h = let same : v ≡ new_world = cc e in subst (λ u. RuntimeMatches p fs u w) same h

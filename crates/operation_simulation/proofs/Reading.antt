@@ -14,7 +14,7 @@ use Rattle.region_forms.specs.Evaluation.{Location, in_memory, in_frame, locate}
 use Rattle.region_forms.specs.Effect.{effect, goes, if_some, finished, stored_at, byte_of, bytes_after}
 use Rattle.linear_forms.specs.Linear.{LinearOp, plain}
 use Rattle.linear_forms.specs.Stub.{compiled}
-use Rattle.linear_forms.specs.Activation.{Code, State as LinearState, goes_to}
+use Rattle.linear_forms.specs.Activation.{Code, Activation, State as LinearState, goes_to}
 use Rattle.linear_forms.specs.Machine.{step}
 use Rattle.linear_forms.specs.Operation.{performed}
 use Rattle.linear_forms.specs.UnitRun.{code_of}
@@ -33,15 +33,16 @@ use Rattle.code_simulation.proofs.Framing.{not_zero}
 use Rattle.code_simulation.proofs.Turning.{turns_then, executes_turns}
 use Rattle.operation_simulation.specs.Plan.{Plan, function, shape, slot_kinds, routine, first_word, setting}
 use Rattle.operation_simulation.specs.Calls.{stored_in}
-use Rattle.operation_simulation.specs.Matches.{MemoryMatches, Matches, SameOutside}
+use Rattle.operation_simulation.specs.Matches.{MemoryMatches, Matches, RuntimeMatches}
 use Rattle.operation_simulation.specs.Operations.{Matched}
 use Rattle.operation_simulation.specs.Returns.{WantedStands}
 use Rattle.operation_simulation.specs.Bytes.{Reads, AreBytes, BytesRun}
 use Rattle.operation_simulation.proofs.Asked.{wanted_stands}
 use Rattle.operation_simulation.proofs.Words.{OperationAt, operation_at}
-use Rattle.operation_simulation.proofs.Matching.{Stands, stands_by, Arrives, outside_stays}
+use Rattle.operation_simulation.proofs.Matching.{Stands, stands_by, Arrives, runtime_stays}
 use Rattle.operation_simulation.proofs.Quiet.{moved, step_is, plain_is}
-use Rattle.operation_simulation.proofs.Returning.{receives, outside_finished}
+use Rattle.operation_simulation.proofs.Returning.{receives, runtime_finished}
+use Rattle.operation_simulation.proofs.Holding.{same_number}
 use Rattle.operation_simulation.proofs.Lines.{matches_alike}
 
 -- ---- the step
@@ -108,12 +109,12 @@ finished_step code kinds (Some q) z v st next e = by (locate kinds st.top.frame 
 -- ---- the runtime call
 
 -- one turn puts what is read in a0
-record ReadTurn (image : Image) (u : abi.World) (behind : State) (v : World) : Type 0 where
+record ReadTurn (p : Plan) (fs : List Activation) (image : Image) (u : abi.World) (behind : State) (v : World) : Type 0 where
   int : IsInt (byte_of v.input)
   after : abi.World
   turn : Turns image 1 u after []
   hart : after.hart ≡ state behind.pc (with_reg behind.regs a0 (extended (byte_of v.input))) behind.memory
-  outside : SameOutside (taken v) after
+  runtime : RuntimeMatches p fs (taken v) after
 
 byte_int : (b : ℕ) → b < 256 → IsInt (pos b)
 byte_int b small = grind (arith, nat_tests, small)
@@ -121,10 +122,10 @@ byte_int b small = grind (arith, nat_tests, small)
 byte_bits : (b : ℕ) → b < 256 → extended (pos b) ≡ b
 byte_bits b small = omega (arith, small)
 
-read_turn : CallsAreTurns → (image : Image) (u : abi.World) (behind : State) (v : World) → step_of u.hart ≡ (Ecall, behind) → x behind a7 ≡ 2 → AreBytes v.input → SameOutside v u → ReadTurn image u behind v
-read_turn turns image u behind v e number bytes h = by v.input refl bytes
+read_turn : CallsAreTurns → (p : Plan) (fs : List Activation) (image : Image) (u : abi.World) (behind : State) (v : World) → step_of u.hart ≡ (Ecall, behind) → x behind a7 ≡ 2 → AreBytes v.input → RuntimeMatches p fs v u → ReadTurn p fs image u behind v
+read_turn turns p fs image u behind v e number bytes h = by v.input refl bytes
   where
-    by : (input : List ℕ) → v.input ≡ input → AreBytes input → ReadTurn image u behind v
+    by : (input : List ℕ) → v.input ≡ input → AreBytes input → ReadTurn p fs image u behind v
     by [] is ok =
         let none : byte_of v.input ≡ negsuc 0 = ap byte_of is in
         let last : abi.World = abi.gives a0 (extended (negsuc 0)) (after_step behind u) in
@@ -133,7 +134,7 @@ read_turn turns image u behind v e number bytes h = by v.input refl bytes
           after = last;
           turn = turns.no_byte image u behind e number (h.input ∙ is);
           hart = ap (λ z. state behind.pc (with_reg behind.regs a0 (extended z)) behind.memory) (sym none);
-          outside = record { input = h.input ∙ is ∙ ap bytes_after (sym is); replies = h.replies; last_number = h.last_number; terminating = h.terminating };
+          runtime = record { input = h.input ∙ is ∙ ap bytes_after (sym is); replies = h.replies; last_number = h.last_number; terminating = h.terminating; exceptions = h.exceptions; plan = h.plan };
         }
     by (b ∷ rest) is ok =
         let some : byte_of v.input ≡ pos b = ap byte_of is in
@@ -142,7 +143,7 @@ read_turn turns image u behind v e number bytes h = by v.input refl bytes
           after = after_byte b rest behind u;
           turn = turns.byte image u behind b rest e number (h.input ∙ is);
           hart = ap (λ k. state behind.pc (with_reg behind.regs a0 k) behind.memory) (sym (byte_bits b ok.0)) ∙ ap (λ z. state behind.pc (with_reg behind.regs a0 (extended z)) behind.memory) (sym some);
-          outside = record { input = ap bytes_after (sym is); replies = h.replies; last_number = h.last_number; terminating = h.terminating };
+          runtime = record { input = ap bytes_after (sym is); replies = h.replies; last_number = h.last_number; terminating = h.terminating; exceptions = h.exceptions; plan = h.plan };
         }
 
 -- ---- a byte
@@ -163,17 +164,11 @@ read_runs places turns image p n st next w back o wants h there read bytes stand
     let ran = executes_turns image 1 w s at.called refl at.first in
     let u : abi.World = ran.after in
     let stepped : step_of u.hart ≡ (Ecall, at.behind) = ap step_of ran.hart ∙ at.calls in
-    let outside : SameOutside st.world u = record {
-      input = ran.runtime.input ∙ h.outside.input;
-      replies = ran.runtime.replies ∙ h.outside.replies;
-      last_number = ran.runtime.last_number ∙ h.outside.last_number;
-      terminating = ran.runtime.terminating ∙ h.outside.terminating;
-    } in
-    let turn = read_turn turns image u at.behind st.world stepped at.is bytes outside in
+    let turn = read_turn turns p st.frames image u at.behind st.world stepped at.is bytes (runtime_stays p st.frames st.world w u ran.runtime h.runtime) in
     let value : ℕ = extended (byte_of st.world.input) in
     let t : State = state at.behind.pc (with_reg at.behind.regs a0 value) at.behind.memory in
     let stack : x t sp ≡ x s sp = read_other at.behind.regs a0 sp value (λ e. absurd (omega (arith, e))) ∙ at.kept sp (λ e. absurd (omega (arith, e))) in
-    let held = matches_alike p n st.top.frame st.frames st.world (taken st.world) s.memory (x s sp) back refl refl h.memory in
+    let held = matches_alike p n st.top.frame st.frames st.world (taken st.world) s.memory (x s sp) back refl refl (same_number st.world) h.memory in
     let held_t : MemoryMatches p n st.top.frame st.frames (taken st.world) t.memory (x t sp) back
     = subst (λ ps. MemoryMatches p n st.top.frame st.frames (taken st.world) ps (x t sp) back) (sym at.memory) (subst (λ a. MemoryMatches p n st.top.frame st.frames (taken st.world) s.memory a back) (sym stack) held) in
     let code_t : PiecesAt t.memory g (here + 2) rear = subst (λ ps. PiecesAt ps g (here + 2) rear) (sym at.memory) parts.1 in
@@ -188,15 +183,16 @@ read_runs places turns image p n st next w back o wants h there read bytes stand
       pc = got.pc ∙ omega (arith, stood.next, total);
       memory = got.memory;
     }) in
-    let outside_end : SameOutside went.world end
-    = outside_finished (slot_kinds p n) wants (byte_of st.world.input) st.top.frame went.frame (taken st.world) went.world end went.stored (outside_stays (taken st.world) turn.after end last.runtime turn.outside) in
+    let runtime_end : RuntimeMatches p st.frames went.world end
+    = runtime_finished p st.frames (slot_kinds p n) wants (byte_of st.world.input) st.top.frame went.frame (taken st.world) went.world end went.stored
+    (runtime_stays p st.frames (taken st.world) turn.after end last.runtime turn.runtime) in
     subst (λ (y : LinearState). Matched image (length (linear_code (shape p n) o)) w [] (λ b. Matches p y b)) went.next_is (record {
       turns = 1 + 1 + got.steps;
       few = omega (arith, got.most, total);
       some = λ words. omega arith;
       after = end;
       runs = turns_then image (1 + 1) got.steps w turn.after end [] [] (turns_then image 1 1 w u turn.after [] [] ran.turns turn.turn) last.turns;
-      holds = record { number = n; back = back; runs = there_end.runs; registers = there_end.registers; pc = there_end.pc; memory = there_end.memory; outside = outside_end };
+      holds = record { number = n; back = back; runs = there_end.runs; registers = there_end.registers; pc = there_end.pc; memory = there_end.memory; runtime = runtime_end };
     })
 
 pub bytes_run : PlacesAreWritten → CallsAreTurns → BytesRun

@@ -1,6 +1,6 @@
 -- A return is matched.
-use Rattle.std.proofs.Common.{◌≡◌, ◌∙◌, refl, sym, ap, subst, arith, ℕ, ◌+◌, ◌<◌, ◌≤◌, ℤ, pos, List, [], ◌∷◌, ◌++◌, length, length-append, Option, Some, None}
-use Rattle.std.specs.Prelude.{slice_get}
+use Rattle.std.proofs.Common.{◌≡◌, ◌∙◌, refl, sym, ap, subst, arith, ℕ, ◌+◌, ◌<◌, ◌≤◌, ℤ, pos, List, [], ◌∷◌, ◌++◌, length, length-append, Option, Some, None, inl, inr}
+use Rattle.std.specs.Prelude.{◌⊎◌, slice_get}
 use Rattle.rv64_isa.specs.State.{State, Part, with_value}
 use Rattle.rv64_isa.specs.Step.{x}
 use Rattle.cxa_runtime.specs.World as abi
@@ -10,7 +10,7 @@ use Rattle.region_forms.specs.World.{Frame, World}
 use Rattle.region_forms.specs.Evaluation.{Location, value_in, locate}
 use Rattle.region_forms.specs.Effect.{Effect, goes, calls, raises, terminates, ends, cancels, leaves_newest, meaningless, if_some, finished, stored_at, result_in}
 use Rattle.linear_forms.specs.Linear.{LinearOp, return}
-use Rattle.linear_forms.specs.Stub.{compiled}
+use Rattle.linear_forms.specs.Stub.{compiled, end_catch, terminating, call_unexpected}
 use Rattle.linear_forms.specs.Activation.{Activation, State as LinearState, goes_to, compiled_op, fetch, kinds}
 use Rattle.linear_forms.specs.Machine.{step}
 use Rattle.linear_forms.specs.Operation.{settled, wanted_by, returned_with}
@@ -34,17 +34,18 @@ use Rattle.code_simulation.proofs.Values.{code_after}
 use Rattle.code_simulation.proofs.Testing.{values_are_computed}
 use Rattle.code_simulation.proofs.Framing.{epilogue_leaves}
 use Rattle.operation_simulation.specs.Plan.{Plan, function, shape, slot_kinds, routine, first_word, setting}
+use Rattle.operation_simulation.specs.StubCalls.{DestructorWaits, UnexpectedWaits, LeavingWaits}
 use Rattle.operation_simulation.specs.Calls.{Waits, CallsWait, stored_in, wanted, stored_behind}
-use Rattle.operation_simulation.specs.Matches.{SameOutside, MemoryMatches, Matches}
+use Rattle.operation_simulation.specs.Matches.{RuntimeMatches, MemoryMatches, Matches}
 use Rattle.operation_simulation.specs.Operations.{Matched}
 use Rattle.operation_simulation.specs.Returns.{closed, ResultStands, WantedStands, ReturnsRun}
 use Rattle.operation_simulation.proofs.Words.{OperationAt, operation_at, even_base, word_below}
 use Rattle.operation_simulation.proofs.Holding.{location_may, location_matches}
 use Rattle.operation_simulation.proofs.Matching.{Stands, stands_by, ready_here, Arrives, matched}
-use Rattle.operation_simulation.proofs.Quiet.{step_is, outside_stored}
+use Rattle.operation_simulation.proofs.Quiet.{step_is, runtime_stored}
 use Rattle.operation_simulation.proofs.Asked.{wanted_stands}
 use Rattle.operation_simulation.specs.Asked.{WantedAsked}
-use Rattle.operation_simulation.proofs.Closing.{popped}
+use Rattle.operation_simulation.proofs.Closing.{popped, destroyed_nothing, runtime_popped}
 
 -- ---- a value that a place wants
 
@@ -160,20 +161,42 @@ return_step p n m st next a fs r o runs there frames callee waits h =
         to leaves_newest got e = absurd (cc e)
         to meaningless got e = absurd (cc e)
 
-pub outside_finished : (kinds : Kinds) (q : Option Place) (z : ℤ) (frame new_frame : Frame) (v new_world : World) (w : abi.World) → finished kinds q z frame v ≡ goes new_frame new_world → SameOutside v w →
-    SameOutside new_world w
-outside_finished kinds None z frame new_frame v new_world w e h = let same : v ≡ new_world = cc e in subst (λ u. SameOutside u w) same h
-outside_finished kinds (Some q) z frame new_frame v new_world w e h = by (locate kinds frame q) e
+pub runtime_finished : (p : Plan) (fs : List Activation) (kinds : Kinds) (q : Option Place) (z : ℤ) (frame new_frame : Frame) (v new_world : World) (w : abi.World) →
+    finished kinds q z frame v ≡ goes new_frame new_world → RuntimeMatches p fs v w → RuntimeMatches p fs new_world w
+runtime_finished p fs kinds None z frame new_frame v new_world w e h = let same : v ≡ new_world = cc e in subst (λ u. RuntimeMatches p fs u w) same h
+runtime_finished p fs kinds (Some q) z frame new_frame v new_world w e h = by (locate kinds frame q) e
   where
-    by : (o : Option Location) → if_some o (λ l. stored_at l z frame v) ≡ goes new_frame new_world → SameOutside new_world w
+    by : (o : Option Location) → if_some o (λ l. stored_at l z frame v) ≡ goes new_frame new_world → RuntimeMatches p fs new_world w
     by None got = absurd (cc got)
-    by (Some l) got = outside_stored l z frame new_frame v new_world w got h
+    by (Some l) got = runtime_stored p fs l z frame new_frame v new_world w got h
 
 -- ---- a return
 
--- the call that waits, by the number of its function
-waits_for : (p : Plan) (n m : ℕ) (a : Activation) (v : World) (memory : List Part) (stack back outer : ℕ) → Waits p n a v memory stack back outer → a.function ≡ compiled m → n ≡ m
-waits_for p n m a v memory stack back outer h callee = let both : compiled n ≡ compiled m = sym h.callee ∙ callee in cc both
+-- the call of a compiled function that waits, by the function's number
+pub record CallWaits (p : Plan) (m : ℕ) (a : Activation) (fs : List Activation) (v : World) (memory : List Part) (stack back limit : ℕ) : Type 0 where
+  pub outer : ℕ
+  pub less : a.frame.call < limit
+  pub waits : Waits p m a v memory stack back outer
+  pub rest : CallsWait p fs v memory (stack + (shape p m).size) outer a.frame.call
+
+pub call_waits : (p : Plan) (m : ℕ) (a : Activation) (fs : List Activation) (v : World) (memory : List Part) (stack back limit : ℕ) → a.function ≡ compiled m → CallsWait p (a ∷ fs) v memory stack back limit →
+    CallWaits p m a fs v memory stack back limit
+call_waits p m a fs v memory stack back limit callee (inl h) =
+    let both : compiled h.1 ≡ compiled m = sym h.3.callee ∙ callee in
+    let same : h.1 ≡ m = cc both in
+    record {
+      outer = h.2;
+      less = h.0;
+      waits = subst (λ i. Waits p i a v memory stack back h.2) same h.3;
+      rest = subst (λ i. CallsWait p fs v memory (stack + (shape p i).size) h.2 a.frame.call) same h.4;
+    }
+call_waits p m a fs v memory stack back limit callee (inr (inl h)) = by h.1.waits
+  where
+    by : DestructorWaits p a v memory stack back ⊎ UnexpectedWaits p a v memory stack back ⊎ LeavingWaits p a v memory stack back → CallWaits p m a fs v memory stack back limit
+    by (inl w) = absurd (let both : end_catch ≡ compiled m = sym w.callee ∙ callee in cc both)
+    by (inr (inl w)) = absurd (let both : call_unexpected ≡ compiled m = sym w.callee ∙ callee in cc both)
+    by (inr (inr w)) = absurd (let both : call_unexpected ≡ compiled m = sym w.callee ∙ callee in cc both)
+call_waits p m a fs v memory stack back limit callee (inr (inr h)) = absurd (let both : terminating ≡ compiled m = sym h.0.callee ∙ callee in cc both)
 
 return_runs : PlacesAreWritten → (image : Image) (p : Plan) (n m : ℕ) (st next : LinearState) (w : abi.World) (a : Activation) (fs : List Activation) (r : Option ℕ) (o : LinearOp) (back outer : ℕ) →
     Stands p n st w back → slice_get (function p n).ops st.top.place ≡ Some (return r) → st.frames ≡ a ∷ fs → slice_get (function p m).ops a.place ≡ Some o → a.frame.call < st.top.frame.call →
@@ -238,14 +261,13 @@ return_runs places image p n m st next w a fs r o back outer h there frames wait
     let there_u : Arrives q m to outer u = record { runs = waiting.callee; registers = got.registers; pc = got.pc ∙ omega (arith, own_m.next, sum_m); memory = got.memory } in
     subst (λ y. Matched image (length (linear_code f (return r)) + length behind) w [] (λ v. Matches q y v)) went.next_is
     (matched image q m to w outer (length (linear_code f (return r)) + length behind) k u (omega (arith, first.most, one, got.most, total)) (λ some. omega arith) runs there_u
-    (outside_finished (slot_kinds p m) (wanted o) went.value a.frame went.frame st.world went.world w went.stored h.outside))
+    (runtime_finished q fs (slot_kinds p m) (wanted o) went.value a.frame went.frame st.world went.world w went.stored
+    (runtime_popped p d a fs st.world w (subst (λ gs. RuntimeMatches p gs st.world w) frames h.runtime) (destroyed_nothing p m a waiting.callee))))
 
 pub returns_run : PlacesAreWritten → ReturnsRun
 returns_run places image p n m st next w a fs r o h runs there frames callee waits result wants e =
     let stood = stands_by p n st w h runs in
     let waiting : CallsWait p (a ∷ fs) st.world w.hart.memory (x w.hart sp + (shape p n).size) h.back st.top.frame.call
     = subst (λ gs. CallsWait p gs st.world w.hart.memory (x w.hart sp + (shape p n).size) h.back st.top.frame.call) frames stood.memory.waiting in
-    let same : waiting.1 ≡ m = waits_for p waiting.1 m a st.world w.hart.memory (x w.hart sp + (shape p n).size) h.back waiting.2 waiting.3 callee in
-    let waits_m = subst (λ i. Waits p i a st.world w.hart.memory (x w.hart sp + (shape p n).size) h.back waiting.2) same waiting.3 in
-    let rest_m = subst (λ i. CallsWait p fs st.world w.hart.memory (x w.hart sp + (shape p n).size + (shape p i).size) waiting.2 a.frame.call) same waiting.4 in
-    return_runs places image p n m st next w a fs r o h.back waiting.2 stood there frames waits waiting.0 waits_m rest_m result wants (return_step p n m st next a fs r o runs there frames callee waits e)
+    let c = call_waits p m a fs st.world w.hart.memory (x w.hart sp + (shape p n).size) h.back st.top.frame.call callee waiting in
+    return_runs places image p n m st next w a fs r o h.back c.outer stood there frames waits c.less c.waits c.rest result wants (return_step p n m st next a fs r o runs there frames callee waits e)

@@ -108,7 +108,7 @@ given_bytes g given (suc k) h few fits le =
     let eight : rounded_up 7 slot.size ≡ 8 = fit_size slot.kind slot.size word.0 (subst (λ (y : SlotKind). WordFits y word.0) kind fit) (h.slots k slot there.1) in
     omega (arith, bytes_next g.slots k slot there.1, eight, given_bytes g given k h few fits (omega (arith, le)))
 
-pub got_inside : (given : List Word) (j : ℕ) (word : Word) → slice_get given j ≡ Some word → j < length given
+pub got_inside : {A : Type 0} (given : List A) (j : ℕ) (word : A) → slice_get given j ≡ Some word → j < length given
 got_inside [] j word e = absurd (cc e)
 got_inside (x ∷ given) zero word e = omega arith
 got_inside (x ∷ given) (suc j) word e = omega (arith, got_inside given j word e)

@@ -8,13 +8,14 @@ use Rattle.linear_forms.specs.Linear.{FunctionCode, LinearOp}
 use Rattle.linear_forms.specs.UnitRun.{no_code}
 use Rattle.emission_forms.specs.Bounds.{LinearFits}
 use Rattle.emission_forms.specs.Piece.{Piece, placed, words_from}
-use Rattle.emission_forms.specs.Routine.{Routine, routine_words, all_words, routine_code, routines_code}
-use Rattle.emission_forms.specs.StubCode.{start_routine, stub_words, stub_routines}
-use Rattle.emission_forms.specs.Emitted.{unit_words, unit_routines, function_first, stub_target, emitted_stubs, function_routine}
+use Rattle.emission_forms.specs.Routine.{Routine, routine_words, all_words}
+use Rattle.emission_forms.specs.StubCode.{stub_words}
+use Rattle.emission_forms.specs.Emitted.{unit_words, unit_routines, function_first, emitted_stubs, function_routine}
 use Rattle.emission_forms.proofs.Words.{words_stand}
 use Rattle.code_simulation.specs.Memory.{WordAt}
 use Rattle.code_simulation.specs.Standing.{Ground, address, PieceFits, PiecesAt, WordsAt}
-use Rattle.code_simulation.specs.UnitAt.{routine_ground, routine_pieces}
+use Rattle.code_simulation.specs.UnitAt.{routine_pieces}
+use Rattle.stub_simulation.specs.Words.{StubsStand}
 use Rattle.operation_simulation.specs.Plan.{Plan, function, routine, first_word, setting}
 use Rattle.operation_simulation.specs.Matches.{FrameIs}
 use Rattle.operation_simulation.specs.Units.{UnitsStand}
@@ -77,9 +78,6 @@ each P (x ∷ xs) (suc n) a h e = each P xs n a h.1 e
 stub_length : length emitted_stubs.code ≡ stub_words
 stub_length = refl
 
-start_fits : AllByRecursion PieceFits (routine_pieces start_routine)
-start_fits = (omega arith, ((omega arith, omega arith), ((omega arith, omega arith, omega arith), ((omega arith, omega arith, omega arith), tt))))
-
 function_stands : (p : Plan) (memory : List Part) (n : ℕ) → n < length p.unit.functions → routine_words (routine p n) < 2 ^ 18 → WordsAt memory p.base (emitted_stubs.code ++ unit_words p.unit) →
     PiecesAt memory (setting p n).ground (first_word p n) (routine_pieces (routine p n))
 function_stands p memory n known short words =
@@ -104,15 +102,12 @@ registers_by p n place o h e = by (slice_get p.unit.functions n) refl
         let ops : slice_get g.ops place ≡ Some o = sym (ap (λ g. slice_get (unwrap_or g no_code).ops place) is) ∙ e in
         each LinearFits g.ops place o (each (λ (f : FunctionCode). AllByRecursion LinearFits f.ops) p.unit.functions n g h is) ops
 
-pub units_stand : UnitsStand
-units_stand p memory few short frames registers words = record {
+pub units_stand : StubsStand → UnitsStand
+units_stand stubs_stand p memory few short frames registers words = record {
   few = few;
   short = λ n known. each (λ (g : FunctionCode). routine_words (function_routine g) < 2 ^ 18) p.unit.functions n (function p n) short (there p.unit.functions n known);
   frames = λ n known. each FrameIs p.unit.functions n (function p n) frames (there p.unit.functions n known);
   registers = λ n place o e. registers_by p n place o registers e;
-  start = pieces_stand memory (routine_ground p.unit p.base (λ t. stub_target t) 0 start_routine) 0 (routine_pieces start_routine) start_fits (omega arith)
-      (λ i word e. subst (λ n. WordAt memory (p.base + 4 * n) word) (omega arith)
-      (words i word (get_left emitted_stubs.code (unit_words p.unit) i word
-      (get_left (routine_code (λ t. stub_target t) 0 start_routine) (routines_code (λ t. stub_target t) (0 + routine_words start_routine) (drop 1 stub_routines)) i word e))));
+  stubs = stubs_stand p.unit p.base memory words;
   functions = λ n known. function_stands p memory n known (each (λ (g : FunctionCode). routine_words (function_routine g) < 2 ^ 18) p.unit.functions n (function p n) short (there p.unit.functions n known)) words;
 }

@@ -3,6 +3,7 @@ use Rattle.std.proofs.Common.{◌≡◌, ◌∙◌, sym, ap, arith, ℕ, zero, s
 use Rattle.run_items.specs.declared.item.Item.{Item}
 use Rattle.scope_rules.specs.Outcome.{exit}
 use Rattle.cxa_runtime.specs.declared.effect.End.TheVariants.{Exit}
+use Rattle.cxa_runtime.specs.World as abi
 use Rattle.cxa_runtime.specs.Run.{Ran, run}
 use Rattle.region_forms.specs.World.{World}
 use Rattle.linear_forms.specs.Activation.{State, by_program}
@@ -59,9 +60,10 @@ end_step p st most z v (inl s) = (s.ends, end_world p s.number st s.result z v s
 end_step p st most z v (inr s) = (s.ends, exit_world p s.number s.value st s.operation z v s.runs s.there s.calls s.ends)
 
 pub programs_run_plainly : PlacesAreWritten → AddressesAreComputed → CallsAreTurns → ProgramsRunPlainly
-programs_run_plainly places addresses turns image u base w input replies n most q last items last_turns z v before same_input same_replies none quiet made end =
-    let p : Plan = plan_of_main u base in
-    let start = main_begins image u base w input replies before same_input same_replies none quiet in
+programs_run_plainly places addresses turns image u base tables s input replies n most q last items last_turns z v before made end =
+    let p : Plan = plan_of_main u base tables in
+    let w : abi.World = abi.begins s input replies in
+    let start = main_begins image u base tables s input replies before in
     let all = all_steps n p q (first_state u input replies) last most items made in
     let ended = end_step q last last_turns z v end in
     let one : exec (code_of u) 1 last ≡ over (by_program (exit z)) v = ap (λ c. go_on (exec (code_of u) 0) (step (code_of c) last)) (sym all.unit) ∙ ap (go_on (exec (code_of u) 0)) ended.0 in

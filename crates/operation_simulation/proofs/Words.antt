@@ -70,7 +70,7 @@ place_below p memory n place h known =
 
 -- the first word of all stands at a multiple of 4
 pub even_base : (p : Plan) (memory : List Part) → UnitStands p memory → p.base % 4 ≡ 0
-even_base p memory h = omega (arith, h.start.0.word.aligned)
+even_base p memory h = omega (arith, h.stubs.start.0.word.aligned)
 
 -- and so every word of a function's operation is at an address
 pub word_below : (p : Plan) (memory : List Part) (n place : ℕ) (pieces : List Piece) → UnitStands p memory → n < length p.unit.functions → OperationAt p memory n place pieces →

@@ -18,7 +18,7 @@ use Rattle.code_simulation.specs.Turning.{Reaches}
 use Rattle.code_simulation.specs.UnitAt.{ground_at, whole_words}
 use Rattle.operation_simulation.specs.Plan.{Plan, shape}
 use Rattle.operation_simulation.specs.Calls.{stack_end}
-use Rattle.operation_simulation.specs.Matches.{UnitStands, StackMay, Matches}
+use Rattle.operation_simulation.specs.Matches.{UnitStands, StackMay, ObjectsMay, Matches}
 use Rattle.operation_simulation.specs.Entering.{opened}
 
 -- the first byte of a global: they stand downwards below the records of types, which stand below the first word
@@ -36,33 +36,38 @@ is_global many (of_variable c s) = false
 is_global many (of_exception e) = false
 
 -- before main, globals alone are live
-abbrev pub plan_before : UnitCode → ℕ → Plan
-plan_before u base = record {
+abbrev pub plan_before : UnitCode → ℕ → (tables : ℕ → ℕ) → Plan
+plan_before u base tables = record {
   unit = u;
   base = base;
   at = place_before u base;
   live = is_global (length u.globals);
   size = λ b. 4;
   ints = λ b. true;
+  tables = tables;
+  hidden = 0;
 }
 
--- A hart before the first word: the unit stands, sp is at the stack's end, and the globals have their values, all below the stack and near
--- to the code.
-pub record StandsBefore (u : UnitCode) (base : ℕ) (s : State) : Type 0 where
+-- A hart before the first word: the unit stands, sp is at the stack's end, and the globals have their values, all below the exception objects
+-- and the stack and near to the code.
+pub record StandsBefore (u : UnitCode) (base : ℕ) (tables : ℕ → ℕ) (s : State) : Type 0 where
   pub pc : s.pc ≡ base
   pub registers : length s.regs ≡ 32
   pub stack : x s sp ≡ stack_end
-  pub unit : UnitStands (plan_before u base) s.memory
+  pub unit : UnitStands (plan_before u base tables) s.memory
   pub jump : PiecesAt s.memory (ground_at u base (record { target = target_byte u; label = λ l. l })) stub_words (main_jump u)
   pub main : u.main < length u.functions
   pub may : StackMay s.memory
+  pub objects : ObjectsMay s.memory
   pub deep : 24 * length u.types + 4 * length u.globals ≤ base
   pub near : 4 * whole_words u + 24 * length u.types + 4 * length u.globals < 2 ^ 30
-  pub low : base ≤ 0x7000_0000
+  pub low : base ≤ 0x6000_0000
   pub globals : (g : ℕ) (z : ℤ) → slice_get u.globals g ≡ Some z → IntAt s.memory (global_byte u base g) z
   pub writable : (g o n : ℕ) → g < length u.globals → o + n ≤ 4 → MayWrite s.memory (global_byte u base g + o) n
 
--- Eight turns lead from there to where the first operation of main begins in the machine for linear code, with the same input and replies.
+-- Eight turns lead from there, on a new machine, to where the first operation of main begins in the machine for linear code, with the same
+-- input and replies.
 abbrev pub MainBegins : Type 0
-MainBegins = (image : Image) (u : UnitCode) (base : ℕ) (w : abi.World) (input : List ℕ) (replies : List (List Reply)) → StandsBefore u base w.hart → w.input ≡ input → w.replies ≡ replies → w.last_number ≡ 0 →
-    w.terminating ≡ false → Reaches image 8 w [] (λ v. Matches (opened (plan_before u base) u.main 0 (stack_end - (shape (plan_before u base) u.main).size)) (first_state u input replies) v)
+MainBegins = (image : Image) (u : UnitCode) (base : ℕ) (tables : ℕ → ℕ) (s : State) (input : List ℕ) (replies : List (List Reply)) → StandsBefore u base tables s →
+    let p = plan_before u base tables in
+    Reaches image 8 (abi.begins s input replies) [] (λ v. Matches (opened p u.main 0 (stack_end - (shape p u.main).size)) (first_state u input replies) v)

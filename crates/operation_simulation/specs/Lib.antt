@@ -1,6 +1,8 @@
 pub mod Plan
 pub mod Extents
+pub mod StubCalls
 pub mod Calls
+pub mod Exceptions
 pub mod Matches
 pub mod Operations
 pub mod Asked

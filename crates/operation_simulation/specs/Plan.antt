@@ -13,7 +13,9 @@ use Rattle.code_simulation.specs.Frames.{Setting}
 use Rattle.code_simulation.specs.UnitAt.{routine_ground}
 
 -- A unit and the address of its first word; of what an address begins at, the first byte, whether it is live, how many bytes it has, and
--- whether these are ints that addresses reach. A global, a variable and an exception have such ints, any other slot of a call has not.
+-- whether these are ints that addresses reach. A global, a variable and an exception have such ints, any other slot of a call has not. The
+-- address of each function's table of exceptions; and how many bytes lie between the frame of terminate, where it runs, and those of the calls
+-- below it: what a forced unwind has left that came to a call without a site.
 pub record Plan : Type 0 where
   pub unit : UnitCode
   pub base : ℕ
@@ -21,6 +23,8 @@ pub record Plan : Type 0 where
   pub live : Base → Bool
   pub size : Base → ℕ
   pub ints : Base → Bool
+  pub tables : ℕ → ℕ
+  pub hidden : ℕ
 
 -- a function of the unit, its frame, the kinds of its slots, and its code
 abbrev pub function : Plan → ℕ → FunctionCode

@@ -15,6 +15,7 @@ ghost use Rattle.operation_simulation.specs.Units.{UnitsStand};
 ghost use Rattle.operation_simulation.specs.Whole.{ProgramsRunPlainly};
 
 use code_simulation::laws::{addresses_are_computed, calls_are_turns, places_are_written};
+use stub_simulation::laws::stubs_stand;
 
 /// A store leaves all but what it is made to: open calls, return addresses, and ints at other addresses.
 pub fn stores_stay_apart()
@@ -92,7 +93,9 @@ pub fn pieces_fit()
 /// Where all words of a unit stand, its functions stand as the simulation asks.
 pub fn units_stand()
     ensures { UnitsStand }
-{}
+{
+    stubs_stand();
+}
 
 /// A new hart at a unit's first word comes to where main's first operation begins.
 pub fn main_begins()
@@ -113,7 +116,7 @@ pub fn frames_are_laid_out()
     ensures { FramesAreLaidOut }
 {}
 
-/// At most 8,190 open calls leave room in the stack for another, whatever their functions.
+/// At most 8,190 open calls leave room in the stack for another, whatever their functions, but for what waiting functions of the runtime take.
 pub fn stack_has_room()
     ensures { StackHasRoom }
 {}
