@@ -1,5 +1,5 @@
 -- Where a unit's code stands, and where that stands which addresses of linear code begin at.
-use Rattle.std.specs.Prelude.{ℕ, ◌+◌, Bool, length}
+use Rattle.std.specs.Prelude.{ℕ, ◌+◌, ◌&&◌, not, Bool, length}
 use Rattle.region_forms.specs.Form.{Kinds, kinds_of}
 use Rattle.region_forms.specs.World.{Base}
 use Rattle.linear_forms.specs.Linear.{FunctionCode, UnitCode}
@@ -42,6 +42,10 @@ routine p n = function_routine (function p n)
 -- its first word
 abbrev pub first_word : Plan → ℕ → ℕ
 first_word p n = stub_words + function_first p.unit n
+
+-- some of what was live is over
+abbrev pub narrowed : Plan → (over : Base → Bool) → Plan
+narrowed p over = record p { live = λ b. p.live b && not (over b) }
 
 -- where things stand for code with places of its own
 abbrev pub setting_on : Plan → (ground : Ground) → Setting

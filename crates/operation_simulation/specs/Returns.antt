@@ -1,5 +1,5 @@
 -- A call of a compiled function returns to one that waits.
-use Rattle.std.specs.Prelude.{◌≡◌, ℕ, ◌+◌, ◌&&◌, not, List, [], ◌∷◌, length, slice_get, Option, Some, None}
+use Rattle.std.specs.Prelude.{◌≡◌, ℕ, ◌+◌, List, [], ◌∷◌, length, slice_get, Option, Some, None}
 use Rattle.cxa_runtime.specs.World as abi
 use Rattle.cxa_runtime.specs.Raising.{Image}
 use Rattle.region_forms.specs.Form.{in_slot, Place}
@@ -10,7 +10,7 @@ use Rattle.linear_forms.specs.Activation.{Activation, State, goes_to}
 use Rattle.linear_forms.specs.Machine.{step}
 use Rattle.linear_forms.specs.UnitRun.{code_of}
 use Rattle.emission_forms.specs.LinearCode.{linear_code}
-use Rattle.operation_simulation.specs.Plan.{Plan, function, shape}
+use Rattle.operation_simulation.specs.Plan.{Plan, function, shape, narrowed}
 use Rattle.operation_simulation.specs.Extents.{newer}
 use Rattle.operation_simulation.specs.Calls.{wanted, stored_behind}
 use Rattle.operation_simulation.specs.Matches.{Matches}
@@ -19,7 +19,7 @@ use Rattle.operation_simulation.specs.Asked.{WantedAsked}
 
 -- slots of calls newer than one are no longer live
 abbrev pub closed : Plan → ℕ → Plan
-closed p c = record p { live = λ b. p.live b && not (newer c b) }
+closed p c = narrowed p (newer c)
 
 -- the slot of a result is one of the frame
 abbrev pub ResultStands : Plan → ℕ → Frame → Option ℕ → Type 0
