@@ -1,0 +1,6 @@
+pub mod LiveLists
+pub mod Headers
+pub mod Finding
+pub mod Freed
+pub mod Ecalls
+pub mod Frees

@@ -1,0 +1,13 @@
+// Laws of operations on exceptions: calls of no effect, whose contracts state what holds of every program.
+ghost use Rattle.exception_operations.specs.Frees.{FreesRun};
+
+use code_simulation::laws::calls_are_turns;
+use stub_simulation::laws::calls_are_made;
+
+/// An exception object that is being built is given back on the ABI machine as on the machine for linear code.
+pub fn frees_run()
+    ensures { FreesRun }
+{
+    calls_are_turns();
+    calls_are_made();
+}
