@@ -117,7 +117,7 @@ row_inside before limit (x ∷ fs) zero f (first, rest) e =
     subst (λ y. y.address + 4 * y.function.words ≤ limit) (some_same x f e) (row_end (x.address + 4 * x.function.words) limit fs rest)
 row_inside before limit (x ∷ fs) (suc n) f (first, rest) e = row_inside (x.address + 4 * x.function.words) limit fs n f rest e
 
-code_low : (u : UnitCode) (i : CleanImage) (address : ℕ) (r : Routine) → IsImageOf u i → StandsAt u address r → address + 4 * routine_words r ≤ 0x60000000
+pub code_low : (u : UnitCode) (i : CleanImage) (address : ℕ) (r : Routine) → IsImageOf u i → StandsAt u address r → address + 4 * routine_words r ≤ 0x60000000
 code_low u i address r image stands =
     let e = emitted_of u in
     let inside = row_inside (records_end u) (records_end u + 4 * length (all_code e)) (all_functions e) stands.number (placed address stands.first r) (code_row e image.linkable) stands.there in

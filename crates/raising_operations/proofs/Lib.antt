@@ -1,0 +1,4 @@
+pub mod Words
+pub mod Saying
+pub mod Waiting
+pub mod Stacks
