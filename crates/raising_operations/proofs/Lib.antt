@@ -2,3 +2,4 @@ pub mod Words
 pub mod Saying
 pub mod Waiting
 pub mod Stacks
+pub mod Pads
