@@ -4,3 +4,5 @@ pub mod Finding
 pub mod Freed
 pub mod Ecalls
 pub mod Frees
+pub mod CaughtLists
+pub mod Enters

@@ -1,4 +1,5 @@
 // Laws of operations on exceptions: calls of no effect, whose contracts state what holds of every program.
+ghost use Rattle.exception_operations.specs.Enters.{EntersRun};
 ghost use Rattle.exception_operations.specs.Frees.{FreesRun};
 
 use code_simulation::laws::calls_are_turns;
@@ -7,6 +8,14 @@ use stub_simulation::laws::calls_are_made;
 /// An exception object that is being built is given back on the ABI machine as on the machine for linear code.
 pub fn frees_run()
     ensures { FreesRun }
+{
+    calls_are_turns();
+    calls_are_made();
+}
+
+/// An exception that travels is entered on the ABI machine as on the machine for linear code.
+pub fn enters_run()
+    ensures { EntersRun }
 {
     calls_are_turns();
     calls_are_made();
