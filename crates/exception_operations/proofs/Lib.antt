@@ -6,3 +6,8 @@ pub mod Ecalls
 pub mod Frees
 pub mod CaughtLists
 pub mod Enters
+pub mod Picking
+pub mod Putting
+pub mod Made
+pub mod Making
+pub mod Makes

@@ -1,3 +1,5 @@
 pub mod Objects
 pub mod Frees
 pub mod Enters
+pub mod Picks
+pub mod Makes

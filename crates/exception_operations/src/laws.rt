@@ -1,6 +1,7 @@
 // Laws of operations on exceptions: calls of no effect, whose contracts state what holds of every program.
 ghost use Rattle.exception_operations.specs.Enters.{EntersRun};
 ghost use Rattle.exception_operations.specs.Frees.{FreesRun};
+ghost use Rattle.exception_operations.specs.Makes.{MakesRun};
 
 use code_simulation::laws::calls_are_turns;
 use stub_simulation::laws::calls_are_made;
@@ -16,6 +17,14 @@ pub fn frees_run()
 /// An exception that travels is entered on the ABI machine as on the machine for linear code.
 pub fn enters_run()
     ensures { EntersRun }
+{
+    calls_are_turns();
+    calls_are_made();
+}
+
+/// An exception object is made on the ABI machine as on the machine for linear code, in whatever vacant slot.
+pub fn makes_run()
+    ensures { MakesRun }
 {
     calls_are_turns();
     calls_are_made();
