@@ -11,3 +11,4 @@ pub mod Putting
 pub mod Made
 pub mod Making
 pub mod Makes
+pub mod Pads

@@ -3,3 +3,4 @@ pub mod Frees
 pub mod Enters
 pub mod Picks
 pub mod Makes
+pub mod Pads

@@ -2,6 +2,7 @@
 ghost use Rattle.exception_operations.specs.Enters.{EntersRun};
 ghost use Rattle.exception_operations.specs.Frees.{FreesRun};
 ghost use Rattle.exception_operations.specs.Makes.{MakesRun};
+ghost use Rattle.exception_operations.specs.Pads.{PadsRun};
 
 use code_simulation::laws::calls_are_turns;
 use stub_simulation::laws::calls_are_made;
@@ -29,3 +30,8 @@ pub fn makes_run()
     calls_are_turns();
     calls_are_made();
 }
+
+/// A landing pad that is entered keeps what is on its way and the selector in its slots.
+pub fn pads_run()
+    ensures { PadsRun }
+{}

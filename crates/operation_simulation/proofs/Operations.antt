@@ -52,10 +52,10 @@ use Rattle.operation_simulation.proofs.Asked.{operation_stands}
 use Rattle.operation_simulation.proofs.Quiet.{moved, plain_whole, plain_dropped, plain_needs, store_step, bind_step, value_step, jump_step, label_step, test_step, runtime_stored}
 
 -- the first word of the next operation
-abbrev word_here : Plan → ℕ → LinearState → ℕ
+abbrev pub word_here : Plan → ℕ → LinearState → ℕ
 word_here p n st = first_word p n + op_word (routine p n) st.top.place
 
-abbrev IsMatched : Image → Plan → ℕ → LinearOp → LinearState → abi.World → Type 0
+abbrev pub IsMatched : Image → Plan → ℕ → LinearOp → LinearState → abi.World → Type 0
 IsMatched image p n o next w = Matched image (length (linear_code (shape p n) o)) w [] (λ v. Matches p next v)
 
 short_function : (p : Plan) (n : ℕ) (st : LinearState) (w : abi.World) (back : ℕ) → Stands p n st w back → routine_words (routine p n) < 2 ^ 18
@@ -181,7 +181,7 @@ same_place image p n st w back o h there none =
 -- ---- jumps
 
 -- the jump of an operation, at a word of it
-jump_goes : (p : Plan) (n : ℕ) (st : LinearState) (w : abi.World) (back l here words : ℕ) (s : State) → Stands p n st w back → s.memory ≡ w.hart.memory → PieceAt s.memory (setting p n).ground here (jump_to l) →
+pub jump_goes : (p : Plan) (n : ℕ) (st : LinearState) (w : abi.World) (back l here words : ℕ) (s : State) → Stands p n st w back → s.memory ≡ w.hart.memory → PieceAt s.memory (setting p n).ground here (jump_to l) →
     s.pc ≡ address (setting p n).ground here → here ≡ word_here p n st + words → op_word (routine p n) st.top.place + words ≤ routine_words (routine p n) →
     let there = first_word p n + op_word (routine p n) (label_place (function p n).ops l 0) in Executes 1 s (state (address (setting p n).ground there) s.regs s.memory)
 jump_goes p n st w back l here words s h memory code at place inside =

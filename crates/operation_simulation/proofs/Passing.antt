@@ -57,7 +57,7 @@ four_of_eight memory a v may =
 pub record IsPassed (t : Setting) (word : Word) : Type 0 where
   pub holds : (memory : List Part) (a : ℕ) → a % 8 ≡ 0 → a < 2 ^ 64 → MayWrite memory a 4 → MayWrite memory a 8 → WordHolds t (with_value memory a 8 (word_bits t word)) a word
 
-number_passed : (t : Setting) (z : ℤ) → IsInt z → IsPassed t (number_word z)
+pub number_passed : (t : Setting) (z : ℤ) → IsInt z → IsPassed t (number_word z)
 number_passed t z int = record {
   holds = λ memory a even below may4 may8.
       record { int = int; aligned = omega (arith, even); below = below; holds = subst (Holds (with_value memory a 8 (extended z)) a 4) (int_stored z int) (four_of_eight memory a (extended z) may4) };
