@@ -1,0 +1,10 @@
+mod Sizes
+mod Callees
+mod Where
+mod Expressions
+mod Constructed
+mod Statements
+mod Functions
+mod Bodies
+mod Programs
+mod Codes

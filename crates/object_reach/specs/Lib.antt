@@ -1,0 +1,4 @@
+pub mod Rooms
+pub mod Reaches
+pub mod Givens
+pub mod Laws

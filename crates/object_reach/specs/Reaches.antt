@@ -1,0 +1,92 @@
+-- Operations that read and write ints inside what their addresses begin at, and pass addresses behind which lie as many bytes as what is
+-- called needs.
+use Rattle.std.specs.Prelude.{⊤, ℕ, ◌+◌, ◌≤◌, List, Option, Some, None}
+use Rattle.cxx_ast.specs.Limits.{most_class_bytes}
+use Rattle.region_forms.specs.Form.{Slot, Callee, defined, builtin, Value, number, load, unary, binary, call_value, Argument, int_argument, address_argument, handler_argument, Arguments, no_arguments, argument_then, Op, evaluate, store, bind, call, construct, destroy, make, throw, rethrow, enter, leave, Cleanup, destroy_scope, destroy_part, free_object, leave_handler, Region, seq, op, branch, loop, protect, catch, limit, barrier, leave_region, RegionList, no_regions, region_then, Clauses, no_clauses, clause_then}
+use Rattle.linear_forms.specs.Linear.{LinearOp, plain, jump_zero}
+use Rattle.object_reach.specs.Rooms.{Reach, HasRoom}
+
+-- what each function needs behind the addresses in its slots
+abbrev pub Needs : Type 0
+Needs = ℕ → Reach
+
+-- the bytes of an exception object (profile)
+abbrev pub exception_bytes : ℕ
+exception_bytes = 4096
+
+-- a built-in function is passed no address
+abbrev pub callee_needs : Needs → Callee → Reach
+callee_needs needs (defined n) = needs n
+callee_needs needs (builtin b) = λ s. 0
+
+abbrev mutual
+  -- where a function has this reach and these slots
+  pub ValueReaches : Needs → Reach → List Slot → Value → Type 0
+  ValueReaches needs reach slots (number v) = ⊤
+  ValueReaches needs reach slots (load q) = HasRoom reach slots q 4
+  ValueReaches needs reach slots (unary o v) = ValueReaches needs reach slots v
+  ValueReaches needs reach slots (binary o a b) = ValueReaches needs reach slots a × ValueReaches needs reach slots b
+  ValueReaches needs reach slots (call_value c args) = ArgumentsReach needs reach slots (callee_needs needs c) 0 args
+
+  pub ArgumentReaches : Needs → Reach → List Slot → ℕ → Argument → Type 0
+  ArgumentReaches needs reach slots n (int_argument v) = ValueReaches needs reach slots v
+  ArgumentReaches needs reach slots n (address_argument q) = HasRoom reach slots q n
+  ArgumentReaches needs reach slots n (handler_argument m) = ⊤
+
+  -- arguments for the slots from the i-th on
+  pub ArgumentsReach : Needs → Reach → List Slot → Reach → ℕ → Arguments → Type 0
+  ArgumentsReach needs reach slots wants i no_arguments = ⊤
+  ArgumentsReach needs reach slots wants i (argument_then a args) = ArgumentReaches needs reach slots (wants i) a × ArgumentsReach needs reach slots wants (i + 1) args
+
+-- the destructor of an exception object
+abbrev pub DestructorFits : Needs → Option ℕ → Type 0
+DestructorFits needs None = ⊤
+DestructorFits needs (Some d) = needs d 0 ≤ exception_bytes
+
+-- an operation
+abbrev pub OpReaches : Needs → Reach → List Slot → Op → Type 0
+OpReaches needs reach slots (evaluate v) = ValueReaches needs reach slots v
+OpReaches needs reach slots (store q v) = HasRoom reach slots q 4 × ValueReaches needs reach slots v
+OpReaches needs reach slots (bind s q) = HasRoom reach slots q (reach s)
+OpReaches needs reach slots (call c args) = ArgumentsReach needs reach slots (callee_needs needs c) 0 args
+OpReaches needs reach slots (construct q n args) = HasRoom reach slots q (needs n 0) × ArgumentsReach needs reach slots (needs n) 1 args
+OpReaches needs reach slots (destroy q n) = HasRoom reach slots q (needs n 0)
+OpReaches needs reach slots (make s) = reach s ≤ exception_bytes
+OpReaches needs reach slots (throw s t d) = DestructorFits needs d
+OpReaches needs reach slots rethrow = ⊤
+OpReaches needs reach slots (enter s) = ⊤
+OpReaches needs reach slots leave = ⊤
+
+-- a cleanup
+abbrev pub CleanupReaches : Needs → Reach → List Slot → Cleanup → Type 0
+CleanupReaches needs reach slots (destroy_scope q n) = HasRoom reach slots q (needs n 0)
+CleanupReaches needs reach slots (destroy_part q n) = HasRoom reach slots q (needs n 0)
+CleanupReaches needs reach slots (free_object s) = ⊤
+CleanupReaches needs reach slots leave_handler = ⊤
+
+abbrev mutual
+  -- all operations of a region; a handler's slot holds the address of an exception object
+  pub RegionReaches : Needs → Reach → List Slot → Region → Type 0
+  RegionReaches needs reach slots (seq rs) = RegionsReach needs reach slots rs
+  RegionReaches needs reach slots (op o) = OpReaches needs reach slots o
+  RegionReaches needs reach slots (branch v a b) = ValueReaches needs reach slots v × RegionReaches needs reach slots a × RegionReaches needs reach slots b
+  RegionReaches needs reach slots (loop v a) = ValueReaches needs reach slots v × RegionReaches needs reach slots a
+  RegionReaches needs reach slots (protect a c) = RegionReaches needs reach slots a × CleanupReaches needs reach slots c
+  RegionReaches needs reach slots (catch a cs) = RegionReaches needs reach slots a × ClausesReach needs reach slots cs
+  RegionReaches needs reach slots (limit a types) = RegionReaches needs reach slots a
+  RegionReaches needs reach slots (barrier a) = RegionReaches needs reach slots a
+  RegionReaches needs reach slots (leave_region n) = ⊤
+
+  pub RegionsReach : Needs → Reach → List Slot → RegionList → Type 0
+  RegionsReach needs reach slots no_regions = ⊤
+  RegionsReach needs reach slots (region_then a rs) = RegionReaches needs reach slots a × RegionsReach needs reach slots rs
+
+  pub ClausesReach : Needs → Reach → List Slot → Clauses → Type 0
+  ClausesReach needs reach slots no_clauses = ⊤
+  ClausesReach needs reach slots (clause_then t s a cs) = (reach s ≤ most_class_bytes) × RegionReaches needs reach slots a × ClausesReach needs reach slots cs
+
+-- an operation of linear code
+abbrev pub LinearReaches : Needs → Reach → List Slot → LinearOp → Type 0
+LinearReaches needs reach slots (plain o) = OpReaches needs reach slots o
+LinearReaches needs reach slots (jump_zero v l) = ValueReaches needs reach slots v
+LinearReaches needs reach slots o = ⊤
