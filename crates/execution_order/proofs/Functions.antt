@@ -1,0 +1,222 @@
+-- The operations of each function have ranks.
+use Rattle.std.proofs.Common.{◌≡◌, ◌⊎◌, ℕ, zero, suc, ◌+◌, ◌<◌, ◌≤◌, Bool, true, false, List, [], ◌∷◌, ◌++◌, map, length, length-append, Some, inl, inr, refl, sym, ap, ◌∙◌, subst, arith}
+use Rattle.std.specs.Prelude.{slice_get, unwrap_or, if◌then◌else◌}
+use Rattle.region_forms.specs.Form.{Region, seq, op, branch, loop, protect, catch, limit, barrier, leave_region, RegionFunction, Regions}
+use Rattle.linear_forms.specs.Linear.{LinearOp, plain, label, jump, jump_zero, pad, jump_filter, free, resume, unexpected, return}
+use Rattle.linear_forms.specs.Tables.{Cover, unpadded, label_place}
+use Rattle.linear_forms.specs.Sites.{Placed}
+use Rattle.linear_forms.specs.Activation.{Code}
+use Rattle.linear_forms.specs.CodeRuns.{HasAt}
+use Rattle.linear_forms.specs.Exits.{Exit, inner, first_label, crosses, name_of}
+use Rattle.linear_forms.specs.Emission.{Emitting, quiet, set_way}
+use Rattle.linear_forms.specs.Code.{region_code}
+use Rattle.linear_forms.specs.Unit.{emitting, placed_code, function_code, unit_of}
+use Rattle.linear_forms.specs.UnitRun.{no_code, code_at, code_of}
+use Rattle.linear_forms.proofs.Lists.{mapped}
+use Rattle.linear_forms.proofs.Standing.{functions_stand}
+use Rattle.execution_order.specs.Control.{goes_on, label_of, CanGo, TurnsBack}
+use Rattle.execution_order.specs.Order.{weight, AreRanks, OperationsAreInOrder}
+use Rattle.execution_order.proofs.Ranks.{weight_both, has_front, Ranked, ranked_front, ranked_back, at_place, NextRises, JumpRises, CoverAbove, Rises, AllRise, both_rise}
+use Rattle.execution_order.proofs.Pieces.{RegionOrdered}
+use Rattle.execution_order.proofs.Regions.{has_end, region_ordered}
+
+-- ranks in a list, and behind its end
+abbrev rank_in : List ℕ → ℕ → ℕ → ℕ
+rank_in ns other p = unwrap_or (slice_get ns p) other
+
+-- what stands at places from k on
+listed : (other : ℕ) (ns whole : List ℕ) (k : ℕ) → ((i : ℕ) → rank_in whole other (k + i) ≡ rank_in ns other i) → Ranked (rank_in whole other) k ns
+listed other [] whole k h = tt
+listed other (n ∷ ns) whole k h =
+    let here : k ≡ k + 0 = omega arith in
+    (ap (rank_in whole other) here ∙ h 0, listed other ns whole (k + 1) (λ i. let next : k + 1 + i ≡ k + suc i = omega arith in ap (rank_in whole other) next ∙ h (suc i)))
+
+all_listed : (other : ℕ) (ns : List ℕ) → Ranked (rank_in ns other) 0 ns
+all_listed other ns = listed other ns ns 0 (λ i. let same : 0 + i ≡ i = omega arith in ap (rank_in ns other) same)
+
+behind_all : (other : ℕ) (ns : List ℕ) (p : ℕ) → length ns ≤ p → rank_in ns other p ≡ other
+behind_all other [] zero h = refl
+behind_all other [] (suc p) h = refl
+behind_all other (n ∷ ns) zero h = absurd (omega (arith, h))
+behind_all other (n ∷ ns) (suc p) h = behind_all other ns p (omega (arith, h))
+
+-- the operation at a place is one of those that rise
+record Found (code : Code) (f : ℕ) (weigh : LinearOp → ℕ) (top : ℕ) (rank : ℕ → ℕ) (p : ℕ) (o : LinearOp) : Type 0 where
+  it : Placed
+  is : it.op ≡ o
+  covers : code.cover_at f p ≡ it.cover
+  rises : Rises code f weigh top rank p it
+
+module _ (code : Code) (f : ℕ) (weigh : LinearOp → ℕ) (top : ℕ) (rank : ℕ → ℕ) where
+  some_same : (a b : LinearOp) → Some a ≡ Some b → a ≡ b
+  some_same a b e = cc e
+
+  found : (is : List Placed) (q k p : ℕ) (o : LinearOp) → p ≡ q + k → k < length is → HasAt code f q is → AllRise code f weigh top rank q is → code.op_at f p ≡ Some o → Found code f weigh top rank p o
+  found [] q k p o e lt has all there = absurd (omega (arith, lt))
+  found (x ∷ is) q zero p o e lt has all there =
+      let same : q ≡ p = omega (arith, e) in
+      subst (λ n. code.op_at f n ≡ Some o → Found code f weigh top rank n o) same
+      (λ at. record { it = x; is = some_same x.op o (sym has.0 ∙ at); covers = has.1; rises = all.0 }) there
+  found (x ∷ is) q (suc k) p o e lt has all there = found is (q + 1) k p o (omega (arith, e)) (omega (arith, lt)) has.3 all.1 there
+
+  -- a step of an operation that rises
+  stepped : (p q : ℕ) (x : Placed) → Rises code f weigh top rank p x → code.cover_at f p ≡ x.cover → CanGo code f p x.op q → (rank p + weigh x.op ≤ rank q) ⊎ TurnsBack code f p q
+  stepped p q x r covers (inl go) = inl (to_next x.op r.next go.0)
+    where
+      to_next : (o : LinearOp) → NextRises code f weigh top rank p o → goes_on o ≡ true → rank p + weigh o ≤ rank q
+      to_next (plain o) h e = at_place rank q (p + 1) (rank p + weigh (plain o)) go.1 h
+      to_next (label l) h e = at_place rank q (p + 1) (rank p + weigh (label l)) go.1 h
+      to_next (jump l) h e = absurd (cc e)
+      to_next (jump_zero v l) h e = at_place rank q (p + 1) (rank p + weigh (jump_zero v l)) go.1 h
+      to_next (pad o s) h e = at_place rank q (p + 1) (rank p + weigh (pad o s)) go.1 h
+      to_next (jump_filter s n l) h e = at_place rank q (p + 1) (rank p + weigh (jump_filter s n l)) go.1 h
+      to_next (free s) h e = at_place rank q (p + 1) (rank p + weigh (free s)) go.1 h
+      to_next (resume s) h e = absurd (cc e)
+      to_next (unexpected o s) h e = absurd (cc e)
+      to_next (return result) h e = absurd (cc e)
+  stepped p q x r covers (inr (inl go)) = to_label x.op r.jump go.1
+    where
+      same_label : (l : ℕ) → Some l ≡ Some go.0 → q ≡ code.label_at f l
+      same_label l e = let same : l ≡ go.0 = cc e in go.2 ∙ ap (code.label_at f) (sym same)
+
+      to_label : (o : LinearOp) → JumpRises code f weigh top rank p o → label_of o ≡ Some go.0 → (rank p + weigh o ≤ rank q) ⊎ TurnsBack code f p q
+      to_label (plain o) h e = absurd (cc e)
+      to_label (label l) h e = absurd (cc e)
+      to_label (jump l) (inl h) e = inl (at_place rank q (code.label_at f l) (rank p + weigh (jump l)) (same_label l e) h)
+      to_label (jump l) (inr h) e = inr (subst (TurnsBack code f p) (sym (same_label l e)) h)
+      to_label (jump_zero v l) h e = inl (at_place rank q (code.label_at f l) (rank p + weigh (jump_zero v l)) (same_label l e) h)
+      to_label (pad o s) h e = absurd (cc e)
+      to_label (jump_filter s n l) h e = inl (at_place rank q (code.label_at f l) (rank p + weigh (jump_filter s n l)) (same_label l e) h)
+      to_label (free s) h e = absurd (cc e)
+      to_label (resume s) h e = absurd (cc e)
+      to_label (unexpected o s) h e = absurd (cc e)
+      to_label (return result) h e = absurd (cc e)
+  stepped p q x r covers (inr (inr go)) = inl (subst (CoverAbove code f weigh top rank (rank p + weigh x.op)) (sym covers ∙ go.1) r.pad)
+
+-- a function's code is what its regions make
+code_is : (r : Regions) (n : ℕ) (g : RegionFunction) → slice_get r.functions n ≡ Some g → code_at (unit_of r) n ≡ function_code g
+code_is r n g e = ap (λ o. unwrap_or o no_code) (mapped function_code r.functions n g e)
+
+op_inside : (is : List Placed) (p : ℕ) (o : LinearOp) → slice_get (map (λ x. x.op) is) p ≡ Some o → p < length is
+op_inside [] p o e = absurd (cc e)
+op_inside (x ∷ is) zero o e = omega arith
+op_inside (x ∷ is) (suc p) o e = omega (arith, op_inside is p o e)
+
+-- code without labels
+abbrev NotLabel : LinearOp → Type 0
+NotLabel (label l) = ⊥
+NotLabel o = Unit {0}
+
+abbrev NoLabels : List Placed → Type 0
+NoLabels [] = Unit {0}
+NoLabels (x ∷ is) = NotLabel x.op × NoLabels is
+
+passed : (o : LinearOp) (ops : List LinearOp) (l p : ℕ) → NotLabel o → label_place (o ∷ ops) l p ≡ label_place ops l (p + 1)
+passed (plain o) ops l p h = refl
+passed (label m) ops l p h = absurd h
+passed (jump m) ops l p h = refl
+passed (jump_zero v m) ops l p h = refl
+passed (pad o s) ops l p h = refl
+passed (jump_filter s n m) ops l p h = refl
+passed (free s) ops l p h = refl
+passed (resume s) ops l p h = refl
+passed (unexpected o s) ops l p h = refl
+passed (return result) ops l p h = refl
+
+-- a label that does not stand is found behind the last operation
+missing : (is : List Placed) (l p : ℕ) → NoLabels is → label_place (map (λ x. x.op) is) l p ≡ p + length is
+missing [] l p h = omega arith
+missing (x ∷ is) l p h = let next = missing is l (p + 1) h.1 in passed x.op (map (λ y. y.op) is) l p h.0 ∙ omega (arith, next)
+
+both_without : (is js : List Placed) → NoLabels is → NoLabels js → NoLabels (is ++ js)
+both_without [] js h k = k
+both_without (x ∷ is) js h k = (h.0, both_without is js h.1 k)
+
+no_labels : (em : Emitting) (r : Region) (c : Cover) (xs : List Exit) (l p : ℕ) → has_end r ≡ false → NoLabels (region_code em c xs l p r)
+no_labels em (seq rs) c xs l p e = absurd (cc e)
+no_labels em (op o) c xs l p e = (tt, tt)
+no_labels em (branch v a b) c xs l p e = absurd (cc e)
+no_labels em (loop v a) c xs l p e = absurd (cc e)
+no_labels em (protect a cl) c xs l p e = absurd (cc e)
+no_labels em (catch a cs) c xs l p e = absurd (cc e)
+no_labels em (limit a types) c xs l p e = absurd (cc e)
+no_labels em (barrier a) c xs l p e = absurd (cc e)
+no_labels em (leave_region n) c xs l p e = go (crosses (inner n) xs)
+  where
+    go : (b : Bool) → NoLabels (if b then set_way em (name_of (inner n) xs) ∷ quiet (jump (first_label (inner n) xs)) ∷ [] else quiet (jump (first_label (inner n) xs)) ∷ [])
+    go true = (tt, (tt, tt))
+    go false = (tt, tt)
+
+-- a function
+module _ (r : Regions) (n : ℕ) (g : RegionFunction) (weigh : LinearOp → ℕ) (there : slice_get r.functions n ≡ Some g) (light : (l : ℕ) → weigh (label l) ≡ 0) where
+  abbrev code : Code
+  code = code_of (unit_of r)
+
+  abbrev body : List Placed
+  body = region_code (emitting g) unpadded [] 0 0 g.body
+
+  abbrev top : ℕ
+  top = weight weigh (placed_code g)
+
+  abbrev last : List Placed
+  last = quiet (return g.result) ∷ []
+
+  whole : top ≡ weight weigh body + weigh (return g.result)
+  whole = let both = weight_both weigh body last in omega (arith, both)
+
+  parts : RegionOrdered code n weigh top light 0 0 unpadded [] 0 (has_end g.body) body
+  parts = region_ordered code n weigh top light (emitting g) g.body unpadded [] 0 0 0 0 refl
+
+  abbrev ranks : List ℕ
+  ranks = parts.all.ranks ++ weight weigh body ∷ []
+
+  abbrev rank : ℕ → ℕ
+  rank = rank_in ranks top
+
+  has : HasAt code n 0 (placed_code g)
+  has = (functions_stand r n g there).has
+
+  in_body : HasAt code n 0 body
+  in_body = has_front code n 0 body last has
+
+  body_ranks : Ranked rank 0 parts.all.ranks
+  body_ranks = ranked_front rank 0 parts.all.ranks (weight weigh body ∷ []) (all_listed top ranks)
+
+  return_rank : rank (0 + length body) ≡ weight weigh body
+  return_rank = (ranked_back rank 0 (0 + length body) parts.all.ranks (weight weigh body ∷ []) (omega (arith, parts.all.same)) (all_listed top ranks)).0
+
+  -- an exit out of everything goes behind all that weighs something
+  outermost : weight weigh body ≤ rank (code.label_at n 0)
+  outermost = go (has_end g.body) refl
+    where
+      go : (b : Bool) → has_end g.body ≡ b → weight weigh body ≤ rank (code.label_at n 0)
+      go true e = let above = parts.label e rank in_body body_ranks in omega (arith, above)
+      go false e =
+          let without = both_without body last (no_labels (emitting g) g.body unpadded [] 0 0 e) (tt, tt) in
+          let place : code.label_at n 0 ≡ 0 + length (placed_code g) = ap (λ x. label_place x.ops 0 0) (code_is r n g there) ∙ missing (placed_code g) 0 0 without in
+          let behind = behind_all top ranks (0 + length (placed_code g)) (omega (arith, length-append parts.all.ranks (weight weigh body ∷ []), length-append body last, parts.all.same)) in
+          let same = ap rank place in
+          omega (arith, same, behind, whole)
+
+  all_rise : AllRise code n weigh top rank 0 (placed_code g)
+  all_rise =
+      both_rise code n weigh top rank 0 (0 + length body) body last refl
+      (parts.all.rise rank (0 + length body) (weight weigh body) in_body body_ranks refl (omega arith)
+      (record { behind = omega (arith, return_rank); exits = λ k. outermost; cover = tt; inside = omega (arith, whole) }))
+      (record { next = tt; jump = tt; pad = tt; inside = omega (arith, return_rank, whole) }, tt)
+
+  found_at : (p : ℕ) (o : LinearOp) → code.op_at n p ≡ Some o → Found code n weigh top rank p o
+  found_at p o e =
+      let inside = op_inside (placed_code g) p o (subst (λ x. slice_get x.ops p ≡ Some o) (code_is r n g there) e) in
+      found code n weigh top rank (placed_code g) 0 p p o (omega arith) inside has all_rise e
+
+  are_ranks : AreRanks code n top weigh rank
+  are_ranks = record {
+    rises = λ p q o e go.
+        let h = found_at p o e in
+        subst (λ x. (rank p + weigh x ≤ rank q) ⊎ TurnsBack code n p q) h.is (stepped code n weigh top rank p q h.it h.rises h.covers (subst (λ x. CanGo code n p x q) (sym h.is) go));
+    inside = λ p o e. let h = found_at p o e in let same = ap weigh h.is in omega (arith, h.rises.inside, same);
+  }
+
+pub operations_are_in_order : OperationsAreInOrder
+operations_are_in_order r n g weigh there light = (rank r n g weigh there light, are_ranks r n g weigh there light)
