@@ -1,22 +1,19 @@
 -- The operations of each function have ranks.
-use Rattle.std.proofs.Common.{◌≡◌, ◌⊎◌, ℕ, zero, suc, ◌+◌, ◌<◌, ◌≤◌, Bool, true, false, List, [], ◌∷◌, ◌++◌, map, length, length-append, Some, inl, inr, refl, sym, ap, ◌∙◌, subst, arith}
+use Rattle.std.proofs.Common.{◌≡◌, ◌⊎◌, ℕ, zero, suc, ◌+◌, ◌<◌, ◌≤◌, Bool, true, false, List, [], ◌∷◌, ◌++◌, map, length, length-append, Some, None, inl, inr, refl, sym, ap, ◌∙◌, subst, arith}
 use Rattle.std.specs.Prelude.{slice_get, unwrap_or, if◌then◌else◌}
-use Rattle.region_forms.specs.Form.{Region, seq, op, branch, loop, protect, catch, limit, barrier, leave_region, RegionFunction, Regions}
-use Rattle.linear_forms.specs.Linear.{LinearOp, plain, label, jump, jump_zero, pad, jump_filter, free, resume, unexpected, return}
-use Rattle.linear_forms.specs.Tables.{Cover, unpadded, label_place}
+use Rattle.region_forms.specs.Form.{Region, seq, op, branch, loop, protect, catch, limit, barrier, leave_region, RegionFunction}
+use Rattle.linear_forms.specs.Linear.{FunctionCode, LinearOp, plain, label, jump, jump_zero, pad, jump_filter, free, resume, unexpected, return}
+use Rattle.linear_forms.specs.Tables.{Cover, unpadded, label_place, look_up}
 use Rattle.linear_forms.specs.Sites.{Placed}
-use Rattle.linear_forms.specs.Activation.{Code}
 use Rattle.linear_forms.specs.CodeRuns.{HasAt}
 use Rattle.linear_forms.specs.Exits.{Exit, inner, first_label, crosses, name_of}
 use Rattle.linear_forms.specs.Emission.{Emitting, quiet, set_way}
 use Rattle.linear_forms.specs.Code.{region_code}
-use Rattle.linear_forms.specs.Unit.{emitting, placed_code, function_code, unit_of}
-use Rattle.linear_forms.specs.UnitRun.{no_code, code_at, code_of}
-use Rattle.linear_forms.proofs.Lists.{mapped}
+use Rattle.linear_forms.specs.Unit.{emitting, placed_code, function_code}
 use Rattle.linear_forms.proofs.Standing.{functions_stand}
-use Rattle.execution_order.specs.Control.{goes_on, label_of, CanGo, TurnsBack}
-use Rattle.execution_order.specs.Order.{weight, AreRanks, OperationsAreInOrder}
-use Rattle.execution_order.proofs.Ranks.{weight_both, has_front, Ranked, ranked_front, ranked_back, at_place, NextRises, JumpRises, CoverAbove, Rises, AllRise, both_rise}
+use Rattle.execution_order.specs.Control.{goes_on, label_of, place_of, CanGo, TurnsBack}
+use Rattle.execution_order.specs.Order.{weight as spec_weight, AreRanks, OperationsAreInOrder}
+use Rattle.execution_order.proofs.Ranks.{weight, alone, weight_both, has_front, Ranked, ranked_front, ranked_back, at_place, NextRises, JumpRises, CoverAbove, Rises, AllRise, both_rise}
 use Rattle.execution_order.proofs.Pieces.{RegionOrdered}
 use Rattle.execution_order.proofs.Regions.{has_end, region_ordered}
 
@@ -41,29 +38,29 @@ behind_all other (n ∷ ns) zero h = absurd (omega (arith, h))
 behind_all other (n ∷ ns) (suc p) h = behind_all other ns p (omega (arith, h))
 
 -- the operation at a place is one of those that rise
-record Found (code : Code) (f : ℕ) (weigh : LinearOp → ℕ) (top : ℕ) (rank : ℕ → ℕ) (p : ℕ) (o : LinearOp) : Type 0 where
+record Found (g : FunctionCode) (weigh : LinearOp → ℕ) (top : ℕ) (rank : ℕ → ℕ) (p : ℕ) (o : LinearOp) : Type 0 where
   it : Placed
   is : it.op ≡ o
-  covers : code.cover_at f p ≡ it.cover
-  rises : Rises code f weigh top rank p it
+  covers : look_up g.sites p ≡ it.cover
+  rises : Rises g weigh top rank p it
 
-module _ (code : Code) (f : ℕ) (weigh : LinearOp → ℕ) (top : ℕ) (rank : ℕ → ℕ) where
+module _ (g : FunctionCode) (weigh : LinearOp → ℕ) (top : ℕ) (rank : ℕ → ℕ) where
   some_same : (a b : LinearOp) → Some a ≡ Some b → a ≡ b
   some_same a b e = cc e
 
-  found : (is : List Placed) (q k p : ℕ) (o : LinearOp) → p ≡ q + k → k < length is → HasAt code f q is → AllRise code f weigh top rank q is → code.op_at f p ≡ Some o → Found code f weigh top rank p o
+  found : (is : List Placed) (q k p : ℕ) (o : LinearOp) → p ≡ q + k → k < length is → HasAt (alone g) 0 q is → AllRise g weigh top rank q is → slice_get g.ops p ≡ Some o → Found g weigh top rank p o
   found [] q k p o e lt has all there = absurd (omega (arith, lt))
   found (x ∷ is) q zero p o e lt has all there =
       let same : q ≡ p = omega (arith, e) in
-      subst (λ n. code.op_at f n ≡ Some o → Found code f weigh top rank n o) same
+      subst (λ n. slice_get g.ops n ≡ Some o → Found g weigh top rank n o) same
       (λ at. record { it = x; is = some_same x.op o (sym has.0 ∙ at); covers = has.1; rises = all.0 }) there
   found (x ∷ is) q (suc k) p o e lt has all there = found is (q + 1) k p o (omega (arith, e)) (omega (arith, lt)) has.3 all.1 there
 
   -- a step of an operation that rises
-  stepped : (p q : ℕ) (x : Placed) → Rises code f weigh top rank p x → code.cover_at f p ≡ x.cover → CanGo code f p x.op q → (rank p + weigh x.op ≤ rank q) ⊎ TurnsBack code f p q
+  stepped : (p q : ℕ) (x : Placed) → Rises g weigh top rank p x → look_up g.sites p ≡ x.cover → CanGo g p x.op q → (rank p + weigh x.op ≤ rank q) ⊎ TurnsBack g p q
   stepped p q x r covers (inl go) = inl (to_next x.op r.next go.0)
     where
-      to_next : (o : LinearOp) → NextRises code f weigh top rank p o → goes_on o ≡ true → rank p + weigh o ≤ rank q
+      to_next : (o : LinearOp) → NextRises g weigh top rank p o → goes_on o ≡ true → rank p + weigh o ≤ rank q
       to_next (plain o) h e = at_place rank q (p + 1) (rank p + weigh (plain o)) go.1 h
       to_next (label l) h e = at_place rank q (p + 1) (rank p + weigh (label l)) go.1 h
       to_next (jump l) h e = absurd (cc e)
@@ -76,31 +73,37 @@ module _ (code : Code) (f : ℕ) (weigh : LinearOp → ℕ) (top : ℕ) (rank : 
       to_next (return result) h e = absurd (cc e)
   stepped p q x r covers (inr (inl go)) = to_label x.op r.jump go.1
     where
-      same_label : (l : ℕ) → Some l ≡ Some go.0 → q ≡ code.label_at f l
-      same_label l e = let same : l ≡ go.0 = cc e in go.2 ∙ ap (code.label_at f) (sym same)
+      same_label : (l : ℕ) → Some l ≡ Some go.0 → q ≡ place_of g l
+      same_label l e = let same : l ≡ go.0 = cc e in go.2 ∙ ap (place_of g) (sym same)
 
-      to_label : (o : LinearOp) → JumpRises code f weigh top rank p o → label_of o ≡ Some go.0 → (rank p + weigh o ≤ rank q) ⊎ TurnsBack code f p q
+      to_label : (o : LinearOp) → JumpRises g weigh top rank p o → label_of o ≡ Some go.0 → (rank p + weigh o ≤ rank q) ⊎ TurnsBack g p q
       to_label (plain o) h e = absurd (cc e)
       to_label (label l) h e = absurd (cc e)
-      to_label (jump l) (inl h) e = inl (at_place rank q (code.label_at f l) (rank p + weigh (jump l)) (same_label l e) h)
-      to_label (jump l) (inr h) e = inr (subst (TurnsBack code f p) (sym (same_label l e)) h)
-      to_label (jump_zero v l) h e = inl (at_place rank q (code.label_at f l) (rank p + weigh (jump_zero v l)) (same_label l e) h)
+      to_label (jump l) (inl h) e = inl (at_place rank q (place_of g l) (rank p + weigh (jump l)) (same_label l e) h)
+      to_label (jump l) (inr h) e = inr (subst (TurnsBack g p) (sym (same_label l e)) h)
+      to_label (jump_zero v l) h e = inl (at_place rank q (place_of g l) (rank p + weigh (jump_zero v l)) (same_label l e) h)
       to_label (pad o s) h e = absurd (cc e)
-      to_label (jump_filter s n l) h e = inl (at_place rank q (code.label_at f l) (rank p + weigh (jump_filter s n l)) (same_label l e) h)
+      to_label (jump_filter s n l) h e = inl (at_place rank q (place_of g l) (rank p + weigh (jump_filter s n l)) (same_label l e) h)
       to_label (free s) h e = absurd (cc e)
       to_label (resume s) h e = absurd (cc e)
       to_label (unexpected o s) h e = absurd (cc e)
       to_label (return result) h e = absurd (cc e)
-  stepped p q x r covers (inr (inr go)) = inl (subst (CoverAbove code f weigh top rank (rank p + weigh x.op)) (sym covers ∙ go.1) r.pad)
+  stepped p q x r covers (inr (inr go)) = inl (subst (CoverAbove g weigh top rank (rank p + weigh x.op)) (sym covers ∙ go.1) r.pad)
 
--- a function's code is what its regions make
-code_is : (r : Regions) (n : ℕ) (g : RegionFunction) → slice_get r.functions n ≡ Some g → code_at (unit_of r) n ≡ function_code g
-code_is r n g e = ap (λ o. unwrap_or o no_code) (mapped function_code r.functions n g e)
-
+-- code that has an operation there goes on there
 op_inside : (is : List Placed) (p : ℕ) (o : LinearOp) → slice_get (map (λ x. x.op) is) p ≡ Some o → p < length is
 op_inside [] p o e = absurd (cc e)
 op_inside (x ∷ is) zero o e = omega arith
 op_inside (x ∷ is) (suc p) o e = omega (arith, op_inside is p o e)
+
+none_behind : (is : List Placed) (p : ℕ) → slice_get (map (λ x. x.op) is) p ≡ None → length is ≤ p
+none_behind [] p e = omega arith
+none_behind (x ∷ is) zero e = absurd (cc e)
+none_behind (x ∷ is) (suc p) e = omega (arith, none_behind is p e)
+
+weighed : (weigh : LinearOp → ℕ) (is : List Placed) → spec_weight weigh (map (λ x. x.op) is) ≡ weight weigh is
+weighed weigh [] = refl
+weighed weigh (x ∷ is) = omega (arith, weighed weigh is)
 
 -- code without labels
 abbrev NotLabel : LinearOp → Type 0
@@ -148,24 +151,24 @@ no_labels em (leave_region n) c xs l p e = go (crosses (inner n) xs)
     go false = (tt, tt)
 
 -- a function
-module _ (r : Regions) (n : ℕ) (g : RegionFunction) (weigh : LinearOp → ℕ) (there : slice_get r.functions n ≡ Some g) (light : (l : ℕ) → weigh (label l) ≡ 0) where
-  abbrev code : Code
-  code = code_of (unit_of r)
+module _ (f : RegionFunction) (weigh : LinearOp → ℕ) (light : (l : ℕ) → weigh (label l) ≡ 0) where
+  abbrev code : FunctionCode
+  code = function_code f
 
   abbrev body : List Placed
-  body = region_code (emitting g) unpadded [] 0 0 g.body
+  body = region_code (emitting f) unpadded [] 0 0 f.body
 
   abbrev top : ℕ
-  top = weight weigh (placed_code g)
+  top = spec_weight weigh code.ops
 
   abbrev last : List Placed
-  last = quiet (return g.result) ∷ []
+  last = quiet (return f.result) ∷ []
 
-  whole : top ≡ weight weigh body + weigh (return g.result)
-  whole = let both = weight_both weigh body last in omega (arith, both)
+  whole : top ≡ weight weigh body + weigh (return f.result)
+  whole = let both = weight_both weigh body last in omega (arith, both, weighed weigh (placed_code f))
 
-  parts : RegionOrdered code n weigh top light 0 0 unpadded [] 0 (has_end g.body) body
-  parts = region_ordered code n weigh top light (emitting g) g.body unpadded [] 0 0 0 0 refl
+  parts : RegionOrdered code weigh top light 0 0 unpadded [] 0 (has_end f.body) body
+  parts = region_ordered code weigh top light (emitting f) f.body unpadded [] 0 0 0 0 refl
 
   abbrev ranks : List ℕ
   ranks = parts.all.ranks ++ weight weigh body ∷ []
@@ -173,11 +176,14 @@ module _ (r : Regions) (n : ℕ) (g : RegionFunction) (weigh : LinearOp → ℕ)
   abbrev rank : ℕ → ℕ
   rank = rank_in ranks top
 
-  has : HasAt code n 0 (placed_code g)
-  has = (functions_stand r n g there).has
+  as_many : length ranks ≡ length (placed_code f)
+  as_many = omega (arith, length-append parts.all.ranks (weight weigh body ∷ []), length-append body last, parts.all.same)
 
-  in_body : HasAt code n 0 body
-  in_body = has_front code n 0 body last has
+  has : HasAt (alone code) 0 0 (placed_code f)
+  has = (functions_stand (record { functions = f ∷ []; types = []; globals = []; tokens = 0; main = 0 }) 0 f refl).has
+
+  in_body : HasAt (alone code) 0 0 body
+  in_body = has_front code 0 body last has
 
   body_ranks : Ranked rank 0 parts.all.ranks
   body_ranks = ranked_front rank 0 parts.all.ranks (weight weigh body ∷ []) (all_listed top ranks)
@@ -186,37 +192,35 @@ module _ (r : Regions) (n : ℕ) (g : RegionFunction) (weigh : LinearOp → ℕ)
   return_rank = (ranked_back rank 0 (0 + length body) parts.all.ranks (weight weigh body ∷ []) (omega (arith, parts.all.same)) (all_listed top ranks)).0
 
   -- an exit out of everything goes behind all that weighs something
-  outermost : weight weigh body ≤ rank (code.label_at n 0)
-  outermost = go (has_end g.body) refl
+  outermost : weight weigh body ≤ rank (place_of code 0)
+  outermost = go (has_end f.body) refl
     where
-      go : (b : Bool) → has_end g.body ≡ b → weight weigh body ≤ rank (code.label_at n 0)
+      go : (b : Bool) → has_end f.body ≡ b → weight weigh body ≤ rank (place_of code 0)
       go true e = let above = parts.label e rank in_body body_ranks in omega (arith, above)
       go false e =
-          let without = both_without body last (no_labels (emitting g) g.body unpadded [] 0 0 e) (tt, tt) in
-          let place : code.label_at n 0 ≡ 0 + length (placed_code g) = ap (λ x. label_place x.ops 0 0) (code_is r n g there) ∙ missing (placed_code g) 0 0 without in
-          let behind = behind_all top ranks (0 + length (placed_code g)) (omega (arith, length-append parts.all.ranks (weight weigh body ∷ []), length-append body last, parts.all.same)) in
-          let same = ap rank place in
+          let without = both_without body last (no_labels (emitting f) f.body unpadded [] 0 0 e) (tt, tt) in
+          let same = ap rank (missing (placed_code f) 0 0 without) in
+          let behind = behind_all top ranks (0 + length (placed_code f)) (omega (arith, as_many)) in
           omega (arith, same, behind, whole)
 
-  all_rise : AllRise code n weigh top rank 0 (placed_code g)
+  all_rise : AllRise code weigh top rank 0 (placed_code f)
   all_rise =
-      both_rise code n weigh top rank 0 (0 + length body) body last refl
+      both_rise code weigh top rank 0 (0 + length body) body last refl
       (parts.all.rise rank (0 + length body) (weight weigh body) in_body body_ranks refl (omega arith)
       (record { behind = omega (arith, return_rank); exits = λ k. outermost; cover = tt; inside = omega (arith, whole) }))
       (record { next = tt; jump = tt; pad = tt; inside = omega (arith, return_rank, whole) }, tt)
 
-  found_at : (p : ℕ) (o : LinearOp) → code.op_at n p ≡ Some o → Found code n weigh top rank p o
-  found_at p o e =
-      let inside = op_inside (placed_code g) p o (subst (λ x. slice_get x.ops p ≡ Some o) (code_is r n g there) e) in
-      found code n weigh top rank (placed_code g) 0 p p o (omega arith) inside has all_rise e
+  found_at : (p : ℕ) (o : LinearOp) → slice_get code.ops p ≡ Some o → Found code weigh top rank p o
+  found_at p o e = found code weigh top rank (placed_code f) 0 p p o (omega arith) (op_inside (placed_code f) p o e) has all_rise e
 
-  are_ranks : AreRanks code n top weigh rank
+  are_ranks : AreRanks code weigh rank
   are_ranks = record {
     rises = λ p q o e go.
         let h = found_at p o e in
-        subst (λ x. (rank p + weigh x ≤ rank q) ⊎ TurnsBack code n p q) h.is (stepped code n weigh top rank p q h.it h.rises h.covers (subst (λ x. CanGo code n p x q) (sym h.is) go));
+        subst (λ x. (rank p + weigh x ≤ rank q) ⊎ TurnsBack code p q) h.is (stepped code weigh top rank p q h.it h.rises h.covers (subst (λ x. CanGo code p x q) (sym h.is) go));
     inside = λ p o e. let h = found_at p o e in let same = ap weigh h.is in omega (arith, h.rises.inside, same);
+    behind = λ p e. behind_all top ranks p (omega (arith, as_many, none_behind (placed_code f) p e));
   }
 
 pub operations_are_in_order : OperationsAreInOrder
-operations_are_in_order r n g weigh there light = (rank r n g weigh there light, are_ranks r n g weigh there light)
+operations_are_in_order f weigh light = (rank f weigh light, are_ranks f weigh light)

@@ -2,24 +2,23 @@
 use Rattle.std.proofs.Common.{◌≡◌, ℕ, ◌+◌, ◌≤◌, Bool, true, false, List, [], ◌∷◌, ◌++◌, length, length-append, Option, Some, None, inl, refl, ap, arith}
 use Rattle.std.specs.Prelude.{if◌then◌else◌}
 use Rattle.region_forms.specs.Form.{Op}
-use Rattle.linear_forms.specs.Linear.{LinearOp, plain, label, jump}
+use Rattle.linear_forms.specs.Linear.{FunctionCode, LinearOp, plain, label, jump}
 use Rattle.linear_forms.specs.Tables.{Cover}
 use Rattle.linear_forms.specs.Sites.{Placed}
-use Rattle.linear_forms.specs.Activation.{Code}
 use Rattle.linear_forms.specs.CodeRuns.{HasAt}
 use Rattle.linear_forms.specs.Exits.{Exit, exit_to, first_label, crosses, name_of}
 use Rattle.linear_forms.specs.Emission.{Emitting, quiet, put, set_way, leave_code, way_test, way_tests, no_way_out, exit_code}
-use Rattle.execution_order.specs.Order.{weight}
-use Rattle.execution_order.proofs.Ranks.{weight_both, has_front, has_back, Ranked, ranked_front, ranked_back, at_place, CoverAbove, Rises, AllRise, both_rise, Around, lower_cover, lower_exits, exits_inside, label_rises, put_rises}
+use Rattle.execution_order.specs.Control.{place_of}
+use Rattle.execution_order.proofs.Ranks.{weight, alone, weight_both, has_front, has_back, Ranked, ranked_front, ranked_back, at_place, CoverAbove, Rises, AllRise, both_rise, Around, lower_cover, lower_exits, exits_inside, label_rises, put_rises}
 
-module _ (code : Code) (f : ℕ) (weigh : LinearOp → ℕ) (top : ℕ) (light : (l : ℕ) → weigh (label l) ≡ 0) where
+module _ (g : FunctionCode) (weigh : LinearOp → ℕ) (top : ℕ) (light : (l : ℕ) → weigh (label l) ≡ 0) where
   -- Code from place q on has ranks from b on, which rise wherever what is around it has ranks that are higher by its weight.
   pub record Ordered (q b : ℕ) (c : Cover) (xs : List Exit) (is : List Placed) : Type 0 where
     pub ranks : List ℕ
     pub same : length ranks ≡ length is
     pub start : (rank : ℕ → ℕ) (end e : ℕ) → Ranked rank q ranks → end ≡ q + length is → b + weight weigh is ≤ e → e ≤ rank end → b ≤ rank q
-    pub rise : (rank : ℕ → ℕ) (end e : ℕ) → HasAt code f q is → Ranked rank q ranks → end ≡ q + length is → b + weight weigh is ≤ e → Around code f weigh top rank e end c xs →
-        AllRise code f weigh top rank q is
+    pub rise : (rank : ℕ → ℕ) (end e : ℕ) → HasAt (alone g) 0 q is → Ranked rank q ranks → end ≡ q + length is → b + weight weigh is ≤ e → Around g weigh top rank e end c xs →
+        AllRise g weigh top rank q is
 
   pub nothing_ordered : (q b : ℕ) (c : Cover) (xs : List Exit) → Ordered q b c xs []
   nothing_ordered q b c xs = record {
@@ -32,7 +31,7 @@ module _ (code : Code) (f : ℕ) (weigh : LinearOp → ℕ) (top : ℕ) (light :
   -- an operation rises wherever the next place and what is around are high enough
   abbrev pub OneRises : ℕ → ℕ → Cover → List Exit → Placed → Type 0
   OneRises q b c xs x =
-      (rank : ℕ → ℕ) (end e : ℕ) → rank q ≡ b → b + weigh x.op ≤ rank (q + 1) → b + weigh x.op ≤ e → Around code f weigh top rank e end c xs → Rises code f weigh top rank q x
+      (rank : ℕ → ℕ) (end e : ℕ) → rank q ≡ b → b + weigh x.op ≤ rank (q + 1) → b + weigh x.op ≤ e → Around g weigh top rank e end c xs → Rises g weigh top rank q x
 
   -- an operation in front of others
   pub one_first : (q b : ℕ) (c : Cover) (xs : List Exit) (x : Placed) (is : List Placed) → OneRises q b c xs x → Ordered (q + 1) (b + weigh x.op) c xs is → Ordered q b c xs (x ∷ is)
@@ -64,22 +63,22 @@ module _ (code : Code) (f : ℕ) (weigh : LinearOp → ℕ) (top : ℕ) (light :
             let room : d + weight weigh js ≤ e = omega (arith, le, base, weights) in
             let later = rest.start rank end e behind ends room around.behind in
             let lower : d ≤ e = omega (arith, room) in
-            both_rise code f weigh top rank q r is js place
-            (first.rise rank r d (has_front code f q is js has) (ranked_front rank q first.ranks rest.ranks rk) place (omega (arith, base))
-            (record { behind = later; exits = lower_exits code f weigh top rank d e xs lower around.exits; cover = lower_cover code f weigh top rank d e c lower around.cover; inside = omega (arith, lower, around.inside) }))
-            (rest.rise rank end e (has_back code f q r is js place has) behind ends room around);
+            both_rise g weigh top rank q r is js place
+            (first.rise rank r d (has_front g q is js has) (ranked_front rank q first.ranks rest.ranks rk) place (omega (arith, base))
+            (record { behind = later; exits = lower_exits g weigh top rank d e xs lower around.exits; cover = lower_cover g weigh top rank d e c lower around.cover; inside = omega (arith, lower, around.inside) }))
+            (rest.rise rank end e (has_back g q r is js place has) behind ends room around);
       }
 
   -- pieces of one operation
 
   pub label_first : (q b : ℕ) (c : Cover) (xs : List Exit) (l : ℕ) → OneRises q b c xs (quiet (label l))
   label_first q b c xs l rank end e at next le around =
-      label_rises code f weigh top rank q l (light l) (omega (arith, at, next, light l)) (omega (arith, at, le, around.inside))
+      label_rises g weigh top rank q l (light l) (omega (arith, at, next, light l)) (omega (arith, at, le, around.inside))
 
   pub put_first : (q b : ℕ) (c : Cover) (xs : List Exit) (o : Op) → OneRises q b c xs (put o c)
   put_first q b c xs o rank end e at next le around =
-      put_rises code f weigh top rank q (b + weigh (plain o)) o c (omega (arith, at)) next
-      (lower_cover code f weigh top rank (b + weigh (plain o)) e c le around.cover) (omega (arith, le, around.inside))
+      put_rises g weigh top rank q (b + weigh (plain o)) o c (omega (arith, at)) next
+      (lower_cover g weigh top rank (b + weigh (plain o)) e c le around.cover) (omega (arith, le, around.inside))
 
   pub plain_first : (q b : ℕ) (c : Cover) (xs : List Exit) (o : Op) → OneRises q b c xs (quiet (plain o))
   plain_first q b c xs o rank end e at next le around =
@@ -120,12 +119,12 @@ module _ (code : Code) (f : ℕ) (weigh : LinearOp → ℕ) (top : ℕ) (light :
   -- the label of a cleanup at normal exits has so high a rank
   abbrev pub CleanupAbove : (ℕ → ℕ) → ℕ → ℕ → Option Op → Type 0
   CleanupAbove rank b l None = Unit {0}
-  CleanupAbove rank b l (Some o) = b ≤ rank (code.label_at f (l + 2))
+  CleanupAbove rank b l (Some o) = b ≤ rank (place_of g (l + 2))
 
   -- the cleanup of normal exits, with its label
   pub record ExitsOrdered (q b : ℕ) (c : Cover) (xs : List Exit) (l : ℕ) (o : Option Op) (is : List Placed) : Type 0 where
     pub all : Ordered q b c xs is
-    pub label : (rank : ℕ → ℕ) (end e : ℕ) → HasAt code f q is → Ranked rank q all.ranks → end ≡ q + length is → b + weight weigh is ≤ e → e ≤ rank end → CleanupAbove rank b l o
+    pub label : (rank : ℕ → ℕ) (end e : ℕ) → HasAt (alone g) 0 q is → Ranked rank q all.ranks → end ≡ q + length is → b + weight weigh is ≤ e → e ≤ rank end → CleanupAbove rank b l o
 
   pub exits_ordered : (em : Emitting) (q b : ℕ) (c : Cover) (xs : List Exit) (l : ℕ) (outs : List ℕ) (o : Option Op) → ExitsOrdered q b c xs l o (exit_code em o c xs l outs)
   unfolding no_way_ordered both_ordered one_first
@@ -144,7 +143,7 @@ module _ (code : Code) (f : ℕ) (weigh : LinearOp → ℕ) (top : ℕ) (light :
         all = both_ordered q r b d c xs front rest refl refl first labelled;
         label = λ rank end e has rk same le above.
             let behind = ranked_back rank q r first.ranks labelled.ranks (omega (arith, first.same)) rk in
-            let place = (has_back code f q r front rest refl has).2 in
+            let place = (has_back g q r front rest refl has).2 in
             let same_rank = ap rank place in
             omega (arith, same_rank, behind.0);
       }
@@ -152,11 +151,11 @@ module _ (code : Code) (f : ℕ) (weigh : LinearOp → ℕ) (top : ℕ) (light :
   -- the exits of what has a cleanup
   pub record RegionOrdered (q b : ℕ) (c : Cover) (xs : List Exit) (l : ℕ) (own : Bool) (is : List Placed) : Type 0 where
     pub all : Ordered q b c xs is
-    pub label : own ≡ true → (rank : ℕ → ℕ) → HasAt code f q is → Ranked rank q all.ranks → b + weight weigh is ≤ rank (code.label_at f l)
+    pub label : own ≡ true → (rank : ℕ → ℕ) → HasAt (alone g) 0 q is → Ranked rank q all.ranks → b + weight weigh is ≤ rank (place_of g l)
 
   -- code with the label of a region's end behind it, by way of which some of its exits go
   pub ended : (q b : ℕ) (c inside : Cover) (xs : List Exit) (l : ℕ) (is : List Placed) →
-      ((rank : ℕ → ℕ) (d e : ℕ) → d ≤ e → (end : ℕ) → Around code f weigh top rank e end c xs → CoverAbove code f weigh top rank d inside) →
+      ((rank : ℕ → ℕ) (d e : ℕ) → d ≤ e → (end : ℕ) → Around g weigh top rank e end c xs → CoverAbove g weigh top rank d inside) →
       Ordered q b inside (exit_to l ∷ xs) is → RegionOrdered q b c xs l true (is ++ quiet (label l) ∷ [])
   ended q b c inside xs l is covered body =
       let last = quiet (label l) ∷ [] in
@@ -174,22 +173,22 @@ module _ (code : Code) (f : ℕ) (weigh : LinearOp → ℕ) (top : ℕ) (light :
               body.start rank r d (ranked_front rank q body.ranks (d ∷ []) rk) refl (omega arith) (omega (arith, here));
           rise = λ rank end e has rk same le around.
               let here = (back rank rk).0 in
-              let stands = has_back code f q r is last refl has in
+              let stands = has_back g q r is last refl has in
               let own = ap rank stands.2 in
               let lower : d ≤ e = omega (arith, le, weights) in
               let next : e ≤ rank (r + 1) = at_place rank (r + 1) end e (omega (arith, same, lengths)) around.behind in
-              both_rise code f weigh top rank q r is last refl
-              (body.rise rank r d (has_front code f q is last has) (ranked_front rank q body.ranks (d ∷ []) rk) refl (omega arith)
+              both_rise g weigh top rank q r is last refl
+              (body.rise rank r d (has_front g q is last has) (ranked_front rank q body.ranks (d ∷ []) rk) refl (omega arith)
               (record {
                 behind = omega (arith, here);
-                exits = exits_inside code f weigh top rank d l xs (omega (arith, own, here)) (lower_exits code f weigh top rank d e xs lower around.exits);
+                exits = exits_inside g weigh top rank d l xs (omega (arith, own, here)) (lower_exits g weigh top rank d e xs lower around.exits);
                 cover = covered rank d e lower end around;
                 inside = omega (arith, lower, around.inside);
               }))
-              (label_rises code f weigh top rank r l (light l) (omega (arith, here, lower, next)) (omega (arith, here, lower, around.inside)), tt);
+              (label_rises g weigh top rank r l (light l) (omega (arith, here, lower, next)) (omega (arith, here, lower, around.inside)), tt);
         };
         label = λ yes rank has rk.
             let here = (back rank rk).0 in
-            let own = ap rank (has_back code f q r is last refl has).2 in
+            let own = ap rank (has_back g q r is last refl has).2 in
             omega (arith, own, here, weights, light l);
       }

@@ -2,28 +2,37 @@
 use Rattle.std.proofs.Common.{◌≡◌, ◌⊎◌, ℕ, zero, suc, ◌+◌, ◌≤◌, Bool, true, false, List, [], ◌∷◌, ◌++◌, length, ap, subst, arith}
 use Rattle.std.specs.Prelude.{if◌then◌else◌}
 use Rattle.region_forms.specs.Form.{Op}
-use Rattle.linear_forms.specs.Linear.{LinearOp, plain, label, jump, jump_zero, jump_filter, resume, unexpected, return}
+use Rattle.linear_forms.specs.Linear.{FunctionCode, LinearOp, plain, label, jump, jump_zero, jump_filter, resume, unexpected, return}
 use Rattle.linear_forms.specs.Tables.{Cover, bare, unpadded, padded}
 use Rattle.linear_forms.specs.Sites.{Placed}
 use Rattle.linear_forms.specs.Activation.{Code}
 use Rattle.linear_forms.specs.CodeRuns.{HasAt}
 use Rattle.linear_forms.specs.Exits.{Exit, exit_to, first_label}
 use Rattle.linear_forms.specs.Emission.{may_raise, put}
-use Rattle.execution_order.specs.Control.{TurnsBack}
-use Rattle.execution_order.specs.Order.{weight}
+use Rattle.linear_forms.specs.UnitRun.{code_of}
+use Rattle.execution_order.specs.Control.{place_of, TurnsBack}
+
+-- what operations weigh together
+abbrev pub weight : (LinearOp → ℕ) → List Placed → ℕ
+weight weigh [] = 0
+weight weigh (x ∷ xs) = weigh x.op + weight weigh xs
+
+-- a function as the only one of a program
+abbrev pub alone : FunctionCode → Code
+alone g = code_of (record { functions = g ∷ []; types = []; globals = []; tokens = 0; main = 0 })
 
 pub weight_both : (weigh : LinearOp → ℕ) (a b : List Placed) → weight weigh (a ++ b) ≡ weight weigh a + weight weigh b
 weight_both weigh [] b = omega arith
 weight_both weigh (x ∷ a) b = omega (arith, weight_both weigh a b)
 
 -- operations that stand, in front and behind
-module _ (code : Code) (f : ℕ) where
-  pub has_front : (p : ℕ) (a b : List Placed) → HasAt code f p (a ++ b) → HasAt code f p a
+module _ (g : FunctionCode) where
+  pub has_front : (p : ℕ) (a b : List Placed) → HasAt (alone g) 0 p (a ++ b) → HasAt (alone g) 0 p a
   has_front p [] b h = tt
   has_front p (x ∷ a) b h = (h.0, h.1, h.2, has_front (p + 1) a b h.3)
 
-  pub has_back : (p q : ℕ) (a b : List Placed) → q ≡ p + length a → HasAt code f p (a ++ b) → HasAt code f q b
-  has_back p q [] b e h = let same : p ≡ q = omega (arith, e) in subst (λ n. HasAt code f n b) same h
+  pub has_back : (p q : ℕ) (a b : List Placed) → q ≡ p + length a → HasAt (alone g) 0 p (a ++ b) → HasAt (alone g) 0 q b
+  has_back p q [] b e h = let same : p ≡ q = omega (arith, e) in subst (λ n. HasAt (alone g) 0 n b) same h
   has_back p q (x ∷ a) b e h = has_back (p + 1) q a b (omega (arith, e)) h.3
 
 -- ranks of the places from p on
@@ -44,7 +53,7 @@ module _ (rank : ℕ → ℕ) where
   pub at_place : (p q n : ℕ) → p ≡ q → n ≤ rank q → n ≤ rank p
   at_place p q n e h = let same : rank p ≡ rank q = ap rank e in omega (arith, same, h)
 
-module _ (code : Code) (f : ℕ) (weigh : LinearOp → ℕ) (top : ℕ) (rank : ℕ → ℕ) where
+module _ (g : FunctionCode) (weigh : LinearOp → ℕ) (top : ℕ) (rank : ℕ → ℕ) where
   -- the step to the next operation rises
   abbrev pub NextRises : ℕ → LinearOp → Type 0
   NextRises p (jump l) = Unit {0}
@@ -55,9 +64,9 @@ module _ (code : Code) (f : ℕ) (weigh : LinearOp → ℕ) (top : ℕ) (rank : 
 
   -- so does a jump, unless a loop turns back
   abbrev pub JumpRises : ℕ → LinearOp → Type 0
-  JumpRises p (jump l) = (rank p + weigh (jump l) ≤ rank (code.label_at f l)) ⊎ TurnsBack code f p (code.label_at f l)
-  JumpRises p (jump_zero v l) = rank p + weigh (jump_zero v l) ≤ rank (code.label_at f l)
-  JumpRises p (jump_filter s n l) = rank p + weigh (jump_filter s n l) ≤ rank (code.label_at f l)
+  JumpRises p (jump l) = (rank p + weigh (jump l) ≤ rank (place_of g l)) ⊎ TurnsBack g p (place_of g l)
+  JumpRises p (jump_zero v l) = rank p + weigh (jump_zero v l) ≤ rank (place_of g l)
+  JumpRises p (jump_filter s n l) = rank p + weigh (jump_filter s n l) ≤ rank (place_of g l)
   JumpRises p o = Unit {0}
 
   -- the pad of a cover has so high a rank
@@ -84,7 +93,7 @@ module _ (code : Code) (f : ℕ) (weigh : LinearOp → ℕ) (top : ℕ) (rank : 
 
   -- the labels of exits have so high a rank
   abbrev pub ExitsAbove : ℕ → List Exit → Type 0
-  ExitsAbove e xs = (n : ℕ) → e ≤ rank (code.label_at f (first_label n xs))
+  ExitsAbove e xs = (n : ℕ) → e ≤ rank (place_of g (first_label n xs))
 
   -- what is around a part: behind it, its exits and its pad have so high a rank, which is within the top
   pub record Around (e end : ℕ) (c : Cover) (xs : List Exit) : Type 0 where
@@ -101,7 +110,7 @@ module _ (code : Code) (f : ℕ) (weigh : LinearOp → ℕ) (top : ℕ) (rank : 
   pub lower_exits : (d e : ℕ) (xs : List Exit) → d ≤ e → ExitsAbove e xs → ExitsAbove d xs
   lower_exits d e xs le h n = let above = h n in omega (arith, le, above)
 
-  pub exits_inside : (e l : ℕ) (xs : List Exit) → e ≤ rank (code.label_at f l) → ExitsAbove e xs → ExitsAbove e (exit_to l ∷ xs)
+  pub exits_inside : (e l : ℕ) (xs : List Exit) → e ≤ rank (place_of g l) → ExitsAbove e xs → ExitsAbove e (exit_to l ∷ xs)
   exits_inside e l xs own h zero = own
   exits_inside e l xs own h (suc n) = h n
 

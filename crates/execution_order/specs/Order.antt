@@ -1,26 +1,24 @@
 -- The order in which the operations of a function run.
-use Rattle.std.specs.Prelude.{◌≡◌, ◌⊎◌, ℕ, ◌+◌, ◌≤◌, List, [], ◌∷◌, Some, slice_get}
-use Rattle.region_forms.specs.Form.{RegionFunction, Regions}
-use Rattle.linear_forms.specs.Linear.{LinearOp, label}
-use Rattle.linear_forms.specs.Sites.{Placed}
-use Rattle.linear_forms.specs.Activation.{Code}
-use Rattle.linear_forms.specs.Unit.{placed_code, unit_of}
-use Rattle.linear_forms.specs.UnitRun.{code_of}
+use Rattle.std.specs.Prelude.{◌≡◌, ◌⊎◌, ℕ, ◌+◌, ◌≤◌, List, [], ◌∷◌, Some, None, slice_get}
+use Rattle.region_forms.specs.Form.{RegionFunction}
+use Rattle.linear_forms.specs.Linear.{LinearOp, label, FunctionCode}
+use Rattle.linear_forms.specs.Unit.{function_code}
 use Rattle.execution_order.specs.Control.{CanGo, TurnsBack}
 
 -- what operations weigh together
-abbrev pub weight : (LinearOp → ℕ) → List Placed → ℕ
+abbrev pub weight : (LinearOp → ℕ) → List LinearOp → ℕ
 weight weigh [] = 0
-weight weigh (x ∷ xs) = weigh x.op + weight weigh xs
+weight weigh (o ∷ ops) = weigh o + weight weigh ops
 
 -- Ranks of the places of a function. Wherever control can go from an operation, it comes to a rank that is higher by what the operation
--- weighs, unless a loop turns back; and so high the top is too. A landing pad stands before what it guards, and has a higher rank.
-pub record AreRanks (code : Code) (f top : ℕ) (weigh : LinearOp → ℕ) (rank : ℕ → ℕ) : Type 0 where
-  pub rises : (p q : ℕ) (o : LinearOp) → code.op_at f p ≡ Some o → CanGo code f p o q → (rank p + weigh o ≤ rank q) ⊎ TurnsBack code f p q
-  pub inside : (p : ℕ) (o : LinearOp) → code.op_at f p ≡ Some o → rank p + weigh o ≤ top
+-- weighs, unless a loop turns back. All lies below the weight of the whole code, which is the rank of the place behind it. A landing pad
+-- stands before what it guards, and has a higher rank.
+pub record AreRanks (g : FunctionCode) (weigh : LinearOp → ℕ) (rank : ℕ → ℕ) : Type 0 where
+  pub rises : (p q : ℕ) (o : LinearOp) → slice_get g.ops p ≡ Some o → CanGo g p o q → (rank p + weigh o ≤ rank q) ⊎ TurnsBack g p q
+  pub inside : (p : ℕ) (o : LinearOp) → slice_get g.ops p ≡ Some o → rank p + weigh o ≤ weight weigh g.ops
+  pub behind : (p : ℕ) → slice_get g.ops p ≡ None → rank p ≡ weight weigh g.ops
 
--- Whatever operations weigh, if labels weigh nothing, each function of a program has such ranks, the top being the weight of its code. So
--- the operations that a call runs from one turn of a loop to the next weigh no more than its function's code.
+-- Whatever operations weigh, if labels weigh nothing, each function has such ranks. So the operations that a call runs from one turn of a
+-- loop to the next weigh no more than the function's code.
 abbrev pub OperationsAreInOrder : Type 0
-OperationsAreInOrder = (r : Regions) (n : ℕ) (g : RegionFunction) (weigh : LinearOp → ℕ) → slice_get r.functions n ≡ Some g → ((l : ℕ) → weigh (label l) ≡ 0) →
-    (rank : ℕ → ℕ) × AreRanks (code_of (unit_of r)) n (weight weigh (placed_code g)) weigh rank
+OperationsAreInOrder = (f : RegionFunction) (weigh : LinearOp → ℕ) → ((l : ℕ) → weigh (label l) ≡ 0) → (rank : ℕ → ℕ) × AreRanks (function_code f) weigh rank
