@@ -6,3 +6,4 @@ pub mod Cleaning
 pub mod Guarding
 pub mod Regions
 pub mod Functions
+pub mod Ahead

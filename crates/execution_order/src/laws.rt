@@ -1,8 +1,15 @@
 // Laws on the order in which code runs: calls of no effect, whose contracts state what holds of every program.
+ghost use Rattle.execution_order.specs.Ahead.{AllCodeGoesAhead};
 ghost use Rattle.execution_order.specs.Order.{OperationsAreInOrder};
 
 /// The operations of a function have ranks that rise along every step of control inside a call, but for the jump from a loop's end to its
 /// test. Each rises by what the operation weighs, and no rank is more than all operations weigh together.
 pub fn operations_are_in_order()
     ensures { OperationsAreInOrder }
+{}
+
+/// Every branch and jump inside the code of an operation goes ahead, inside the operation or to the word behind it, but for the jump to the
+/// operation's label; and so does that in the beginning of a function.
+pub fn code_goes_ahead()
+    ensures { AllCodeGoesAhead }
 {}
