@@ -7,3 +7,4 @@ pub mod Guarding
 pub mod Regions
 pub mod Functions
 pub mod Ahead
+pub mod Words

@@ -1,3 +1,4 @@
 pub mod Control
 pub mod Order
 pub mod Ahead
+pub mod Words

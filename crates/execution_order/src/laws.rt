@@ -1,6 +1,7 @@
 // Laws on the order in which code runs: calls of no effect, whose contracts state what holds of every program.
 ghost use Rattle.execution_order.specs.Ahead.{AllCodeGoesAhead};
 ghost use Rattle.execution_order.specs.Order.{OperationsAreInOrder};
+ghost use Rattle.execution_order.specs.Words.{WordsAreInOrder};
 
 /// The operations of a function have ranks that rise along every step of control inside a call, but for the jump from a loop's end to its
 /// test. Each rises by what the operation weighs, and no rank is more than all operations weigh together.
@@ -12,4 +13,10 @@ pub fn operations_are_in_order()
 /// operation's label; and so does that in the beginning of a function.
 pub fn code_goes_ahead()
     ensures { AllCodeGoesAhead }
+{}
+
+/// The words of each function of a program have ranks that rise along every step of control inside a call, but for the jump from a loop's end
+/// to its test, and of which there are no more than words. So between two turns of its loops a call runs no word twice.
+pub fn words_are_in_order()
+    ensures { WordsAreInOrder }
 {}
