@@ -7,4 +7,6 @@ pub mod Guarding
 pub mod Regions
 pub mod Functions
 pub mod Ahead
+pub mod Rows
+pub mod Leading
 pub mod Words

@@ -1,104 +1,26 @@
 -- The words of a function have ranks: those of their operations, and their places in these.
-use Rattle.std.proofs.Common.{◌≡◌, ◌⊎◌, ℕ, zero, suc, ◌+◌, ◌*◌, ◌<◌, ◌≤◌, true, List, [], ◌∷◌, ◌++◌, map, take, length, length-append, Option, Some, None, inl, inr, refl, sym, ap, ◌∙◌, subst, ⊎_elim, arith}
+use Rattle.std.proofs.Common.{◌≡◌, ◌⊎◌, ℕ, zero, suc, ◌+◌, ◌<◌, ◌≤◌, true, List, [], ◌∷◌, ◌++◌, map, take, length, length-append, Some, None, inl, inr, refl, sym, ap, ◌∙◌, subst, ⊎_elim, arith}
 use Rattle.std.proofs.lemmas.Bool.{cases_lt}
 use Rattle.std.specs.List.{AllByRecursion}
-use Rattle.std.specs.Prelude.{slice_get, unwrap_or}
-use Rattle.rv64_isa.specs.declared.instr.Instr.TheVariants.{Jal, Beq, Bne, Blt, Bge, Bltu, Bgeu}
+use Rattle.std.specs.Prelude.{slice_get}
 use Rattle.region_forms.specs.Form.{RegionFunction}
 use Rattle.linear_forms.specs.Linear.{LinearOp, plain, label, jump, jump_zero, pad, jump_filter, free, resume, unexpected, return, FunctionCode}
 use Rattle.linear_forms.specs.Unit.{function_code}
-use Rattle.emission_forms.specs.Piece.{Piece, instruction}
 use Rattle.emission_forms.specs.Shape.{Shape, prologue, epilogue}
 use Rattle.emission_forms.specs.LinearCode.{linear_code, result_set}
 use Rattle.emission_forms.specs.Routine.{block_words}
 use Rattle.emission_forms.specs.Emitted.{shape_of}
 use Rattle.execution_order.specs.Control.{goes_on, label_of, place_of, CanGo, TurnsBack}
-use Rattle.execution_order.specs.Ahead.{distance_of, LeadsTo, IsAhead, GoesAhead, AllGoAhead}
+use Rattle.execution_order.specs.Ahead.{LeadsTo, GoesAhead}
 use Rattle.execution_order.specs.Order.{weight, AreRanks}
 use Rattle.execution_order.specs.Words.{word_of, InFront, InOperation, OperationLeads, LoopTurns, AreWordRanks, HasWordRanks, WordsAreInOrder}
 use Rattle.execution_order.proofs.Ahead.{all_code_goes_ahead}
 use Rattle.execution_order.proofs.Functions.{operations_are_in_order}
-
--- items of lists
-
-abbrev item : List ℕ → ℕ → ℕ → ℕ
-item ns other n = unwrap_or (slice_get ns n) other
-
-item_behind : (a b : List ℕ) (other k n : ℕ) → n ≡ length a + k → item (a ++ b) other n ≡ item b other k
-item_behind [] b other k n e = ap (item b other) (omega (arith, e))
-item_behind (x ∷ a) b other k zero e = absurd (omega (arith, e))
-item_behind (x ∷ a) b other k (suc n) e = item_behind a b other k n (omega (arith, e))
-
--- numbers in a row
-abbrev row : ℕ → ℕ → List ℕ
-row b zero = []
-row b (suc n) = b ∷ row (b + 1) n
-
-row_length : (b n : ℕ) → length (row b n) ≡ n
-row_length b zero = refl
-row_length b (suc n) = omega (arith, row_length (b + 1) n)
-
-row_item : (b n other i : ℕ) (rest : List ℕ) → i < n → item (row b n ++ rest) other i ≡ b + i
-row_item b zero other i rest lt = absurd (omega (arith, lt))
-row_item b (suc n) other zero rest lt = omega arith
-row_item b (suc n) other (suc i) rest lt = let next = row_item (b + 1) n other i rest (omega (arith, lt)) in omega (arith, next)
-
-abbrev AllBelow : ℕ → List ℕ → Type 0
-AllBelow e [] = Unit {0}
-AllBelow e (n ∷ ns) = (n < e) × AllBelow e ns
-
-both_below : (e : ℕ) (a b : List ℕ) → AllBelow e a → AllBelow e b → AllBelow e (a ++ b)
-both_below e [] b h k = k
-both_below e (n ∷ a) b h k = (h.0, both_below e a b h.1 k)
-
-row_below : (e b n : ℕ) → b + n ≤ e → AllBelow e (row b n)
-row_below e b zero le = tt
-row_below e b (suc n) le = (omega (arith, le), row_below e (b + 1) n (omega (arith, le)))
-
-item_below : (e : ℕ) (ns : List ℕ) (other n : ℕ) → AllBelow e ns → n < length ns → item ns other n < e
-item_below e [] other n h lt = absurd (omega (arith, lt))
-item_below e (x ∷ ns) other zero h lt = h.0
-item_below e (x ∷ ns) other (suc n) h lt = item_below e ns other n h.1 (omega (arith, lt))
-
-found_below : {A : Type 0} (xs : List A) (n : ℕ) (x : A) → slice_get xs n ≡ Some x → n < length xs
-found_below [] n x e = absurd (cc e)
-found_below (y ∷ xs) zero x e = omega arith
-found_below (y ∷ xs) (suc n) x e = omega (arith, found_below xs n x e)
+use Rattle.execution_order.proofs.Rows.{item, item_behind, row, row_length, row_item, AllBelow, both_below, row_below, item_below, found_below}
+use Rattle.execution_order.proofs.Leading.{leads_ahead, piece_ahead}
 
 same_op : (a b : LinearOp) → Some a ≡ Some b → a ≡ b
 same_op a b e = cc e
-
--- where a piece of code that goes ahead leads
-
-twice : (a b : ℕ) → 2 * a ≡ 2 * b → a ≡ b
-twice a b e = omega (arith, e)
-
-led : (i j n d : ℕ) → IsAhead n d → 2 * j ≡ 2 * i + d → (i < j) × (j ≤ i + n)
-led i j n d h e = (omega (arith, e, h.is, h.some), omega (arith, e, h.is, h.inside))
-
-some_number : (a b : ℕ) → Some a ≡ Some b → a ≡ b
-some_number a b e = cc e
-
-distance_ahead : (target : Option ℕ) (n : ℕ) (x : Piece) (d : ℕ) → GoesAhead target n x → distance_of x ≡ Some d → IsAhead n d
-distance_ahead target n (instruction (Jal rd k)) d h e = subst (IsAhead n) (some_number k d e) h
-distance_ahead target n (instruction (Beq x y k)) d h e = subst (IsAhead n) (some_number k d e) h.ahead
-distance_ahead target n (instruction (Bne x y k)) d h e = subst (IsAhead n) (some_number k d e) h.ahead
-distance_ahead target n (instruction (Blt x y k)) d h e = subst (IsAhead n) (some_number k d e) h.ahead
-distance_ahead target n (instruction (Bge x y k)) d h e = subst (IsAhead n) (some_number k d e) h.ahead
-distance_ahead target n (instruction (Bltu x y k)) d h e = subst (IsAhead n) (some_number k d e) h.ahead
-distance_ahead target n (instruction (Bgeu x y k)) d h e = subst (IsAhead n) (some_number k d e) h.ahead
-distance_ahead target n x d h e = absurd (cc e)
-
-leads_ahead : (target : Option ℕ) (n i j : ℕ) (x : Piece) → GoesAhead target n x → 1 ≤ n → LeadsTo x i j → (i < j) × (j ≤ i + n)
-leads_ahead target n i j x h some (inl next) = (omega (arith, next.1), omega (arith, next.1, some))
-leads_ahead target n i j x h some (inr far) = led i j n far.0 (distance_ahead target n x far.0 h far.1) far.2
-
--- what is said of the pieces of code is said of each
-piece_ahead : (target : Option ℕ) (xs : List Piece) (i : ℕ) (x : Piece) → AllGoAhead target 0 xs → slice_get xs i ≡ Some x → (n : ℕ) × GoesAhead target n x × (i + n ≡ length xs) × (1 ≤ n)
-piece_ahead target [] i x h e = absurd (cc e)
-piece_ahead target (y ∷ xs) zero x h e =
-    let same : y ≡ x = cc e in (length xs + 1 + 0, subst (GoesAhead target (length xs + 1 + 0)) same h.0, omega arith, omega arith)
-piece_ahead target (y ∷ xs) (suc i) x h e = let rest = piece_ahead target xs i x h.1 e in (rest.0, rest.1, omega (arith, rest.2), rest.3)
 
 -- operations without words
 
