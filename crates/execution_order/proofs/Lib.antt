@@ -10,3 +10,4 @@ pub mod Ahead
 pub mod Rows
 pub mod Leading
 pub mod Words
+pub mod Runs

@@ -2,3 +2,4 @@ pub mod Control
 pub mod Order
 pub mod Ahead
 pub mod Words
+pub mod Runs

@@ -1,6 +1,7 @@
 // Laws on the order in which code runs: calls of no effect, whose contracts state what holds of every program.
 ghost use Rattle.execution_order.specs.Ahead.{AllCodeGoesAhead};
 ghost use Rattle.execution_order.specs.Order.{OperationsAreInOrder};
+ghost use Rattle.execution_order.specs.Runs.{FewWordsRun};
 ghost use Rattle.execution_order.specs.Words.{WordsAreInOrder};
 
 /// The operations of a function have ranks that rise along every step of control inside a call, but for the jump from a loop's end to its
@@ -19,4 +20,9 @@ pub fn code_goes_ahead()
 /// to its test, and of which there are no more than words. So between two turns of its loops a call runs no word twice.
 pub fn words_are_in_order()
     ensures { WordsAreInOrder }
+{}
+
+/// While no loop turns, a call runs no word of its function twice, so it runs no more words than the function has.
+pub fn few_words_run()
+    ensures { FewWordsRun }
 {}
