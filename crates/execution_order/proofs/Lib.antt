@@ -11,3 +11,4 @@ pub mod Rows
 pub mod Leading
 pub mod Words
 pub mod Runs
+pub mod Paths

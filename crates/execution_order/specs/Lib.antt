@@ -3,3 +3,4 @@ pub mod Order
 pub mod Ahead
 pub mod Words
 pub mod Runs
+pub mod Paths

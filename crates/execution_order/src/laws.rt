@@ -1,6 +1,7 @@
 // Laws on the order in which code runs: calls of no effect, whose contracts state what holds of every program.
 ghost use Rattle.execution_order.specs.Ahead.{AllCodeGoesAhead};
 ghost use Rattle.execution_order.specs.Order.{OperationsAreInOrder};
+ghost use Rattle.execution_order.specs.Paths.{OperationsRunOnce};
 ghost use Rattle.execution_order.specs.Runs.{FewWordsRun};
 ghost use Rattle.execution_order.specs.Words.{WordsAreInOrder};
 
@@ -8,6 +9,11 @@ ghost use Rattle.execution_order.specs.Words.{WordsAreInOrder};
 /// test. Each rises by what the operation weighs, and no rank is more than all operations weigh together.
 pub fn operations_are_in_order()
     ensures { OperationsAreInOrder }
+{}
+
+/// While no loop turns back, the operations that a call runs weigh no more than its function, whatever each weighs but labels.
+pub fn operations_run_once()
+    ensures { OperationsRunOnce }
 {}
 
 /// Every branch and jump inside the code of an operation goes ahead, inside the operation or to the word behind it, but for the jump to the
