@@ -54,7 +54,7 @@ stands_changed l p at c w w2 s y is objects live last turns handlers h =
       memory = remembers_same l p at w w2 s.world.memory objects h.memory;
       globals = h.globals;
       exceptions = λ i e o t kept there. h.exceptions i e o t kept (subst (λ xs. slice_get xs i ≡ Some (record { number = e; exception = native t o kept })) live there);
-      made = λ o x there. subst (λ n. IsMade s.world.calls n x.base) (sym last) (h.made o x there);
+      made = λ o x there. subst (λ n. IsMade s.world.calls n w2.live x.base) (sym last) (subst (λ xs. IsMade s.world.calls w.last_number xs x.base) (sym live) (h.made o x there));
       sound = subst (λ n. IsSound c n w2.live) (sym last) (subst (λ xs. IsSound c w.last_number xs) (sym live) h.sound);
       handlers = handlers;
       kept = λ i e o t kept there. h.kept i e o t kept (subst (λ xs. slice_get xs i ≡ Some (record { number = e; exception = native t o kept })) live there);

@@ -59,10 +59,12 @@ first_stands l p input replies turns = record {
   globals = λ g lt. (let (v, e) = global_there p.globals g lt in
       ap {A = Option ℤ} (λ y. elim y [ None ↦ None | Some v ↦ Some (record { base = of_global g; type = int_type }) ]) e);
   exceptions = λ i e o t kept there. absurd (cc there);
-  made = λ o x e. (let g = is_global p o x e in subst (λ z. IsMade 0 0 z.base) (sym g.is) tt);
+  made = λ o x e. (let g = is_global p o x e in subst (λ z. IsMade 0 0 [] z.base) (sym g.is) tt);
   sound = record {
     handled = λ e h. absurd (cc h);
     travelling = λ e h. absurd (cc h);
+    entered = λ e h. absurd (cc h);
+    thrown = λ e h. absurd (cc h);
     live = λ i x h. absurd (cc h);
     together = tt;
   };

@@ -73,7 +73,7 @@ one_more a w = length-append w.objects (a ∷ [])
 
 module _ (l : Layout) (p : Checked) (at : Places) (c : SourceContext) (w : SourceWorld) (s : State) (stands : Stands l p at c w s)
     (base : Base) (t : ObjectType) (a : Part) (memory : Address → Option ℤ) (empty : (o : ℕ) (x : Stood) → at o ≡ Some x → x.base ≡ base → ⊥)
-    (made : IsMade s.world.calls w.last_number base) (shaped : Shaped p t a) (same : (q : Address) → (q.base ≡ base → ⊥) → memory q ≡ s.world.memory q)
+    (made : IsMade s.world.calls w.last_number w.live base) (shaped : Shaped p t a) (same : (q : Address) → (q.base ≡ base → ⊥) → memory q ≡ s.world.memory q)
     (holds : (path : List ℕ) (v : ℤ) → part_at a path ≡ cell (Some v) → memory (address_along l p (record { base = base; type = t }) path) ≡ Some v) where
   abbrev pub newly : Stood
   newly = record { base = base; type = t }
@@ -130,8 +130,8 @@ module _ (l : Layout) (p : Checked) (at : Places) (c : SourceContext) (w : Sourc
     kept = stands.kept;
   }
     where
-      made_go : (o : ℕ) (x : Stood) → ((o ≡ length w.objects) × (newly ≡ x)) ⊎ ((o ≡ length w.objects → ⊥) × (at o ≡ Some x)) → IsMade s.world.calls w.last_number x.base
-      made_go o x (inl (e, f)) = subst (λ z. IsMade s.world.calls w.last_number z.base) f made
+      made_go : (o : ℕ) (x : Stood) → ((o ≡ length w.objects) × (newly ≡ x)) ⊎ ((o ≡ length w.objects → ⊥) × (at o ≡ Some x)) → IsMade s.world.calls w.last_number w.live x.base
+      made_go o x (inl (e, f)) = subst (λ z. IsMade s.world.calls w.last_number w.live z.base) f made
       made_go o x (inr (ne, is)) = stands.made o x is
 
   abbrev pub follows_new : (k : ℕ) → Follows l p at k w s c (with_object a w) (record s { world = record (s.world) { memory = memory } })

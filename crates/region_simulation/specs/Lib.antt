@@ -2,6 +2,7 @@ pub mod Typed
 pub mod Places
 pub mod Reach
 pub mod Names
+pub mod Lives
 pub mod Stands
 pub mod Value
 pub mod Alike

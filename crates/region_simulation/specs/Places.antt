@@ -14,7 +14,7 @@ pub record Stood : Type 0 where
   pub type : ObjectType
 
 -- Where each object stands, by its number. One that is not made yet stands nowhere, nor does a variable whose scope is left: its slot
--- may be that of another by then. An exception's object goes on standing when it is given back, since its number is not used again.
+-- may be that of another by then. Nor does an exception's object once the exception is freed, since its memory may then be another's.
 abbrev pub Places : Type 0
 Places = ℕ → Option Stood
 

@@ -10,6 +10,7 @@ use Rattle.region_forms.specs.Guard.{Guard, clauses, listed, everything}
 use Rattle.region_forms.specs.Outcome.{State, Context}
 use Rattle.region_forms.specs.Numbering.{type_number, destructor_of}
 use Rattle.region_forms.specs.Layout.{Layout}
+use Rattle.region_simulation.specs.Lives.{is_live, CanBeThrown}
 use Rattle.region_simulation.specs.Places.{Places, Stood, Remembers}
 
 -- an exception: its type and its destructor by their numbers
@@ -55,22 +56,25 @@ world_of p c w memory calls = record {
   ending = c.ending;
 }
 
--- a base is at a global, at a slot of a call that was made, or at an exception that was
-abbrev pub IsMade : (calls last_number : ℕ) → Base → Type 0
-IsMade calls last (of_global g) = Unit {0}
-IsMade calls last (of_variable c s) = c < calls
-IsMade calls last (of_exception e) = e ≤ last
+-- a base is at a global, at a slot of a call that was made, or at an exception that was and is live
+abbrev pub IsMade : (calls last_number : ℕ) → List SourceLive → Base → Type 0
+IsMade calls last lives (of_global g) = Unit {0}
+IsMade calls last lives (of_variable c s) = c < calls
+IsMade calls last lives (of_exception e) = (e ≤ last) × (is_live lives e ≡ true)
 
 -- the entries of each exception among the handled ones stand side by side
 abbrev pub AreTogether : List ℕ → Type 0
 AreTogether [] = Unit {0}
 AreTogether (e ∷ es) = (only_front e es ≡ true) × AreTogether es
 
--- What is handled, what travels and what is live was made, so an exception to come has another number. The handled ones stand as they do
--- where handlers are entered and left. Where those that travel again stand is left open: a handler of another exception may be entered meanwhile.
+-- What is handled, what travels and what is live was made, so an exception to come has another number. What is handled and what travels is live and
+-- built. The handled ones stand as they do where handlers are entered and left. Where those that travel again stand is left open: a handler of another
+-- exception may be entered meanwhile.
 pub record IsSound (c : SourceContext) (last : ℕ) (lives : List SourceLive) : Type 0 where
   pub handled : (e : ℕ) → contains c.handled e ≡ true → e ≤ last
   pub travelling : (e : ℕ) → contains c.travelling e ≡ true → e ≤ last
+  pub entered : (e : ℕ) → contains c.handled e ≡ true → CanBeThrown lives e
+  pub thrown : (e : ℕ) → contains c.travelling e ≡ true → CanBeThrown lives e
   pub live : (i : ℕ) (x : SourceLive) → slice_get lives i ≡ Some x → x.number ≤ last
   pub together : AreTogether c.handled
 
@@ -94,8 +98,8 @@ pub record IsKept (p : Checked) (t : ObjectType) (kept : Installed) : Type 0 whe
   pub handlers : AreHandlers p kept
 
 -- The state stands for the world: what both see is the same, memory holds what objects hold, a global stands at itself, the object of a
--- native exception at that exception, and nothing at a call or an exception that is to come. Handlers that are set, and what native
--- exceptions are kept with, can be called.
+-- native exception at that exception, and nothing at a call or an exception that is to come, nor at an exception that is no longer live. Handlers
+-- that are set, and what native exceptions are kept with, can be called.
 pub record Stands (l : Layout) (p : Checked) (at : Places) (c : SourceContext) (w : SourceWorld) (s : State) : Type 0 where
   pub world : s.world ≡ world_of p c w s.world.memory s.world.calls
   pub turns : s.turns ≡ w.turns
@@ -103,7 +107,7 @@ pub record Stands (l : Layout) (p : Checked) (at : Places) (c : SourceContext) (
   pub globals : (g : ℕ) → g < length p.globals → at g ≡ Some (record { base = of_global g; type = int_type })
   pub exceptions : (i : ℕ) (e o : ℕ) (t : ObjectType) (kept : Installed) → slice_get w.live i ≡ Some (record { number = e; exception = source_native t o kept })
       → at o ≡ Some (record { base = of_exception e; type = t })
-  pub made : (o : ℕ) (x : Stood) → at o ≡ Some x → IsMade s.world.calls w.last_number x.base
+  pub made : (o : ℕ) (x : Stood) → at o ≡ Some x → IsMade s.world.calls w.last_number w.live x.base
   pub sound : IsSound c w.last_number w.live
   pub handlers : AreHandlers p w.installed
   pub kept : (i : ℕ) (e o : ℕ) (t : ObjectType) (kept : Installed) → slice_get w.live i ≡ Some (record { number = e; exception = source_native t o kept }) → IsKept p t kept

@@ -53,7 +53,7 @@ called_passed kinds depth words s =
     (all_begun kinds s.world.calls 0 depth words s.world)
 
 module _ (l : Layout) (p : Checked) (at : Places) (c : SourceContext) (w : SourceWorld) (s : State) (stands : Stands l p at c w s) where
-  still_made : (b : Base) → IsMade s.world.calls w.last_number b → IsMade (s.world.calls + 1) w.last_number b
+  still_made : (b : Base) → IsMade s.world.calls w.last_number w.live b → IsMade (s.world.calls + 1) w.last_number w.live b
   still_made (of_global g) h = tt
   still_made (of_variable k t) h = omega (arith, h)
   still_made (of_exception e) h = h
@@ -75,7 +75,7 @@ module _ (l : Layout) (p : Checked) (at : Places) (c : SourceContext) (w : Sourc
   -- nothing stands at a slot of a call to come
   nothing_there : (o t : ℕ) (x : Stood) → at o ≡ Some x → x.base ≡ of_variable s.world.calls t → ⊥
   nothing_there o t x is it =
-      let made : s.world.calls < s.world.calls = subst (λ q. IsMade s.world.calls w.last_number q) it (stands.made o x is) in omega (arith, made)
+      let made : s.world.calls < s.world.calls = subst (λ q. IsMade s.world.calls w.last_number w.live q) it (stands.made o x is) in omega (arith, made)
 
 -- What stands where a function's body begins: what stood before still does, and what was passed stands as variables of the call.
 pub record Begun (l : Lowering) (own : Option ℕ) (c : SourceContext) (at : Places) (w : SourceWorld) (s : State) (params : List Param)
