@@ -34,7 +34,8 @@ use Rattle.throw_simulation.proofs.Raises.{raises as raises_out}
 use Rattle.throw_simulation.proofs.New.{newly, new_number, full_same, new_on}
 use Rattle.throw_simulation.proofs.Caught.{front_unhandled}
 use Rattle.throw_simulation.proofs.Unset.{unset_is_shaped, unset_is_not_set}
-use Rattle.throw_simulation.proofs.Kept.{after_keeping, kept_on}
+use Rattle.throw_simulation.proofs.Kept.{after_keeping, kept_on, kept_thrown}
+use Rattle.throw_simulation.proofs.Lives.{live_new}
 
 -- an empty call is done, or stops for want of turns or of room
 abbrev IsBrief : Result (Unit {0}) → Type 0
@@ -84,10 +85,10 @@ module _ (laws : CaughtListFollows) (l : Layout) (a : SourceRunning) (b : Runnin
   w2 = with_object (unset a.program (class_type 0)) w1
 
   nothing_there : (q : ℕ) (x : Stood) → at q ≡ Some x → x.base ≡ of_exception e → ⊥
-  nothing_there q x is base = let le = subst (IsMade s.world.calls w.last_number) base (stands.made q x is) in omega (arith, le)
+  nothing_there q x is base = let le = (subst (IsMade s.world.calls w.last_number w.live) base (stands.made q x is)).0 in omega (arith, le)
 
   abbrev h2 : Follows l a.program at k w1 s1 c w2 s1
-  h2 = follows_new l a.program at c w1 s1 stands1 (of_exception e) (class_type 0) (unset a.program (class_type 0)) s1.world.memory nothing_there (omega arith)
+  h2 = follows_new l a.program at c w1 s1 stands1 (of_exception e) (class_type 0) (unset a.program (class_type 0)) s1.world.memory nothing_there (omega arith, live_new w.live e source_building)
       (unset_is_shaped a.program same.ordered 0 same.ordered.some) (λ q other. refl) (λ path n is. absurd (unset_is_not_set a.program (class_type 0) path n is)) k
 
   abbrev rest : ℕ → Result (Unit {0}) → Result B
@@ -104,7 +105,7 @@ module _ (laws : CaughtListFollows) (l : Layout) (a : SourceRunning) (b : Runnin
       let w4 = after_keeping l a.program h.places c w3 s3 h.stands e o (class_type 0) placed in
       let s4 = record s3 { world = kept e bad_row None s3.world } in
       let can : CanBeRaised c w4 e = record {
-        made = h.stands.made o stood placed;
+        made = (h.stands.made o stood placed).0;
         rests = new_number w.last_number c.travelling stands.sound.travelling;
         front = front_unhandled e c.handled (new_number w.last_number c.handled stands.sound.handled);
       } in
@@ -113,7 +114,7 @@ module _ (laws : CaughtListFollows) (l : Layout) (a : SourceRunning) (b : Runnin
       (alike_on l a.program agree (with_place at o stood) k c c w2 s1 w4 s4 (follows_on l a.program (with_place at o stood) k w2 s1 c w3 s3 c w4 s4 h g)
       (raise_exception a e c w4) (raise b e ctx s4)
       (subst (λ n. Alike l a.program h.places k c w4 s4 agree (raise_exception a e c w4) (raise b e (context_of n c) s4)) h.open_calls
-      (raises_out l a b same laws A B h.places c w4 s4 stands4 e can agree k)))
+      (raises_out l a b same laws A B h.places c w4 s4 stands4 e can (kept_thrown l a.program h.places c w3 s3 h.stands e o (class_type 0) placed) agree k)))
   called (source_stopped (thrown f) w3) y brief (s3, is, h) = absurd (subst IsBrief is brief)
   called (source_stopped (cancelled v) w3) y brief (s3, is, h) = absurd (subst IsBrief is brief)
   called (source_stopped undefined w3) y brief h = tt

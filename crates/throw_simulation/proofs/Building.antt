@@ -1,5 +1,5 @@
 -- The objects of exceptions are built alike: objects from arguments, and copies.
-use Rattle.std.proofs.Common.{◌≡◌, ℕ, ◌<◌, ◌≤◌, ℤ, List, [], ◌∷◌, ◌++◌, Option, Some, None, refl, sym, ap, ◌∙◌, subst, arith, length}
+use Rattle.std.proofs.Common.{◌≡◌, ℕ, ◌<◌, ◌≤◌, ℤ, List, [], ◌∷◌, ◌++◌, Option, Some, None, refl, sym, ap, ◌∙◌, subst, arith, length, true}
 use Rattle.std.specs.Prelude.{if◌then◌else◌}
 use Rattle.cxx_ast.specs.declared.types.Ty.{Ty}
 use Rattle.cxx_ast.specs.declared.name.Name.{Name}
@@ -52,6 +52,7 @@ use Rattle.throw_simulation.proofs.Unset.{unset_is_shaped, unset_is_not_set}
 use Rattle.throw_simulation.proofs.Kept.{shaped_type}
 use Rattle.throw_simulation.proofs.Protecting.{leads_on}
 use Rattle.throw_simulation.proofs.Constructing.{built_by, copied_both}
+use Rattle.region_simulation.specs.Lives.{is_live}
 
 -- each argument has its parameter
 types_all : (types : List Ty) (es : Expressions) → count_of es ≡ length types → types_for types es ≡ types
@@ -112,7 +113,7 @@ module _ (l : Lowering) (own : Option ℕ) (call : Callee → Reference → List
 
   -- a new object stands at an exception that is being built
   module _ (at : Places) (w : SourceWorld) (s : State) (e : ℕ) (stands : Stands l.layout l.program at c w s) (reach : Reaches l own at v s.frame)
-      (slot : s.frame.slots (exception_slot l) ≡ address_word (object_address e)) (made : e ≤ w.last_number)
+      (slot : s.frame.slots (exception_slot l) ≡ address_word (object_address e)) (made : (e ≤ w.last_number) × (is_live w.live e ≡ true))
       (empty : (o : ℕ) (x : Stood) → at o ≡ Some x → x.base ≡ of_exception e → ⊥) (k : ℕ) (there : k < length l.program.classes) where
     abbrev o : ℕ
     o = length w.objects

@@ -5,7 +5,7 @@ use Rattle.cxx_ast.specs.declared.name.Name.{Name}
 use Rattle.cxx_ast.specs.declared.types.Ty.{Ty}
 use Rattle.cxx_ast.specs.declared.types.Ty.TheVariants.{Int, Void, Object, IntRef, ObjectRef}
 use Rattle.cxx_ast.specs.Plain.{Statements, no_statements, statement_then, Handlers, no_handlers, handler_then}
-use Rattle.scope_rules.specs.Class.{object_type}
+use Rattle.scope_rules.specs.Class.{object_type, contains}
 use Rattle.scope_rules.specs.World.{World as SourceWorld, Reference, type_at as source_type_at}
 use Rattle.scope_rules.specs.Context.{Context as SourceContext, try_block, guarded_by, handling, with_travelling}
 use Rattle.scope_rules.specs.Frame.{Frame as SourceFrame, Variable, with_parameter}
@@ -32,7 +32,7 @@ use Rattle.region_simulation.specs.Reach.{KindsFit}
 use Rattle.region_simulation.specs.Flows.{FlowAgrees, InScope, DoesAlike}
 use Rattle.region_simulation.specs.Statements.{DeclaresNext, CanCatch, AreTypedStatements, AreTypedHandlers, declared_to}
 use Rattle.region_simulation.specs.Expressions.{source_running}
-use Rattle.region_simulation.proofs.Following.{follows_now, alike_less, alike_on}
+use Rattle.region_simulation.proofs.Following.{follows_now, alike_less}
 use Rattle.region_simulation.proofs.Flowing.{alike_after, outwards_agrees}
 use Rattle.region_simulation.proofs.Storing.{same_number}
 use Rattle.throw_simulation.specs.Fares.{CallsFare}
@@ -48,6 +48,8 @@ use Rattle.throw_simulation.proofs.Handlers.{all_handled, reference_handled}
 use Rattle.throw_simulation.proofs.IntHandlers.{int_handled}
 use Rattle.throw_simulation.proofs.ObjectHandlers.{object_handled}
 use Rattle.throw_simulation.proofs.Tries.{tries_alike}
+use Rattle.throw_simulation.specs.Left.{CanBeLeft}
+use Rattle.throw_simulation.proofs.Since.{follows_older, alike_since}
 
 -- typed statements have room for their variables
 room : (l : Lowering) (own : Option ℕ) (gives : Bool) (ss : Statements) (xs : List Variable) (n : ℕ) → AreTypedStatements l own gives ss xs n → n ≤ length l.variables
@@ -77,8 +79,8 @@ module _ (laws : CaughtListFollows) (l : Lowering) (own : Option ℕ) (gives : B
   abbrev a : SourceRunning
   a = source_running l call
 
-  module _ (e : ℕ) (at : Places) (w : SourceWorld) (s : State) (stands : Stands l.layout l.program at (with_travelling e c) w s) (inside : InScope l own n at v s)
-      (fresh : CanBeEntered c e) where
+  module _ (e : ℕ) (at : Places) (w0 w : SourceWorld) (s : State) (stands : Stands l.layout l.program at (with_travelling e c) w s) (inside : InScope l own n at v s)
+      (fresh : CanBeEntered c e) (can_leave : CanBeLeft (contains c.handled e) e at w0 w) where
     abbrev ctx : Context
     ctx = context_of w.open_calls c
 
@@ -101,15 +103,16 @@ module _ (laws : CaughtListFollows) (l : Lowering) (own : Option ℕ) (gives : B
 
     -- a handler is one region
     handler_out : (m : ℕ) → n ≤ m → m ≤ length l.variables → (act : SourceAction SourceFlow) (rs : List Region)
-        → Alike l.layout l.program at (variable_slot l m) c w s1 (FlowAgrees l gives i (d + 1)) (act w) (regions b (regions_from rs) ctx s1)
-        → Alike l.layout l.program at (variable_slot l n) c w s (FlowAgrees l gives i d) (act w) (region b (in_order rs) ctx s1)
+        → Alike l.layout l.program at (variable_slot l m) c w0 s1 (FlowAgrees l gives i (d + 1)) (act w) (regions b (regions_from rs) ctx s1)
+        → Alike l.layout l.program at (variable_slot l n) c w0 s (FlowAgrees l gives i d) (act w) (region b (in_order rs) ctx s1)
     handler_out m le fits act rs h =
         let there = inside.there in
-        let g = follows_framed l.layout l.program at (variable_slot l n) (with_travelling e c) w s s1.frame
-        (slot_keeps (variable_slot l n) X (address_word (object_address e)) s.frame (omega (arith, there))) stands in
-        alike_on l.layout l.program (FlowAgrees l gives i d) at (variable_slot l n) c (with_travelling e c) w s w s1 g (act w) (region b (in_order rs) ctx s1)
-        (alike_less l.layout l.program (FlowAgrees l gives i d) at (variable_slot l n) (variable_slot l m) c w s1 (act w) (region b (in_order rs) ctx s1) (omega (arith, le))
-        (alike_after l.layout l.program (FlowAgrees l gives i (d + 1)) (FlowAgrees l gives i d) at (variable_slot l m) c w s1 (act w) (regions b (regions_from rs) ctx s1) outwards
+        let g = follows_older l.layout l.program at (variable_slot l n) w0 w s (with_travelling e c) w s1 can_leave.objects can_leave.open_calls
+        (follows_framed l.layout l.program at (variable_slot l n) (with_travelling e c) w s s1.frame
+        (slot_keeps (variable_slot l n) X (address_word (object_address e)) s.frame (omega (arith, there))) stands) in
+        alike_since l.layout l.program (FlowAgrees l gives i d) at (variable_slot l n) c (with_travelling e c) w0 s w s1 g (act w) (region b (in_order rs) ctx s1)
+        (alike_less l.layout l.program (FlowAgrees l gives i d) at (variable_slot l n) (variable_slot l m) c w0 s1 (act w) (region b (in_order rs) ctx s1) (omega (arith, le))
+        (alike_after l.layout l.program (FlowAgrees l gives i (d + 1)) (FlowAgrees l gives i d) at (variable_slot l m) c w0 s1 (act w) (regions b (regions_from rs) ctx s1) outwards
         (outwards_agrees l gives i d lt) h))
 
     module _ (m : ℕ) (le : n ≤ m) (ss : Statements) (block : BlockDoes l own gives call b ss) where
@@ -132,12 +135,12 @@ module _ (laws : CaughtListFollows) (l : Lowering) (own : Option ℕ) (gives : B
 
         -- a handler of a type, by its parameter
         by_type : (t : Ty) → DeclaresNext l m x t → CanCatch l.program t → source_matches l.program (source_type_at w e) (source_clause_of (Some t)) ≡ true
-            → Alike l.layout l.program at (variable_slot l m) c w s1 (FlowAgrees l gives i (d + 1)) (handle a e (Some t) x body v c w)
+            → Alike l.layout l.program at (variable_slot l m) c w0 s1 (FlowAgrees l gives i (d + 1)) (handle a e (Some t) x body v c w)
             (regions b (regions_from (caught_parameter l t (variable_slot l m) ++ op (enter X) ∷
             protect (in_order (with_caught l t (variable_slot l m) (λ f. statements l ss i (m + 1) f) (d + 1 + 2))) leave_handler ∷ [])) ctx s1)
         by_type Int declares can matched =
             int_handled laws l own gives m i (d + 1) (omega (arith, lt)) call b same fare empty v c e fresh body (statements l ss i (m + 1) (d + 1 + 2)) at w s1 stands1
-            (inside1 m le fits) slot1 fit x declares.numbered there declares.typed (does (d + 1 + 2) (omega (arith, lt))) (caught_as l.program w e (object_type Int) matched)
+            (inside1 m le fits) slot1 fit x declares.numbered there declares.typed (does (d + 1 + 2) (omega (arith, lt))) (caught_as l.program w e (object_type Int) matched) w0 can_leave
         by_type Void declares can matched = absurd can
         by_type (Object q) declares can matched =
             let more : d + 1 + 2 + 2 ≡ d + 1 + 4 = omega arith in
@@ -145,25 +148,25 @@ module _ (laws : CaughtListFollows) (l : Lowering) (own : Option ℕ) (gives : B
             q declares.typed can.0
             (λ r. subst (λ f. DoesAlike l own gives b (with_parameter x r v) (handling e c) (m + 1) i f (body (with_parameter x r v) (handling e c)) (statements l ss i (m + 1) (d + 1 + 2 + 2))) more
             (does (d + 1 + 2 + 2) (omega (arith, lt)) r))
-            at w s1 stands1 (inside1 m le fits) slot1 (caught_as l.program w e (object_type (Object q)) matched) can.1
+            at w s1 stands1 (inside1 m le fits) slot1 (caught_as l.program w e (object_type (Object q)) matched) can.1 w0 can_leave
         by_type (IntRef k) declares can matched =
             reference_handled laws l own gives m i (d + 1) (omega (arith, lt)) call b same fare empty v c e fresh body (statements l ss i (m + 1) (d + 1 + 2)) at w s1 stands1
-            (inside1 m le fits) slot1 x declares.numbered there (does (d + 1 + 2) (omega (arith, lt))) (IntRef k) tt tt declares.typed (caught_as l.program w e (object_type (IntRef k)) matched)
+            (inside1 m le fits) slot1 w0 can_leave x declares.numbered there (does (d + 1 + 2) (omega (arith, lt))) (IntRef k) tt tt declares.typed (caught_as l.program w e (object_type (IntRef k)) matched)
             (bound_here (variable_slot l m)) (λ q f. refl)
         by_type (ObjectRef k q) declares can matched =
             reference_handled laws l own gives m i (d + 1) (omega (arith, lt)) call b same fare empty v c e fresh body (statements l ss i (m + 1) (d + 1 + 2)) at w s1 stands1
-            (inside1 m le fits) slot1 x declares.numbered there (does (d + 1 + 2) (omega (arith, lt))) (ObjectRef k q) tt tt declares.typed (caught_as l.program w e (object_type (ObjectRef k q)) matched)
+            (inside1 m le fits) slot1 w0 can_leave x declares.numbered there (does (d + 1 + 2) (omega (arith, lt))) (ObjectRef k q) tt tt declares.typed (caught_as l.program w e (object_type (ObjectRef k q)) matched)
             (bound_here (variable_slot l m)) (λ q f. refl)
 
     -- a clause is tried, and then the others
     tried : (t : Option Ty) (this others : SourceAction SourceFlow) (r : Region) (cs : Clauses)
-        → (source_matches l.program (source_type_at w e) (source_clause_of t) ≡ true → Alike l.layout l.program at (variable_slot l n) c w s (FlowAgrees l gives i d) (this w) (region b r ctx s1))
-        → Alike l.layout l.program at (variable_slot l n) c w s (FlowAgrees l gives i d) (others w) (caught b cs ctx e s)
-        → Alike l.layout l.program at (variable_slot l n) c w s (FlowAgrees l gives i d)
+        → (source_matches l.program (source_type_at w e) (source_clause_of t) ≡ true → Alike l.layout l.program at (variable_slot l n) c w0 s (FlowAgrees l gives i d) (this w) (region b r ctx s1))
+        → Alike l.layout l.program at (variable_slot l n) c w0 s (FlowAgrees l gives i d) (others w) (caught b cs ctx e s)
+        → Alike l.layout l.program at (variable_slot l n) c w0 s (FlowAgrees l gives i d)
         ((if source_matches l.program (source_type_at w e) (source_clause_of t) then this else others) w)
         ((if matches b.types (type_at s.world e) (clause_of (source_clause_of t)) then (λ u. region b r ctx (with_object X e u)) else caught b cs ctx e) s)
     tried t this others r cs chosen passed_on =
-        subst (λ z. Alike l.layout l.program at (variable_slot l n) c w s (FlowAgrees l gives i d)
+        subst (λ z. Alike l.layout l.program at (variable_slot l n) c w0 s (FlowAgrees l gives i d)
         ((if source_matches l.program (source_type_at w e) (source_clause_of t) then this else others) w)
         ((if z then (λ u. region b r ctx (with_object X e u)) else caught b cs ctx e) s)) (sym test) (go (source_matches l.program (source_type_at w e) (source_clause_of t)) chosen)
       where
@@ -173,24 +176,29 @@ module _ (laws : CaughtListFollows) (l : Lowering) (own : Option ℕ) (gives : B
             ap (λ u. matches (type_rows l.program) u (clause_of (source_clause_of t))) (type_same l.layout l.program at (with_travelling e c) w s stands e) ∙
             (doomed_alike l.program same.ordered (source_type_at w e)).matched (source_clause_of t)
 
-        go : (z : Bool) → (z ≡ true → Alike l.layout l.program at (variable_slot l n) c w s (FlowAgrees l gives i d) (this w) (region b r ctx s1))
-            → Alike l.layout l.program at (variable_slot l n) c w s (FlowAgrees l gives i d) ((if z then this else others) w)
+        go : (z : Bool) → (z ≡ true → Alike l.layout l.program at (variable_slot l n) c w0 s (FlowAgrees l gives i d) (this w) (region b r ctx s1))
+            → Alike l.layout l.program at (variable_slot l n) c w0 s (FlowAgrees l gives i d) ((if z then this else others) w)
             ((if z then (λ u. region b r ctx (with_object X e u)) else caught b cs ctx e) s)
         go true chosen = chosen refl
         go false chosen = passed_on
 
     pub all_tried : (hs : Handlers) (m : ℕ) → n ≤ m → BlocksDo l own gives call b hs → AreTypedHandlers l own gives hs v.variables m
-        → Alike l.layout l.program at (variable_slot l n) c w s (FlowAgrees l gives i d) (source_caught a hs v c e w) (caught b (clauses l hs i m (d + 1)) ctx e s)
-    all_tried no_handlers m le blocks typed = (s, refl, follows_now l.layout l.program at (variable_slot l n) (with_travelling e c) w s stands)
+        → Alike l.layout l.program at (variable_slot l n) c w0 s (FlowAgrees l gives i d) (source_caught a hs v c e w) (caught b (clauses l hs i m (d + 1)) ctx e s)
+    all_tried no_handlers m le blocks typed = (
+      s,
+      refl,
+      follows_older l.layout l.program at (variable_slot l n) w0 w s (with_travelling e c) w s can_leave.objects can_leave.open_calls
+          (follows_now l.layout l.program at (variable_slot l n) (with_travelling e c) w s stands),
+    )
     all_tried (handler_then None x ss place hs) m le blocks typed =
         let fits = room l own gives ss v.variables m typed.1 in
         let last = op (enter X) ∷ protect (in_order (statements l ss i m (d + 1 + 2))) leave_handler ∷ [] in
-        subst (λ q. Alike l.layout l.program at (variable_slot l n) c w s (FlowAgrees l gives i d) (source_caught a (handler_then None q ss place hs) v c e w)
+        subst (λ q. Alike l.layout l.program at (variable_slot l n) c w0 s (FlowAgrees l gives i d) (source_caught a (handler_then None q ss place hs) v c e w)
         (caught b (clauses l (handler_then None x ss place hs) i m (d + 1)) ctx e s)) (sym typed.0)
         (tried None (handle a e None None (λ g f. source_statements a ss g f) v c) (source_caught a hs v c e) (in_order last) (clauses l hs i (m + length (all_declared_in ss)) (d + 1))
         (λ matched. handler_out m le fits (handle a e None None (λ g f. source_statements a ss g f) v c) last
         (all_handled laws l own gives m i (d + 1) (omega (arith, lt)) call b same fare empty v c e fresh (λ g f. source_statements a ss g f) (statements l ss i m (d + 1 + 2)) at w s1 stands1
-        (inside1 m le fits) slot1 (blocks.0 v (handling e c) m i (d + 1 + 2) (omega (arith, lt)) typed.1)))
+        (inside1 m le fits) slot1 w0 can_leave (blocks.0 v (handling e c) m i (d + 1 + 2) (omega (arith, lt)) typed.1)))
         (all_tried hs (m + length (all_declared_in ss)) (omega (arith, le)) blocks.1 typed.2))
     all_tried (handler_then (Some t) x ss place hs) m le blocks typed =
         let there = typed.0.there in
@@ -202,8 +210,8 @@ module _ (laws : CaughtListFollows) (l : Lowering) (own : Option ℕ) (gives : B
         (all_tried hs (m + 1 + length (all_declared_in ss)) (omega (arith, le)) blocks.1 typed.3)
 
 pub handlers_catch_alike : CaughtListFollows → HandlersCatchAlike
-handlers_catch_alike laws l own gives call b v c same fit fare empty n m i d hs lt le blocks typed e at w s stands inside fresh =
-    all_tried laws l own gives call b v c same fit fare empty n i d lt e at w s stands inside fresh hs m le blocks typed
+handlers_catch_alike laws l own gives call b v c same fit fare empty n m i d hs lt le blocks typed e at w0 w s stands inside fresh can =
+    all_tried laws l own gives call b v c same fit fare empty n i d lt e at w0 w s stands inside fresh can hs m le blocks typed
 
 pub try_blocks_do_alike : CaughtListFollows → TryBlocksDoAlike
 try_blocks_do_alike laws l own gives call b v c same fit fare empty n i d ss hs lt block blocks typed handlers fresh =

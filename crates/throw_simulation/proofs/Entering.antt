@@ -55,7 +55,7 @@ module _ (l : Layout) (p : Checked) (at : Places) (c : SourceContext) (w : Sourc
       (ap (entered e) stands.world ∙
       ap {A = ℕ} {B = World} (λ n. record world { uncaught = n; caught = entered_on e (caught_of (e ∷ c.travelling) c.handled) }) fewer ∙
       ap {B = World} (λ xs. record world { caught = xs }) (laws.entered e c.travelling c.handled rests front))
-      refl refl (omega arith) (sound_handled e c made_before front (sound_resting e c stands.sound)) stands.handlers (all_old w.live) stands
+      refl refl (omega arith) (sound_handled e c made_before (stands.sound.thrown e (contains_newest e c.travelling)) front (sound_resting e c stands.sound)) stands.handlers (all_old w.live) stands
 
   pub tested : (is_foreign (exception_at s.world e) && holds_other e s.world.caught) ≡ (source_is_foreign (source_exception_at w e) && some_of (λ f. not (f == e)) c.handled)
   tested =

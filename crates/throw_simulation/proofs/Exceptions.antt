@@ -32,7 +32,8 @@ leaves p c act fares w w2 n sound is e made unbuilt =
 
 enterable : {A : Type 0} (p : Checked) (c : Context) (act : Action A) → FaresIn p c act → CanBeCaught c act
 enterable p c act fares w w2 e sound is =
-    let h = subst (Fares p 0 c w) is (fares 0 w (omega arith) (orderly_sound c w sound)) in record { rests = h.1.raised.rests; front = h.1.raised.front }
+    let h = subst (Fares p w.last_number c w) is (fares w.last_number w (omega arith) (orderly_sound c w sound)) in
+    (record { rests = h.1.raised.rests; front = h.1.raised.front }, h.1.known)
 
 pub all_throws_do_alike : CaughtListFollows → AllThrowsDoAlike
 all_throws_do_alike laws l own gives call b v c same fit fare n i d e can =

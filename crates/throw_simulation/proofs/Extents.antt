@@ -38,7 +38,7 @@ extents_alike laws l gives i d lt a b same fare empty makes at k c w s stands li
     alike_after l.layout a.program agree (FlowAgrees l gives i d) at k c w s (after_extent a types c (act inside w))
     (watched_limit b (map type_number types) (context_of w.open_calls c) y) outwards (outwards_agrees l gives i d lt)
     (extent_out laws l.layout a b same fare empty makes agree (result_slot l + 1) (flows_steady l gives i (d + 1)) types c
-    at k w s 0 (act inside w) y does (fares 0 w (omega arith) (orderly_sound inside w standing.sound)))
+    at k w s stands (act inside w) y does (fares w.last_number w (omega arith) (orderly_sound inside w standing.sound)))
 
 numbers_of : (listed : List Ty) → map (λ t. type_number (object_type t)) listed ≡ map type_number (map object_type listed)
 numbers_of [] = refl

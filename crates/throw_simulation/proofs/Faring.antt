@@ -17,6 +17,7 @@ use Rattle.throw_simulation.specs.Raises.{CanBeRaised}
 use Rattle.throw_simulation.specs.Barred.{NotThrown}
 use Rattle.throw_simulation.specs.Fares.{IsOrderly, GoesOn, Fares, FaresIn, FaringCallsAreBarred}
 use Rattle.throw_simulation.proofs.Standing.{held}
+use Rattle.region_simulation.specs.Lives.{is_live}
 
 pub goes_same : (c : Context) (w : World) → IsOrderly c w → GoesOn c w w
 goes_same c w h = record { later = omega arith; live = h.live; kept = λ e is. refl; held = λ e is. refl; unbuilt = λ e le u. u }
@@ -41,7 +42,11 @@ goes_live c w w2 w3 live last h =
       live = λ i x is. (let le = h.live i x (subst (λ xs. slice_get xs i ≡ Some x) live is) in omega (arith, le, last));
       kept = λ e is. (ap (λ xs. exception_in xs e) live ∙ h.kept e is);
       held = λ e is. (ap (λ xs. exception_in xs e) live ∙ h.held e is);
-      unbuilt = λ e le u i o t kept is. h.unbuilt e le u i o t kept (subst (λ xs. slice_get xs i ≡ Some (record { number = e; exception = native t o kept })) live is);
+      unbuilt = λ e le u. (let v = h.unbuilt e le u in (
+        ap (λ xs. is_live xs e) live ∙ v.0,
+        ap (λ xs. exception_in xs e) live ∙ v.1,
+        λ i o t kept is. v.2 i o t kept (subst (λ xs. slice_get xs i ≡ Some (record { number = e; exception = native t o kept })) live is),
+      ));
     }
 
 pub orderly_on : (c : Context) (w w2 : World) → IsOrderly c w → GoesOn c w w2 → IsOrderly c w2

@@ -9,7 +9,7 @@ use Rattle.cxx_ast.specs.Plain.{Checked}
 use Rattle.run_items.specs.declared.item.Item.TheVariants.{Enter, Leave, Destroy, Free, Clean}
 use Rattle.scope_rules.specs.Class.{ObjectType, int_type, class_type, class_named, some_of, contains}
 use Rattle.scope_rules.specs.Part.{Part, cell, object, unset}
-use Rattle.scope_rules.specs.World.{World, Exception, building, native, foreign, Reference, whole, as_class, part_of, exception_at, exception_type, without_exception}
+use Rattle.scope_rules.specs.World.{World, Exception, building, native, foreign, Reference, whole, as_class, part_of, exception_at, exception_type}
 use Rattle.scope_rules.specs.Context.{Context, barrier, guarded_by, handling, with_travelling}
 use Rattle.scope_rules.specs.Guard.{is_doomed}
 use Rattle.scope_rules.specs.Outcome.{Result, done, stopped, thrown, cancelled, ended, undefined, out_of_turns, deep, Action, pure, stop, continued, emit, new_object, read, read_part, ◌>>=◌, ◌>>◌}
@@ -24,9 +24,11 @@ use Rattle.throw_simulation.specs.Raises.{CanBeRaised}
 use Rattle.throw_simulation.specs.Fares.{IsOrderly, GoesOn, ComesOut, Fares, FaresIn, AlwaysFares, CallsFare}
 use Rattle.throw_simulation.proofs.Caught.{front_out}
 use Rattle.throw_simulation.proofs.Standing.{held}
-use Rattle.throw_simulation.proofs.Faring.{goes_same, goes_on, goes_live, orderly_on, orderly_as, orderly_travelling, orderly_handling, fares_on, fares_then, fares_seq, fares_pure, terminate_fares, barrier_fares, not_thrown_behind}
+use Rattle.throw_simulation.proofs.Faring.{goes_same, goes_live, orderly_on, orderly_as, orderly_travelling, orderly_handling, fares_on, fares_then, fares_seq, fares_pure, terminate_fares, barrier_fares, not_thrown_behind}
 use Rattle.throw_simulation.proofs.FaringScopes.{contains_more, goes_resting, thrown_fares, behind_not_thrown, scope_fares}
-use Rattle.throw_simulation.proofs.FaringThrows.{other_number, not_number, taken, goes_without}
+use Rattle.throw_simulation.proofs.FaringThrows.{other_number, not_number, goes_freed, built_apart}
+use Rattle.region_simulation.specs.Lives.{is_built}
+use Rattle.throw_simulation.proofs.Lives.{taken}
 
 -- a destructor, or nothing
 pub destroy_fares : (r : Running) → CallsFare r → (t : ObjectType) (target : Reference) → AlwaysFares r.program (destroy r t target)
@@ -43,11 +45,11 @@ module _ (r : Running) (fare : CallsFare r) (n : ℕ) (c : Context) (w : World) 
       flip : (a b : ℕ) → (b == a) ≡ false → (a == b) ≡ false
       flip a b h = grind (arith, nat_tests, h)
 
-  freed_fares : contains c.travelling e ≡ false → contains c.handled e ≡ false → (x : Result (Unit {0})) → Fares r.program w.last_number c w x → Fares r.program n c w (after_destructor e x)
-  freed_fares rests gone (done u w2) h =
-      goes_on c w w2 (without_exception (record w2 { items = w2.items ++ Free e ∷ [] }) e) h (goes_without c w2 (orderly_on c w w2 order h) e (Free e) rests gone)
-  freed_fares rests gone (stopped (thrown f) w2) h = (
-    goes_on c w w2 (without_exception (record w2 { items = w2.items ++ Free e ∷ [] }) e) h.0 (goes_without c w2 (orderly_on c w w2 order h.0) e (Free e) rests gone),
+  freed_fares : contains c.travelling e ≡ false → contains c.handled e ≡ false → is_built (exception_at w e) ≡ true → (x : Result (Unit {0})) → Fares r.program w.last_number c w x → Fares r.program n c w (after_destructor e x)
+  freed_fares rests gone built (done u w2) h =
+      goes_freed c w w2 e (Free e) rests gone (λ q le u. built_apart w e q built u) h
+  freed_fares rests gone built (stopped (thrown f) w2) h = (
+    goes_freed c w w2 e (Free e) rests gone (λ q le u. built_apart w e q built u) h.0,
     record {
       raised = record { made = h.1.raised.made; rests = h.1.raised.rests; front = h.1.raised.front };
       known = earlier h.1.known;
@@ -58,24 +60,24 @@ module _ (r : Running) (fare : CallsFare r) (n : ℕ) (c : Context) (w : World) 
       earlier : (contains c.handled f ≡ true) ⊎ (w.last_number < f) → (contains c.handled f ≡ true) ⊎ (n < f)
       earlier (inl there) = inl there
       earlier (inr new) = inr (omega (arith, few, new))
-  freed_fares rests gone (stopped (cancelled v) w2) h =
-      goes_on c w w2 (without_exception (record w2 { items = w2.items ++ Free e ∷ [] }) e) h (goes_without c w2 (orderly_on c w w2 order h) e (Free e) rests gone)
-  freed_fares rests gone (stopped undefined w2) h = tt
-  freed_fares rests gone (stopped (ended x) w2) h = tt
-  freed_fares rests gone (stopped out_of_turns w2) h = tt
-  freed_fares rests gone (stopped deep w2) h = tt
+  freed_fares rests gone built (stopped (cancelled v) w2) h =
+      goes_freed c w w2 e (Free e) rests gone (λ q le u. built_apart w e q built u) h
+  freed_fares rests gone built (stopped undefined w2) h = tt
+  freed_fares rests gone built (stopped (ended x) w2) h = tt
+  freed_fares rests gone built (stopped out_of_turns w2) h = tt
+  freed_fares rests gone built (stopped deep w2) h = tt
 
 module _ (r : Running) (fare : CallsFare r) (n : ℕ) where
   give_fares : (c : Context) (w : World) → n ≤ w.last_number → IsOrderly c w → (e : ℕ) → e ≤ w.last_number → contains c.travelling e ≡ false → contains c.handled e ≡ false → (x : Exception)
-      → Fares r.program n c w (give_back r e x c w)
-  give_fares c w few order e made rests gone building = goes_same c w order
-  give_fares c w few order e made rests gone (foreign k t) = goes_without c w order e (Clean k t) rests gone
-  give_fares c w few order e made rests gone (native t o kept) =
+      → exception_at w e ≡ x → Fares r.program n c w (give_back r e x c w)
+  give_fares c w few order e made rests gone building is = goes_same c w order
+  give_fares c w few order e made rests gone (foreign k t) is = goes_freed c w w e (Clean k t) rests gone (λ q le u. built_apart w e q (ap is_built is) u) (goes_same c w order)
+  give_fares c w few order e made rests gone (native t o kept) is =
       let w2 : World = record w { items = w.items ++ Destroy e ∷ [] } in
       let h = goes_live c w w w2 refl refl (goes_same c w order) in
       let order2 = orderly_on c w w2 order h in
       fares_on r.program n c w w2 (after_destructor e (destroy r t (whole o) c w2)) h
-      (freed_fares r fare n c w2 few order2 e made rests gone (destroy r t (whole o) c w2) (destroy_fares r fare t (whole o) c w2.last_number w2 (omega arith) order2))
+      (freed_fares r fare n c w2 few order2 e made rests gone (ap is_built is) (destroy r t (whole o) c w2) (destroy_fares r fare t (whole o) c w2.last_number w2 (omega arith) order2))
 
   pub let_go_fares : (c : Context) (w : World) → n ≤ w.last_number → IsOrderly c w → (e : ℕ) → e ≤ w.last_number → (kept : Bool)
       → (kept ≡ false → (contains c.travelling e ≡ false) × (contains c.handled e ≡ false)) → Fares r.program n c w (let_go r e kept c w)
@@ -90,7 +92,7 @@ module _ (r : Running) (fare : CallsFare r) (n : ℕ) where
           ((if z then pure tt else give_back r e (exception_at w e) c) (record w { items = w.items ++ Leave e ∷ [] }))
       go true gone = goes_same c (record w { items = w.items ++ Leave e ∷ [] }) (orderly_on c w (record w { items = w.items ++ Leave e ∷ [] }) order h)
       go false gone =
-          give_fares c (record w { items = w.items ++ Leave e ∷ [] }) few (orderly_on c w (record w { items = w.items ++ Leave e ∷ [] }) order h) e made (gone refl).0 (gone refl).1 (exception_at w e)
+          give_fares c (record w { items = w.items ++ Leave e ∷ [] }) few (orderly_on c w (record w { items = w.items ++ Leave e ∷ [] }) order h) e made (gone refl).0 (gone refl).1 (exception_at w e) refl
 
   -- behind a barrier, in an exceptional exit
   barred_fares : (A : Type 0) (c : Context) (w w2 : World) (f : ℕ) (x : Result (Unit {0})) → GoesOn c w w2 → ComesOut r.program n c w2 f

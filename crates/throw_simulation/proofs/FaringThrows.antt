@@ -1,6 +1,6 @@
 -- What throws and modules keep.
 use Rattle.std.proofs.Common.{◌≡◌, ℕ, ◌+◌, ◌<◌, ◌≤◌, ◌⊎◌, inl, inr, ℤ, pos, negsuc, Bool, true, false, List, [], ◌∷◌, ◌++◌, Option, Some, None, refl, sym, ap, ◌∙◌, subst, arith}
-use Rattle.std.specs.Prelude.{◌==◌, not, cond, map, filter, slice_get, slice_set, if◌then◌else◌}
+use Rattle.std.specs.Prelude.{◌==◌, not, slice_get, slice_set, if◌then◌else◌}
 use Rattle.std.proofs.lemmas.Bool.Decides.{nat_tests}
 use Rattle.eh_outer.specs.declared.module.Reply.{Reply}
 use Rattle.eh_outer.specs.declared.module.Reply.TheVariants.{Value, Raise}
@@ -8,7 +8,7 @@ use Rattle.run_items.specs.declared.item.Item.{Item}
 use Rattle.run_items.specs.declared.item.Item.TheVariants.{Make, Foreign, Free}
 use Rattle.scope_rules.specs.Class.{ObjectType, contains}
 use Rattle.scope_rules.specs.Part.{part_type}
-use Rattle.scope_rules.specs.World.{World, Live, Exception, building, native, foreign, Installed, object_at, exception_in, exception_at, exception_type, type_at, replaced, with_exception, without_exception}
+use Rattle.scope_rules.specs.World.{World, Live, Exception, building, native, foreign, Installed, object_at, exception_at, exception_type, type_at, with_exception, without_exception}
 use Rattle.scope_rules.specs.Context.{Context}
 use Rattle.scope_rules.specs.Guard.{is_doomed}
 use Rattle.scope_rules.specs.Outcome.{Result, done, stopped, thrown, cancelled, ended, undefined, out_of_turns, deep, Action, continued, ◌>>=◌, ◌>>◌}
@@ -18,15 +18,17 @@ use Rattle.scope_rules.specs.Throw.{is_full, new_exception, after_building, keep
 use Rattle.region_forms.specs.Caught.{only_front}
 use Rattle.region_simulation.specs.Stands.{AreTogether}
 use Rattle.throw_simulation.specs.Raises.{CanBeRaised}
-use Rattle.throw_simulation.specs.Unbuilt.{IsUnbuilt}
+use Rattle.throw_simulation.specs.Unbuilt.{IsUnbuilt, IsNotNative}
 use Rattle.throw_simulation.specs.Fares.{IsOrderly, GoesOn, Fares, FaresIn}
 use Rattle.throw_simulation.proofs.Caught.{front_unhandled, front_newest}
 use Rattle.throw_simulation.proofs.Raises.{native_in}
 use Rattle.throw_simulation.proofs.New.{IsPlain, newly, new_unbuilt, last_or_before, new_number, plain_only}
-use Rattle.throw_simulation.proofs.Giving.{left_before}
 use Rattle.throw_simulation.proofs.Kept.{Replaces, is_new, is_old, replaces}
 use Rattle.throw_simulation.proofs.Faring.{goes_same, goes_on, goes_live, orderly_on, fares_on, terminate_fares, raise_fares}
 use Rattle.throw_simulation.proofs.FaringScopes.{contains_first}
+use Rattle.region_simulation.specs.Lives.{is_built}
+use Rattle.throw_simulation.proofs.Lives.{added, taken, put, live_added, live_taken, live_put}
+use Rattle.throw_simulation.proofs.Freeing.{left_before}
 
 pub not_number : (e f : ℕ) → e < f → (f == e) ≡ false
 not_number e f lt = grind (arith, nat_tests, lt)
@@ -41,50 +43,31 @@ other_number e f es there gone = go (e == f) refl
     go true is = absurd (never (sym there ∙ ap (contains es) (let same : f ≡ e = grind (arith, nat_tests, is) in same) ∙ gone))
     go false is = refl
 
--- what the exception with a number is stays where another is added, taken away or replaced
-added : (xs : List Live) (y : Live) (f : ℕ) → (y.number == f) ≡ false → exception_in (xs ++ y ∷ []) f ≡ exception_in xs f
-added [] y f other = ap (λ b. if b then y.exception else building) other
-added (x ∷ xs) y f other = go (x.number == f) (added xs y f other)
+-- what is built is another than what is being built
+pub built_apart : (w : World) (e f : ℕ) → is_built (exception_at w e) ≡ true → IsUnbuilt f w → (e == f) ≡ false
+built_apart w e f built u = go (e == f) refl
   where
-    go : (b : Bool) → exception_in (xs ++ y ∷ []) f ≡ exception_in xs f
-        → (if b then x.exception else exception_in (xs ++ y ∷ []) f) ≡ (if b then x.exception else exception_in xs f)
-    go true ih = refl
-    go false ih = ih
+    never : true ≡ false → ⊥
+    never e = cc e
 
-pub taken : (xs : List Live) (e f : ℕ) → (e == f) ≡ false → exception_in (filter (λ x. not (x.number == e)) xs) f ≡ exception_in xs f
-taken [] e f other = refl
-taken (x ∷ xs) e f other = go (x.number == e) refl (taken xs e f other)
-  where
-    go : (b : Bool) → (x.number == e) ≡ b → exception_in (filter (λ x. not (x.number == e)) xs) f ≡ exception_in xs f
-        → exception_in (cond (not b) (x ∷ filter (λ x. not (x.number == e)) xs) (filter (λ x. not (x.number == e)) xs)) f ≡ (if x.number == f then x.exception else exception_in xs f)
-    go true is ih =
-        let number : x.number ≡ e = grind (arith, nat_tests, is) in
-        ih ∙ sym (ap (λ b. if b then x.exception else exception_in xs f) (ap (λ n. n == f) number ∙ other))
-    go false is ih = go2 (x.number == f) ih
-      where
-        go2 : (b : Bool) → exception_in (filter (λ x. not (x.number == e)) xs) f ≡ exception_in xs f
-            → (if b then x.exception else exception_in (filter (λ x. not (x.number == e)) xs) f) ≡ (if b then x.exception else exception_in xs f)
-        go2 true ih = refl
-        go2 false ih = ih
+    go : (b : Bool) → (e == f) ≡ b → b ≡ false
+    go true is = absurd (never (sym built ∙ ap (λ n. is_built (exception_at w n)) (let same : e ≡ f = grind (arith, nat_tests, is) in same) ∙ ap is_built u.1))
+    go false is = refl
 
-put : (xs : List Live) (e f : ℕ) (q : Exception) → (e == f) ≡ false → exception_in (map (replaced e q) xs) f ≡ exception_in xs f
-put [] e f q other = refl
-put (x ∷ xs) e f q other = go (x.number == e) refl (put xs e f q other)
-  where
-    same_on : (y : Live) → exception_in (map (replaced e q) xs) f ≡ exception_in xs f
-        → (if y.number == f then y.exception else exception_in (map (replaced e q) xs) f) ≡ (if y.number == f then y.exception else exception_in xs f)
-    same_on y ih = go2 (y.number == f)
-      where
-        go2 : (b : Bool) → (if b then y.exception else exception_in (map (replaced e q) xs) f) ≡ (if b then y.exception else exception_in xs f)
-        go2 true = refl
-        go2 false = ih
-
-    go : (b : Bool) → (x.number == e) ≡ b → exception_in (map (replaced e q) xs) f ≡ exception_in xs f
-        → exception_in ((if b then record { number = e; exception = q } else x) ∷ map (replaced e q) xs) f ≡ (if x.number == f then x.exception else exception_in xs f)
-    go true is ih =
-        let number : x.number ≡ e = grind (arith, nat_tests, is) in
-        ap (λ b. if b then q else exception_in (map (replaced e q) xs) f) other ∙ ih ∙ sym (ap (λ b. if b then x.exception else exception_in xs f) (ap (λ n. n == f) number ∙ other))
-    go false is ih = same_on x ih
+-- an exception that neither travels nor is handled is no longer live, nor is it one of those that were being built before
+pub goes_freed : (c : Context) (w w2 : World) (e : ℕ) (i : Item) → contains c.travelling e ≡ false → contains c.handled e ≡ false
+    → ((f : ℕ) → f ≤ w.last_number → IsUnbuilt f w → (e == f) ≡ false) → GoesOn c w w2 → GoesOn c w (without_exception (record w2 { items = w2.items ++ i ∷ [] }) e)
+goes_freed c w w2 e i rests unhandled apart h = record {
+  later = h.later;
+  live = λ j y there. (let (k, before) = left_before (λ x. not (x.number == e)) w2.live j y there in h.live k y before);
+  kept = λ f is. (taken w2.live e f (other_number e f c.travelling is rests) ∙ h.kept f is);
+  held = λ f is. (taken w2.live e f (other_number e f c.handled is unhandled) ∙ h.held f is);
+  unbuilt = λ f le u. (let v = h.unbuilt f le u in let other = apart f le u in (
+    live_taken w2.live e f other ∙ v.0,
+    taken w2.live e f other ∙ v.1,
+    λ j o t kept there. (let (k, before) = left_before (λ x. not (x.number == e)) w2.live j (record { number = f; exception = native t o kept }) there in v.2 k o t kept before),
+  ));
+}
 
 module _ (c : Context) (w : World) (order : IsOrderly c w) where
   -- a new exception that is not native
@@ -94,8 +77,12 @@ module _ (c : Context) (w : World) (order : IsOrderly c w) where
     live = λ j y there. made j y (last_or_before w.live (record { number = w.last_number + 1; exception = x }) y j there);
     kept = λ e is. added w.live (record { number = w.last_number + 1; exception = x }) e (let le = order.travelling e is in not_number e (w.last_number + 1) (omega (arith, le)));
     held = λ e is. added w.live (record { number = w.last_number + 1; exception = x }) e (let le = order.handled e is in not_number e (w.last_number + 1) (omega (arith, le)));
-    unbuilt = λ e le u j o t kept there. gone e le u o t kept j
-        (last_or_before w.live (record { number = w.last_number + 1; exception = x }) (record { number = e; exception = native t o kept }) j there);
+    unbuilt = λ e le u. (
+      live_added w.live (record { number = w.last_number + 1; exception = x }) e u.0,
+      added w.live (record { number = w.last_number + 1; exception = x }) e (not_number e (w.last_number + 1) (omega (arith, le))) ∙ u.1,
+      λ j o t kept there. gone e le u o t kept j
+          (last_or_before w.live (record { number = w.last_number + 1; exception = x }) (record { number = e; exception = native t o kept }) j there),
+    );
   }
     where
       made : (j : ℕ) (y : Live) → ((slice_get w.live j ≡ Some y) ⊎ (◌≡◌ {A = Live} (record { number = w.last_number + 1; exception = x }) y)) → y.number ≤ w.last_number + 1
@@ -105,19 +92,8 @@ module _ (c : Context) (w : World) (order : IsOrderly c w) where
       gone : (e : ℕ) → e ≤ w.last_number → IsUnbuilt e w → (o : ℕ) (t : ObjectType) (kept : Installed) (j : ℕ)
           → ((slice_get w.live j ≡ Some (record { number = e; exception = native t o kept })) ⊎
           (◌≡◌ {A = Live} (record { number = w.last_number + 1; exception = x }) (record { number = e; exception = native t o kept }))) → ⊥
-      gone e le u o t kept j (inl there) = u j o t kept there
+      gone e le u o t kept j (inl there) = u.2 j o t kept there
       gone e le u o t kept j (inr same) = plain_only (w.last_number + 1) e o x t kept plain same
-
-  -- an exception that neither travels nor is handled is no longer live
-  pub goes_without : (e : ℕ) (i : Item) → contains c.travelling e ≡ false → contains c.handled e ≡ false → GoesOn c w (without_exception (record w { items = w.items ++ i ∷ [] }) e)
-  goes_without e i rests unhandled = record {
-    later = omega arith;
-    live = λ j y there. (let (k, before) = left_before (λ x. not (x.number == e)) w.live j y there in order.live k y before);
-    kept = λ f is. taken w.live e f (other_number e f c.travelling is rests);
-    held = λ f is. taken w.live e f (other_number e f c.handled is unhandled);
-    unbuilt = λ f le u j o t kept there.
-        (let (k, before) = left_before (λ x. not (x.number == e)) w.live j (record { number = f; exception = native t o kept }) there in u k o t kept before);
-  }
 
   -- a new exception can be raised
   pub new_raised : (w2 : World) → GoesOn c w w2 → w.last_number + 1 ≤ w2.last_number → CanBeRaised c w2 (w.last_number + 1)
@@ -134,7 +110,11 @@ goes_kept c w w2 e q new order h = record {
   live = λ i y there. made i y (replaces e q w2.live i y there);
   kept = λ f is. (put w2.live e f q (let le = order.travelling f is in not_number f e (omega (arith, le, new))) ∙ h.kept f is);
   held = λ f is. (put w2.live e f q (let le = order.handled f is in not_number f e (omega (arith, le, new))) ∙ h.held f is);
-  unbuilt = λ f le u i o t kept there. gone f le u o t kept i (replaces e q w2.live i (record { number = f; exception = native t o kept }) there);
+  unbuilt = λ f le u. (let v = h.unbuilt f le u in (
+    live_put w2.live e f q ∙ v.0,
+    put w2.live e f q (not_number f e (omega (arith, le, new))) ∙ v.1,
+    λ i o t kept there. gone f le u o t kept i (replaces e q w2.live i (record { number = f; exception = native t o kept }) there),
+  ));
 }
   where
     made : (i : ℕ) (y : Live) → Replaces e q w2.live i y → y.number ≤ w2.last_number
@@ -144,10 +124,10 @@ goes_kept c w w2 e q new order h = record {
     gone : (f : ℕ) → f ≤ w.last_number → IsUnbuilt f w → (o : ℕ) (t : ObjectType) (kept : Installed) (i : ℕ)
         → Replaces e q w2.live i (record { number = f; exception = native t o kept }) → ⊥
     gone f le u o t kept i (is_new z there number same) = (let n : f ≡ e = ap {A = Live} (λ x. x.number) same in omega (arith, le, n, new))
-    gone f le u o t kept i (is_old there) = h.unbuilt f le u i o t kept there
+    gone f le u o t kept i (is_old there) = (h.unbuilt f le u).2 i o t kept there
 
--- an exception that is not built has no type
-unbuilt_type : (w : World) (e : ℕ) → IsUnbuilt e w → type_at w e ≡ None
+-- an exception that is not native has no type
+unbuilt_type : (w : World) (e : ℕ) → IsNotNative e w → type_at w e ≡ None
 unbuilt_type w e u = go (exception_at w e) refl
   where
     go : (x : Exception) → exception_at w e ≡ x → exception_type x ≡ None
@@ -158,14 +138,14 @@ unbuilt_type w e u = go (exception_at w e) refl
 pub removed_type : (w : World) (e f : ℕ) (i : Item) → IsUnbuilt e w → type_at (without_exception (record w { items = w.items ++ i ∷ [] }) e) f ≡ type_at w f
 removed_type w e f i u = go (e == f) refl
   where
-    gone : IsUnbuilt e (without_exception (record w { items = w.items ++ i ∷ [] }) e)
-    gone j o t kept there = let (k, before) = left_before (λ x. not (x.number == e)) w.live j (record { number = e; exception = native t o kept }) there in u k o t kept before
+    gone : IsNotNative e (without_exception (record w { items = w.items ++ i ∷ [] }) e)
+    gone j o t kept there = let (k, before) = left_before (λ x. not (x.number == e)) w.live j (record { number = e; exception = native t o kept }) there in u.2 k o t kept before
 
     go : (b : Bool) → (e == f) ≡ b → type_at (without_exception (record w { items = w.items ++ i ∷ [] }) e) f ≡ type_at w f
     go true is =
         let same : f ≡ e = grind (arith, nat_tests, is) in
         ap (type_at (without_exception (record w { items = w.items ++ i ∷ [] }) e)) same ∙ unbuilt_type (without_exception (record w { items = w.items ++ i ∷ [] }) e) e gone ∙
-        sym (unbuilt_type w e u) ∙ ap (type_at w) (sym same)
+        sym (unbuilt_type w e u.2) ∙ ap (type_at w) (sym same)
     go false is = ap exception_type (taken w.live e f is)
 
 module _ (r : Running) (n : ℕ) (c : Context) (w : World) (few : n ≤ w.last_number) (order : IsOrderly c w) where
@@ -177,6 +157,10 @@ module _ (r : Running) (n : ℕ) (c : Context) (w : World) (few : n ≤ w.last_n
 
   unhandled : contains c.handled e ≡ false
   unhandled = new_number w.last_number c.handled order.handled
+
+  -- it is another than those that were being built before
+  apart : (f : ℕ) → f ≤ w.last_number → IsUnbuilt f w → (e == f) ≡ false
+  apart f le u = let other = not_number f e (omega (arith, le)) in other
 
   -- an exception that was made is raised
   raised_fares : (A : Type 0) (w2 : World) → GoesOn c w w2 → e ≤ w2.last_number → Fares {A = A} r.program n c w (raise_exception r e c w2)
@@ -194,10 +178,9 @@ module _ (r : Running) (n : ℕ) (c : Context) (w : World) (few : n ≤ w.last_n
       (goes_kept c w w2 e (native (part_type (object_at w2 o)) o w2.installed) (omega arith) order all) (omega (arith, later, made))
   built_fares A w1 (stopped (thrown f) w2) h made u g =
       let all = goes_on c w w1 w2 h g.0 in
-      let order2 = orderly_on c w w2 order all in
       let w3 = without_exception (record w2 { items = w2.items ++ Free e ∷ [] }) e in
       let unbuilt = g.0.unbuilt e (omega (arith, made)) u in (
-        goes_on c w w2 w3 all (goes_without c w2 order2 e (Free e) rests unhandled),
+        goes_freed c w w2 e (Free e) rests unhandled apart all,
         record {
           raised = record { made = g.1.raised.made; rests = g.1.raised.rests; front = g.1.raised.front };
           known = g.1.known;
@@ -206,7 +189,7 @@ module _ (r : Running) (n : ℕ) (c : Context) (w : World) (few : n ≤ w.last_n
       )
   built_fares A w1 (stopped (cancelled v) w2) h made u g =
       let all = goes_on c w w1 w2 h g in
-      goes_on c w w2 (without_exception (record w2 { items = w2.items ++ Free e ∷ [] }) e) all (goes_without c w2 (orderly_on c w w2 order all) e (Free e) rests unhandled)
+      goes_freed c w w2 e (Free e) rests unhandled apart all
   built_fares A w1 (stopped undefined w2) h made u g = tt
   built_fares A w1 (stopped (ended f) w2) h made u g = tt
   built_fares A w1 (stopped out_of_turns w2) h made u g = tt
@@ -220,7 +203,7 @@ module _ (r : Running) (n : ℕ) (c : Context) (w : World) (few : n ≤ w.last_n
       made = newly building (Make e) w
 
       unbuilt : IsUnbuilt e (newly building (Make e) w)
-      unbuilt i o t kept there = new_unbuilt w w.last_number building tt order.live i o t kept there
+      unbuilt = new_unbuilt w (Make e) order.live
 
       go : (z : Bool) → Fares {A = A} r.program n c w
           ((if z then terminate r c else (new_exception building Make >>= (λ e. (λ w. after_building e (build w)) >>= (λ o. keep e o >> raise_exception r e c)))) w)

@@ -3,7 +3,7 @@ use Rattle.std.proofs.Common.{◌≡◌, ℕ, ◌+◌, ◌<◌, ℤ, Bool, true,
 use Rattle.std.specs.Prelude.{◌==◌, if◌then◌else◌}
 use Rattle.cxx_ast.specs.declared.name.Name.{Name}
 use Rattle.cxx_ast.specs.declared.types.Ty.{Ty}
-use Rattle.scope_rules.specs.Class.{object_type}
+use Rattle.scope_rules.specs.Class.{object_type, contains}
 use Rattle.scope_rules.specs.World.{World as SourceWorld, Reference, whole, nowhere, exception_at as source_exception_at}
 use Rattle.scope_rules.specs.Context.{Context as SourceContext, handling, with_travelling}
 use Rattle.scope_rules.specs.Frame.{Frame as SourceFrame, with_parameter, bound_as}
@@ -33,6 +33,7 @@ use Rattle.throw_simulation.specs.Handlers.{CanBeEntered, EmptyDestructor}
 use Rattle.throw_simulation.proofs.Standing.{stands_framed}
 use Rattle.throw_simulation.proofs.Parameters.{IsNoObject, Passed, parameter_then, body_alike}
 use Rattle.throw_simulation.proofs.Catching.{CaughtAs, IsReference, caught_reference, variable_newly, scope_parameter, follows_framed, slot_keeps, bound_there}
+use Rattle.throw_simulation.specs.Left.{CanBeLeft}
 
 module _ (laws : CaughtListFollows) (l : Lowering) (own : Option ℕ) (gives : Bool) (n i d : ℕ) (lt : i < d) (call : Callee → Reference → List SourceArgument → SourceContext → SourceAction ℤ) (b : Running)
     (same : RunAlike l.layout (source_running l call) b) (fare : CallsFare (source_running l call)) (empty : EmptyDestructor l.layout (source_running l call) b)
@@ -53,10 +54,10 @@ module _ (laws : CaughtListFollows) (l : Lowering) (own : Option ℕ) (gives : B
   last = op (enter (exception_slot l)) ∷ protect (in_order rs) leave_handler ∷ []
 
   -- a handler for all exceptions
-  pub all_handled : DoesAlike l own gives b v (handling e c) n i (d + 2) (body v (handling e c)) rs
-      → Alike l.layout l.program at k c w s (FlowAgrees l gives i d) (handle a e None None body v c w) (regions b (regions_from last) ctx s)
-  all_handled does =
-      parameter_then laws l own gives n i d lt call b same fare empty v c e fresh None None body at w s [] rs (exception_object (source_exception_at w e)) refl tt (
+  pub all_handled : (w0 : SourceWorld) → CanBeLeft (contains c.handled e) e at w0 w → DoesAlike l own gives b v (handling e c) n i (d + 2) (body v (handling e c)) rs
+      → Alike l.layout l.program at k c w0 s (FlowAgrees l gives i d) (handle a e None None body v c w) (regions b (regions_from last) ctx s)
+  all_handled w0 can does =
+      parameter_then laws l own gives n i d lt call b same fare empty v c e fresh None None body at w0 w s can [] rs (exception_object (source_exception_at w e)) refl tt (
         normal,
         s,
         refl,
@@ -66,7 +67,7 @@ module _ (laws : CaughtListFollows) (l : Lowering) (own : Option ℕ) (gives : B
         ),
       )
 
-  module _ (x : Option Name) (numbered : HasNumber x n) (there : n < length l.variables)
+  module _ (w0 : SourceWorld) (can : CanBeLeft (contains c.handled e) e at w0 w) (x : Option Name) (numbered : HasNumber x n) (there : n < length l.variables)
       (does : (r : Reference) → DoesAlike l own gives b (with_parameter x r v) (handling e c) (n + 1) i (d + 2) (body (with_parameter x r v) (handling e c)) rs) where
     abbrev s1 : State
     s1 = record s { frame = with_slot k (address_word (object_address e)) s.frame }
@@ -77,7 +78,7 @@ module _ (laws : CaughtListFollows) (l : Lowering) (own : Option ℕ) (gives : B
     pub reference_handled : (t : Ty) → IsReference t → IsNoObject (Some t) → variable_type l n ≡ t → (y : CaughtAs l.program w e (object_type t))
         → IsReachedBy t k s1.frame (object_address e)
         → ((q : Reference) (f : SourceContext) → catch_parameter a (Some t) q f w ≡ source_done (bound_as w t q) w)
-        → Alike l.layout l.program at k c w s (FlowAgrees l gives i d) (handle a e (Some t) x body v c w)
+        → Alike l.layout l.program at k c w0 s (FlowAgrees l gives i d) (handle a e (Some t) x body v c w)
         (regions b (regions_from (op (bind k (thrown_place l)) ∷ last)) ctx s)
     reference_handled t is_reference plain typed y reached catches =
         let r = bound_as w t (whole y.object) in
@@ -87,7 +88,7 @@ module _ (laws : CaughtListFollows) (l : Lowering) (own : Option ℕ) (gives : B
         let inside1 = scope_parameter l own v n at w s (with_travelling e c) (with_travelling e c) w s1 stands h inside x numbered r there newly
         (λ o m z is base. (let less = inside.free o m z is base in omega (arith, less))) in
         let slot1 : s1.frame.slots (exception_slot l) ≡ address_word (object_address e) = bound_slot k (exception_slot l) in
-        parameter_then laws l own gives n i d lt call b same fare empty v c e fresh (Some t) x body at w s (op (bind k (thrown_place l)) ∷ []) rs (whole y.object)
+        parameter_then laws l own gives n i d lt call b same fare empty v c e fresh (Some t) x body at w0 w s can (op (bind k (thrown_place l)) ∷ []) rs (whole y.object)
         (sym (ap exception_object y.is))
         (subst StaysInside (sym (catches (whole y.object) (with_travelling e c))) tt)
         (subst (λ z. Alike l.layout l.program at k (with_travelling e c) w s

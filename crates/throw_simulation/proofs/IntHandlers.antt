@@ -3,7 +3,7 @@ use Rattle.std.proofs.Common.{◌≡◌, ℕ, ◌+◌, ◌<◌, ℤ, Bool, true,
 use Rattle.std.specs.Prelude.{◌==◌, if◌then◌else◌}
 use Rattle.cxx_ast.specs.declared.name.Name.{Name}
 use Rattle.cxx_ast.specs.declared.types.Ty.TheVariants.{Int}
-use Rattle.scope_rules.specs.Class.{int_type}
+use Rattle.scope_rules.specs.Class.{int_type, contains}
 use Rattle.scope_rules.specs.Part.{Part, cell, object, part_at}
 use Rattle.scope_rules.specs.World.{World as SourceWorld, Reference, whole, object_at}
 use Rattle.scope_rules.specs.Context.{Context as SourceContext, handling, with_travelling}
@@ -41,6 +41,7 @@ use Rattle.throw_simulation.specs.Handlers.{CanBeEntered, EmptyDestructor}
 use Rattle.throw_simulation.proofs.Parameters.{Passed, parameter_then, body_alike}
 use Rattle.throw_simulation.proofs.Catching.{CaughtAs, caught_int, variable_newly, scope_parameter}
 use Rattle.throw_simulation.proofs.Handlers.{last}
+use Rattle.throw_simulation.specs.Left.{CanBeLeft}
 
 int_of : (m n : ℤ) → cell (Some m) ≡ cell (Some n) → Some m ≡ Some n
 int_of m n e = cc e
@@ -137,9 +138,10 @@ module _ (laws : CaughtListFollows) (l : Lowering) (own : Option ℕ) (gives : B
         ),
       )
 
-  pub int_handled : Alike l.layout l.program at k c w s (FlowAgrees l gives i d) (handle a e (Some Int) x body v c w)
+  pub int_handled : (w0 : SourceWorld) → CanBeLeft (contains c.handled e) e at w0 w
+      → Alike l.layout l.program at k c w0 s (FlowAgrees l gives i d) (handle a e (Some Int) x body v c w)
       (regions b (regions_from (op (store (slot_place k) (load (thrown_place l))) ∷
       last laws l own gives n i d lt call b same fare empty v c e fresh body rs at w s stands inside slot)) ctx s)
-  int_handled =
+  int_handled w0 can =
       let h = parameter_read (object_at w y.object) refl in
-      parameter_then laws l own gives n i d lt call b same fare empty v c e fresh (Some Int) x body at w s P rs (whole y.object) (sym (ap exception_object y.is)) h.0 h.1
+      parameter_then laws l own gives n i d lt call b same fare empty v c e fresh (Some Int) x body at w0 w s can P rs (whole y.object) (sym (ap exception_object y.is)) h.0 h.1

@@ -17,6 +17,8 @@ use Rattle.region_simulation.specs.Places.{Places}
 use Rattle.region_simulation.specs.Stands.{exception_of, live_of, world_of, AreHandlers, IsOfProgram, IsKept, Stands}
 use Rattle.region_simulation.proofs.Paths.{some_same}
 use Rattle.throw_simulation.proofs.Standing.{sound_later, stands_with}
+use Rattle.region_simulation.specs.Lives.{CanBeThrown}
+use Rattle.throw_simulation.proofs.Lives.{live_put, thrown_put, thrown_kept}
 
 -- the type of a part is that of its shape
 pub shaped_type : (p : Checked) (t : ObjectType) (a : Part) → Shaped p t a → part_type a ≡ t
@@ -63,6 +65,12 @@ module _ (l : Layout) (p : Checked) (at : Places) (c : SourceContext) (w : Sourc
   type_is : part_type (object_at w o) ≡ t
   type_is = shaped_type p t (object_at w o) (stands.memory.shaped o (record { base = of_exception e; type = t }) placed)
 
+  -- and can be thrown
+  pub kept_thrown : CanBeThrown after_keeping.live e
+  kept_thrown =
+      let made = stands.made o (record { base = of_exception e; type = t }) placed in
+      thrown_kept w.live e (source_native (part_type (object_at w o)) o w.installed) refl made.1
+
   pub kept_on : IsOfProgram p t → Stands l p at c after_keeping (record s { world = kept e (type_number t) (destructor_of p t) s.world })
   kept_on known =
       let x = source_native (part_type (object_at w o)) o w.installed in
@@ -72,9 +80,10 @@ module _ (l : Layout) (p : Checked) (at : Places) (c : SourceContext) (w : Sourc
       ap {B = World} (λ u. record world { live = map (replaced e (native (type_number u) (destructor_of p u) w.installed)) (map (live_of p) w.live) }) (sym type_is) ∙
       ap {A = List Live} {B = World} (λ xs. record world { live = xs }) (replaced_live p e x w.live))
       refl refl (omega arith)
-      (sound_later c w.last_number w.last_number w.live after_keeping.live (omega arith) (λ i z there. made i z (replaces e x w.live i z there)) stands.sound)
+      (sound_later c w.last_number w.last_number w.live after_keeping.live (omega arith) (λ i z there. made i z (replaces e x w.live i z there)) (λ f in_reach can. thrown_put w.live e f x refl can) stands.sound)
       stands.handlers
       (λ i f q u handlers there. natives f q u handlers i (replaces e x w.live i (record { number = f; exception = source_native u q handlers }) there))
+      (λ f h. (live_put w.live e f x ∙ h))
       stands
     where
       made : (i : ℕ) (z : SourceLive) → Replaces e (source_native (part_type (object_at w o)) o w.installed) w.live i z → z.number ≤ w.last_number

@@ -1,6 +1,6 @@
 -- Handlers are left alike.
 use Rattle.std.proofs.lemmas.Bool.Decides.{nat_tests}
-use Rattle.std.proofs.Common.{◌≡◌, ℕ, ◌+◌, ◌<◌, ◌⊎◌, inl, inr, Bool, true, false, [], ◌∷◌, ◌++◌, refl, sym, ap, ◌∙◌, subst, arith}
+use Rattle.std.proofs.Common.{◌≡◌, ℕ, ◌+◌, ◌<◌, ◌⊎◌, inl, inr, Bool, true, false, [], ◌∷◌, ◌++◌, refl, sym, ap, ◌∙◌, subst, arith, length, Some}
 use Rattle.std.specs.Prelude.{◌==◌, ◌||◌, not, if◌then◌else◌}
 use Rattle.run_items.specs.declared.item.Item.TheVariants.{Leave}
 use Rattle.scope_rules.specs.Class.{contains}
@@ -13,17 +13,17 @@ use Rattle.region_forms.specs.Caught.{left_of, gives_back, caught_of, only_front
 use Rattle.region_forms.specs.Laws.{CaughtListFollows}
 use Rattle.region_forms.specs.Layout.{Layout}
 use Rattle.region_forms.specs.LowerExpression.{result_slot}
-use Rattle.region_forms.specs.World.{World, exception_at}
+use Rattle.region_forms.specs.World.{World, exception_at, of_exception}
 use Rattle.region_forms.specs.Effect.{left, newest_of}
 use Rattle.region_forms.specs.Outcome.{State, Context, Result, pure}
 use Rattle.region_forms.specs.Ending.{Running, after_scope, give_back, leave_newest}
 use Rattle.region_forms.specs.Meaning.{outwards}
 use Rattle.linear_simulation.specs.Watched.{kept_on, not_its_own, watched_leave, watched as region}
-use Rattle.region_simulation.specs.Places.{Places}
+use Rattle.region_simulation.specs.Places.{Places, Stood}
 use Rattle.region_simulation.specs.Stands.{world_of, Stands, context_of}
-use Rattle.region_simulation.specs.Alike.{Alike}
+use Rattle.region_simulation.specs.Alike.{Follows, Alike}
 use Rattle.region_simulation.specs.Flows.{FlowAgrees}
-use Rattle.region_simulation.proofs.Following.{Agreement, follows_now, alike_on}
+use Rattle.region_simulation.proofs.Following.{Agreement, follows_now}
 use Rattle.region_simulation.proofs.Flowing.{alike_after, outwards_agrees}
 use Rattle.throw_simulation.specs.Fares.{CallsFare, Fares}
 use Rattle.throw_simulation.proofs.Faring.{faring_calls_are_barred, orderly_as, orderly_sound}
@@ -40,10 +40,13 @@ use Rattle.throw_simulation.proofs.Standing.{sound_left, all_old, stands_on, sta
 use Rattle.throw_simulation.proofs.Raises.{exception_same}
 use Rattle.throw_simulation.proofs.Giving.{gives_back_alike, giving_barred}
 use Rattle.throw_simulation.proofs.Scopes.{IsSteady, flows_steady, thrown_out, cancelled_out, done_out}
+use Rattle.throw_simulation.specs.Left.{CanBeLeft}
+use Rattle.throw_simulation.proofs.Since.{follows_older, alike_older, alike_since}
 
 module _ (l : Layout) (a : SourceRunning) (b : Running) (same : RunAlike l a b) (empty : EmptyDestructor l a b) (laws : CaughtListFollows) where
   -- the newest handler is left, and its exception is given back or kept
-  module _ (at : Places) (m : ℕ) (c : SourceContext) (w : SourceWorld) (s : State) (e : ℕ) (stands : Stands l a.program at (handling e c) w s) where
+  module _ (at : Places) (m : ℕ) (c : SourceContext) (w0 w : SourceWorld) (s : State) (e : ℕ) (stands : Stands l a.program at (handling e c) w s)
+      (can : CanBeLeft (contains c.handled e) e at w0 w) where
     abbrev ctx : Context
     ctx = context_of w.open_calls c
 
@@ -65,27 +68,17 @@ module _ (l : Layout) (a : SourceRunning) (b : Running) (same : RunAlike l a b) 
         ap {B = World} (λ xs. record world { caught = xs }) (laws.left e c.travelling c.handled))
         refl refl (omega arith) (sound_left e c stands.sound) stands.handlers (all_old w.live) stands
 
-    given : Alike l a.program at m c after_leaving state_after Any (source_give_back a e (source_exception_at w e) c after_leaving)
-        (give_back b (newest_of s.world.caught) (exception_at s.world (newest_of s.world.caught)) ctx state_after)
-    given =
-        subst (λ n. Alike l a.program at m c after_leaving state_after Any (source_give_back a e (source_exception_at w e) c after_leaving) (give_back b n (exception_at s.world n) ctx state_after)) (sym newest)
-        (subst (λ x. Alike l a.program at m c after_leaving state_after Any (source_give_back a e (source_exception_at w e) c after_leaving) (give_back b e x ctx state_after))
-        (sym (exception_same l a.program at (handling e c) w s stands e))
-        (gives_back_alike l a b same empty at m c after_leaving state_after left_stands e (source_exception_at w e) refl))
+    left_can : CanBeLeft (contains c.handled e) e at w0 after_leaving
+    left_can = record { objects = can.objects; open_calls = can.open_calls; new = can.new }
 
-    let_go_alike : (kept : Bool) → gives_back (caught_of c.travelling (e ∷ c.handled)) ≡ not kept
-        → Alike l a.program at m c w s Any (let_go a e kept c w) (leave_newest b ctx s)
-    let_go_alike kept is =
-        alike_on l a.program Any at m c c w s after_leaving state_after (follows_changed l a.program at m c w after_leaving s (left s.world) refl refl refl left_stands)
-        (let_go a e kept c w) (leave_newest b ctx s)
-        (subst (λ z. Alike l a.program at m c after_leaving state_after Any (let_go a e kept c w)
-        ((if z then give_back b (newest_of s.world.caught) (exception_at s.world (newest_of s.world.caught)) ctx else pure tt) state_after))
-        (sym (ap (λ y. gives_back y.caught) stands.world ∙ is)) (go kept))
-      where
-        go : (z : Bool) → Alike l a.program at m c after_leaving state_after Any ((if z then source_pure tt else source_give_back a e (source_exception_at w e) c) after_leaving)
-            ((if not z then give_back b (newest_of s.world.caught) (exception_at s.world (newest_of s.world.caught)) ctx else pure tt) state_after)
-        go true = (tt, state_after, refl, (follows_now l a.program at m c after_leaving state_after left_stands, tt))
-        go false = given
+    given : contains c.travelling e ≡ false → contains c.handled e ≡ false → IsOther e (let_go a e false c w)
+        → Alike l a.program at m c w0 state_after Any (source_give_back a e (source_exception_at w e) c after_leaving)
+        (give_back b (newest_of s.world.caught) (exception_at s.world (newest_of s.world.caught)) ctx state_after)
+    given rests unhandled other =
+        subst (λ n. Alike l a.program at m c w0 state_after Any (source_give_back a e (source_exception_at w e) c after_leaving) (give_back b n (exception_at s.world n) ctx state_after)) (sym newest)
+        (subst (λ x. Alike l a.program at m c w0 state_after Any (source_give_back a e (source_exception_at w e) c after_leaving) (give_back b e x ctx state_after))
+        (sym (exception_same l a.program at (handling e c) w s stands e))
+        (gives_back_alike l a b same empty at m c w0 after_leaving state_after left_stands e rests unhandled left_can (source_exception_at w e) refl other))
 
     -- an exception that is not kept neither travels nor is handled
     gone : (kept : Bool) → gives_back (caught_of c.travelling (e ∷ c.handled)) ≡ not kept → kept ≡ false → (contains c.travelling e ≡ false) × (contains c.handled e ≡ false)
@@ -105,6 +98,23 @@ module _ (l : Layout) (a : SourceRunning) (b : Running) (same : RunAlike l a b) 
         go true there = absurd (never (given_back ∙ laws.kept e c.travelling c.handled there))
         go false rests = (rests, unhandled (contains c.handled e) (given_back ∙ laws.given_back e c.travelling c.handled rests stands.sound.together.0))
 
+    let_go_alike : (kept : Bool) → gives_back (caught_of c.travelling (e ∷ c.handled)) ≡ not kept → IsOther e (let_go a e kept c w)
+        → Alike l a.program at m c w0 s Any (let_go a e kept c w) (leave_newest b ctx s)
+    let_go_alike kept is other =
+        alike_since l a.program Any at m c c w0 s after_leaving state_after
+        (follows_older l a.program at m w0 w s c after_leaving state_after can.objects can.open_calls (follows_changed l a.program at m c w after_leaving s (left s.world) refl refl refl left_stands))
+        (let_go a e kept c w) (leave_newest b ctx s)
+        (subst (λ z. Alike l a.program at m c w0 state_after Any (let_go a e kept c w)
+        ((if z then give_back b (newest_of s.world.caught) (exception_at s.world (newest_of s.world.caught)) ctx else pure tt) state_after))
+        (sym (ap (λ y. gives_back y.caught) stands.world ∙ is)) (go kept other (gone kept is)))
+      where
+        go : (z : Bool) → IsOther e (let_go a e z c w) → (z ≡ false → (contains c.travelling e ≡ false) × (contains c.handled e ≡ false))
+            → Alike l a.program at m c w0 state_after Any ((if z then source_pure tt else source_give_back a e (source_exception_at w e) c) after_leaving)
+            ((if not z then give_back b (newest_of s.world.caught) (exception_at s.world (newest_of s.world.caught)) ctx else pure tt) state_after)
+        go true other none =
+            (tt, state_after, refl, (follows_older l a.program at m w0 after_leaving state_after c after_leaving state_after can.objects can.open_calls (follows_now l a.program at m c after_leaving state_after left_stands), tt))
+        go false other none = given (none refl).0 (none refl).1 other
+
     other_out : contains c.handled e ≡ false → (x : SourceResult (Unit {0})) → Fares a.program w.last_number c w x → IsOther e x
     other_out unhandled (source_done u w2) h = tt
     other_out unhandled (source_stopped (thrown f) w2) h = go h.1.known
@@ -123,10 +133,11 @@ module _ (l : Layout) (a : SourceRunning) (b : Running) (same : RunAlike l a b) 
 
     -- so the exception does not come out of its own destructor
     lets_go : CallsFare a → (kept : Bool) → gives_back (caught_of c.travelling (e ∷ c.handled)) ≡ not kept
-        → Alike l a.program at m c w s Any (let_go a e kept c w) (watched_leave b ctx s)
+        → Alike l a.program at m c w0 s Any (let_go a e kept c w) (watched_leave b (context_of w0.open_calls c) s)
     lets_go fare kept is =
-        subst (λ n. Alike l a.program at m c w s Any (let_go a e kept c w) (not_its_own n (leave_newest b ctx s))) (sym newest)
-        (own_alike l a.program at w s Any m c e (let_go a e kept c w) (leave_newest b ctx s) (let_go_alike kept is) (other kept (gone kept is)))
+        subst (λ q. Alike l a.program at m c w0 s Any (let_go a e kept c w) (watched_leave b (context_of q c) s)) can.open_calls
+        (subst (λ n. Alike l a.program at m c w0 s Any (let_go a e kept c w) (not_its_own n (leave_newest b ctx s))) (sym newest)
+        (own_alike l a.program at w0 s Any m c e (let_go a e kept c w) (leave_newest b ctx s) (let_go_alike kept is (other kept (gone kept is))) (other kept (gone kept is))))
       where
         other : (z : Bool) → (z ≡ false → (contains c.travelling e ≡ false) × (contains c.handled e ≡ false)) → IsOther e (let_go a e z c w)
         other true none = tt
@@ -143,9 +154,14 @@ module _ (l : Layout) (a : SourceRunning) (b : Running) (same : RunAlike l a b) 
 
   -- however what is done in a handler comes out
   module _ (fare : CallsFare a) {A B : Type 0} (agree : Agreement A B) (n : ℕ) (steady : IsSteady agree n) (at : Places) (k : ℕ) (c : SourceContext) (w : SourceWorld) (s : State) (e : ℕ)
-      (sound : Stands l a.program at (handling e c) w s) (rests : contains c.travelling e ≡ false) where
-    front : only_front e c.handled ≡ true
-    front = sound.sound.together.0
+      (front : only_front e c.handled ≡ true) (rests : contains c.travelling e ≡ false)
+      (new : contains c.handled e ≡ false → (o : ℕ) (x : Stood) → o < length w.objects → at o ≡ Some x → x.base ≡ of_exception e → ⊥) where
+    can_be_left : (d : SourceContext) (w2 : SourceWorld) (s2 : State) (g : Follows l a.program at k w s d w2 s2) → CanBeLeft (contains c.handled e) e g.places w w2
+    can_be_left d w2 s2 g = record {
+      objects = g.objects;
+      open_calls = g.open_calls;
+      new = λ none o x lt is base. new none o x lt (sym (g.stay o lt) ∙ is) base;
+    }
 
     last : gives_back (caught_of c.travelling (e ∷ c.handled)) ≡ not (contains c.handled e)
     last = laws.given_back e c.travelling c.handled rests front
@@ -165,21 +181,23 @@ module _ (l : Layout) (a : SourceRunning) (b : Running) (same : RunAlike l a b) 
         → Alike l a.program at k c w s agree (after_handler a e c x) (after_scope b (context_of w.open_calls c) cleanup y)
     handler_ends (source_done u w2) y h =
         done_out l a b same agree at k c w s (let_go a e (contains c.handled e)) cleanup n steady (handling e c) u w2 y h
-        (λ s2 g. lets_go g.places (k + n) c w2 s2 e g.stands fare (contains c.handled e) last)
+        (λ s2 g. lets_go g.places (k + n) c w w2 s2 e g.stands (can_be_left (handling e c) w2 s2 g) fare (contains c.handled e) last)
     handler_ends (source_stopped (thrown f) w2) y h =
         let kept = f == e || contains c.handled e in
         thrown_out l a b same agree at k c w s (let_go a e kept) cleanup (handling e c) f w2 y h
         (λ s2 g.
         let d = with_travelling f c in
         let standing = stands_guarded l a.program g.places barrier (with_travelling f (handling e c)) w2 s2 g.stands in
-        (leaving_barred (faring_calls_are_barred a fare) g.places d w2 s2 e kept g.stands, lets_go g.places k (guarded_by barrier d) w2 s2 e standing fare kept (kept_or_last f)))
+        let can = can_be_left (with_travelling f (handling e c)) w2 s2 g in
+        (leaving_barred (faring_calls_are_barred a fare) g.places d w2 s2 e kept g.stands, lets_go g.places k (guarded_by barrier d) w w2 s2 e standing can fare kept (kept_or_last f)))
         (after_scope b (context_of w.open_calls c) cleanup) (λ t. refl)
     handler_ends (source_stopped (cancelled x) w2) y h =
         let kept = contains c.handled e in
         cancelled_out l a b same agree at k c w s (let_go a e kept) cleanup (handling e c) x w2 y h
         (λ s2 g.
         let standing = stands_guarded l a.program g.places barrier (handling e c) w2 s2 g.stands in
-        (leaving_barred (faring_calls_are_barred a fare) g.places c w2 s2 e kept g.stands, lets_go g.places k (guarded_by barrier c) w2 s2 e standing fare kept last))
+        let can = can_be_left (handling e c) w2 s2 g in
+        (leaving_barred (faring_calls_are_barred a fare) g.places c w2 s2 e kept g.stands, lets_go g.places k (guarded_by barrier c) w w2 s2 e standing can fare kept last))
         (after_scope b (context_of w.open_calls c) cleanup) (λ t. refl)
     handler_ends (source_stopped undefined w2) y h = tt
     handler_ends (source_stopped (ended x) w2) y (s2, is, h) = (s2, ap (after_scope b (context_of w.open_calls c) cleanup) is, h)
@@ -208,10 +226,13 @@ module _ (l : Layout) (a : SourceRunning) (b : Running) (same : RunAlike l a b) 
         (scope_keeps a c (let_go a e (goes_on e c x)) x (leaving_fares x y h))
 
 pub handlers_end_alike : CaughtListFollows → HandlersEndAlike
-handlers_end_alike laws l gives i d lt a b same fare empty at k c w s e stands rests act body h =
+handlers_end_alike laws l gives i d lt a b same fare empty at k c w0 w s e stands rests can act body h =
     let ctx = context_of w.open_calls c in
     let agree = FlowAgrees l gives i (d + 1) in
+    let x = act (handling e c) w in
     let y = region b body ctx s in
-    alike_after l.layout a.program agree (FlowAgrees l gives i d) at k c w s (after_handler a e c (act (handling e c) w))
+    alike_after l.layout a.program agree (FlowAgrees l gives i d) at k c w0 s (after_handler a e c x)
     (kept_on y (after_scope b ctx (watched_leave b) y)) outwards (outwards_agrees l gives i d lt)
-    (handler_watched l.layout a b same empty laws fare agree (result_slot l + 1) (flows_steady l gives i (d + 1)) at k c w s e stands rests (act (handling e c) w) y h)
+    (subst (λ n. Alike l.layout a.program at k c w0 s agree (after_handler a e c x) (kept_on y (after_scope b (context_of n c) (watched_leave b) y))) (sym can.open_calls)
+    (handler_watched l.layout a b same empty laws fare agree (result_slot l + 1) (flows_steady l gives i (d + 1)) at k c w0 s e stands.sound.together.0 rests can.new x y
+    (alike_older l.layout a.program agree at k (handling e c) w0 w s x y can.objects can.open_calls h)))

@@ -1,7 +1,11 @@
 pub mod Ordered
 pub mod Doomed
 pub mod Caught
+pub mod Lives
+pub mod Sparing
 pub mod Standing
+pub mod Since
+pub mod Freeing
 pub mod Ends
 pub mod Raises
 pub mod New

@@ -45,6 +45,8 @@ use Rattle.throw_simulation.proofs.Standing.{all_old, stands_on, follows_changed
 use Rattle.throw_simulation.proofs.Ends.{ends_out, never_on, terminates as terminates_out}
 use Rattle.throw_simulation.proofs.Raises.{raises as raises_out}
 use Rattle.throw_simulation.proofs.New.{newly, full_same, new_on, new_can}
+use Rattle.region_simulation.specs.Lives.{is_built}
+use Rattle.throw_simulation.proofs.Lives.{added_new}
 
 module _ (l : Lowering) (own : Option ℕ) (call : SourceCallee → Reference → List SourceArgument → SourceContext → SourceAction ℤ) (b : Running) (v : SourceFrame) (c : SourceContext)
     (fit : KindsFit l b.kinds) (same : RunAlike l.layout (source_running l call) b) (laws : CaughtListFollows) (t : ℕ) (high : first_temporary l ≤ t) where
@@ -110,7 +112,8 @@ module _ (l : Lowering) (own : Option ℕ) (call : SourceCallee → Reference �
               alike_on l.layout l.program Never at t c c w s (new n) (record s { world = after n }) h
               (raise_exception a (w.last_number + 1) c (new n)) (raise b (w.last_number + 1) ctx (record s { world = after n }))
               (raises_out l.layout a b same laws ℤ (Unit {0}) at c (new n) (record s { world = after n }) stands3 (w.last_number + 1)
-              (new_can l.layout l.program at c taken s2 standing (source_foreign k n) (made n w.last_number)) Never t)
+              (new_can l.layout l.program at c taken s2 standing (source_foreign k n) (made n w.last_number))
+              (ap is_built (added_new w.live w.last_number (source_foreign k n) stands.sound.live)) Never t)
 
           go : (z : Bool) → Alike l.layout l.program at t c w s (Next l own b v c fit t high)
               ((if z then source_terminate {A = ℤ} a c else (new_exception (source_foreign k n) (λ m. Foreign m k n) >>= (λ e. raise_exception a e c))) taken)

@@ -5,7 +5,7 @@ use Rattle.std.proofs.lemmas.List.{map-append, length-map}
 use Rattle.cxx_ast.specs.Plain.{Checked}
 use Rattle.run_items.specs.declared.item.Item.{Item}
 use Rattle.scope_rules.specs.Class.{ObjectType, contains}
-use Rattle.scope_rules.specs.World.{World as SourceWorld, Live as SourceLive, Exception as SourceException, Installed, native as source_native}
+use Rattle.scope_rules.specs.World.{World as SourceWorld, Live as SourceLive, Exception as SourceException, Installed, native as source_native, building as source_building}
 use Rattle.scope_rules.specs.Context.{Context as SourceContext}
 use Rattle.scope_rules.specs.Throw.{is_full as source_is_full}
 use Rattle.region_forms.specs.Layout.{Layout}
@@ -17,6 +17,8 @@ use Rattle.region_simulation.specs.Stands.{exception_of, live_of, world_of, Stan
 use Rattle.throw_simulation.specs.Raises.{CanBeRaised}
 use Rattle.throw_simulation.proofs.Caught.{front_unhandled}
 use Rattle.throw_simulation.proofs.Standing.{sound_later, stands_on}
+use Rattle.throw_simulation.specs.Unbuilt.{IsUnbuilt}
+use Rattle.throw_simulation.proofs.Lives.{added_new, live_added, live_new, thrown_added}
 
 -- an element of a list with one behind it
 pub last_or_before : {A : Type 0} (xs : List A) (y z : A) (i : ℕ) → slice_get (xs ++ y ∷ []) i ≡ Some z → (slice_get xs i ≡ Some z) ⊎ (y ≡ z)
@@ -39,14 +41,23 @@ abbrev pub newly : SourceException → Item → SourceWorld → SourceWorld
 newly x i w = record w { last_number = w.last_number + 1; live = w.live ++ record { number = w.last_number + 1; exception = x } ∷ []; items = w.items ++ i ∷ [] }
 
 -- no exception of its number is native
-pub new_unbuilt : (w : SourceWorld) (n : ℕ) (x : SourceException) → IsPlain x → ((i : ℕ) (y : SourceLive) → slice_get w.live i ≡ Some y → y.number ≤ n) → (i o : ℕ) (t : ObjectType) (kept : Installed)
+pub new_plain : (w : SourceWorld) (n : ℕ) (x : SourceException) → IsPlain x → ((i : ℕ) (y : SourceLive) → slice_get w.live i ≡ Some y → y.number ≤ n) → (i o : ℕ) (t : ObjectType) (kept : Installed)
     → slice_get (w.live ++ record { number = n + 1; exception = x } ∷ []) i ≡ Some (record { number = n + 1; exception = source_native t o kept }) → ⊥
-new_unbuilt w n x plain made i o t kept there = go (last_or_before w.live (record { number = n + 1; exception = x }) (record { number = n + 1; exception = source_native t o kept }) i there)
+new_plain w n x plain made i o t kept there = go (last_or_before w.live (record { number = n + 1; exception = x }) (record { number = n + 1; exception = source_native t o kept }) i there)
   where
     go : ((slice_get w.live i ≡ Some (record { number = n + 1; exception = source_native t o kept })) ⊎
         (◌≡◌ {A = SourceLive} (record { number = n + 1; exception = x }) (record { number = n + 1; exception = source_native t o kept }))) → ⊥
     go (inl before) = let le = made i (record { number = n + 1; exception = source_native t o kept }) before in omega (arith, le)
     go (inr same) = plain_only (n + 1) (n + 1) o x t kept plain same
+
+-- so an exception that is made to be built is unbuilt
+pub new_unbuilt : (w : SourceWorld) (i : Item) → ((j : ℕ) (y : SourceLive) → slice_get w.live j ≡ Some y → y.number ≤ w.last_number)
+    → IsUnbuilt (w.last_number + 1) (newly source_building i w)
+new_unbuilt w i made = (
+  live_new w.live (w.last_number + 1) source_building,
+  added_new w.live w.last_number source_building made,
+  λ j o t kept there. new_plain w w.last_number source_building tt made j o t kept there,
+)
 
 -- its number is not that of any that is made
 pub new_number : (n : ℕ) (es : List ℕ) → ((e : ℕ) → contains es e ≡ true → e ≤ n) → contains es (n + 1) ≡ false
@@ -70,9 +81,9 @@ module _ (l : Layout) (p : Checked) (at : Places) (c : SourceContext) (w : Sourc
       ap {A = List Live} {B = World} (λ xs. record world { live = xs }) (sym (map-append (live_of p) w.live (y ∷ []))))
       refl refl (omega arith)
       (sound_later c w.last_number (w.last_number + 1) w.live w2.live (omega arith)
-      (λ j z there. made j z (last_or_before w.live y z j there)) stands.sound)
+      (λ j z there. made j z (last_or_before w.live y z j there)) (λ f in_reach can. thrown_added w.live y f can) stands.sound)
       stands.handlers
-      (λ j e o t kept there. old e o t kept j (last_or_before w.live y (record { number = e; exception = source_native t o kept }) j there))
+      (λ j e o t kept there. old e o t kept j (last_or_before w.live y (record { number = e; exception = source_native t o kept }) j there), λ f h. live_added w.live y f h)
       stands
     where
       made : (j : ℕ) (z : SourceLive) → ((slice_get w.live j ≡ Some z) ⊎ (◌≡◌ {A = SourceLive} (record { number = w.last_number + 1; exception = x }) z)) → z.number ≤ w.last_number + 1

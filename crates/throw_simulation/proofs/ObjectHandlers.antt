@@ -3,7 +3,7 @@ use Rattle.std.proofs.Common.{◌≡◌, ℕ, ◌+◌, ◌<◌, ℤ, Bool, List,
 use Rattle.cxx_ast.specs.declared.name.Name.{Name}
 use Rattle.cxx_ast.specs.declared.types.Ty.TheVariants.{Object}
 use Rattle.run_items.specs.declared.item.Item.TheVariants.{Enter}
-use Rattle.scope_rules.specs.Class.{class_type, class_named}
+use Rattle.scope_rules.specs.Class.{class_type, class_named, contains}
 use Rattle.scope_rules.specs.Part.{unset}
 use Rattle.scope_rules.specs.World.{World as SourceWorld, Reference, whole, as_class}
 use Rattle.scope_rules.specs.Context.{Context as SourceContext, handling, with_travelling}
@@ -52,6 +52,7 @@ use Rattle.throw_simulation.proofs.Handling.{entry_stands}
 use Rattle.throw_simulation.proofs.Parameters.{in_handler, BodyAlike, Passed, parameter_then}
 use Rattle.throw_simulation.proofs.Catching.{CaughtAs, caught_class, variable_newly, scope_parameter}
 use Rattle.throw_simulation.proofs.Handlers.{last}
+use Rattle.throw_simulation.specs.Left.{CanBeLeft}
 
 module _ (laws : CaughtListFollows) (l : Lowering) (own : Option ℕ) (gives : Bool) (n i d : ℕ) (lt : i < d) (call : Callee → Reference → List SourceArgument → SourceContext → SourceAction ℤ) (b : Running)
     (same : RunAlike l.layout (source_running l call) b) (fare : CallsFare (source_running l call)) (empty : EmptyDestructor l.layout (source_running l call) b)
@@ -202,11 +203,12 @@ module _ (laws : CaughtListFollows) (l : Lowering) (own : Option ℕ) (gives : B
         done_is (done flow t) = refl
         done_is (stopped z t) = refl
 
-    pub object_handled : Alike l.layout l.program at k c w s (FlowAgrees l gives i d) (handle a e (Some (Object q)) x body v c w)
+    pub object_handled : (w0 : SourceWorld) → CanBeLeft (contains c.handled e) e at w0 w
+        → Alike l.layout l.program at k c w0 s (FlowAgrees l gives i d) (handle a e (Some (Object q)) x body v c w)
         (regions b (regions_from (copied l j (slot_place k) (thrown_place l) ∷
         last laws l own gives n i d lt call b same fare empty v c e fresh body scoped_regions at w s stands inside slot)) ctx s)
-    object_handled =
-        parameter_then laws l own gives n i d lt call b same fare empty v c e fresh (Some (Object q)) x body at w s P scoped_regions (whole y.object) (sym (ap exception_object y.is))
+    object_handled w0 can =
+        parameter_then laws l own gives n i d lt call b same fare empty v c e fresh (Some (Object q)) x body at w0 w s can P scoped_regions (whole y.object) (sym (ap exception_object y.is))
         (subst StaysInside (sym (regrouped copying)) (stays_on copying both.0))
         (subst (λ z. Alike l.layout l.program at k (with_travelling e c) w s passed z (regions b (regions_from P) ctx s)) (sym (regrouped copying))
         (subst (λ z. Alike l.layout l.program at k (with_travelling e c) w s passed (source_continued copying (λ u. source_pure (whole o))) z)

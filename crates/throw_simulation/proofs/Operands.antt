@@ -75,7 +75,7 @@ module _ (laws : CaughtListFollows) (l : Lowering) (own : Option ℕ) (gives : B
   object_case : (k : ℕ) (es : Expressions) → CanConstruct l own v.variables k es → DoesAlike l own gives b v c n i d (throw_new a c (source_object_thrown a v k es c)) (object_thrown l k es)
   object_case k es can =
       throws_alike laws l own gives calls b v c same n i d (class_type k) (source_object_thrown a v k es c) (lower_construct l k es (thrown_place l) (first_temporary l)) can.there (object_thrown_fares a v k es c fare).at
-      (λ at w s e stands reach slot made unbuilt empty. object_built l own calls b v c fit same builtins at w s e stands reach slot made empty k can.there es can)
+      (λ at w s e stands reach slot made unbuilt empty. object_built l own calls b v c fit same builtins at w s e stands reach slot (made, unbuilt.0) empty k can.there es can)
 
   -- what names stand for, of a type
   part_case : (e : Expression) (names : List Name) (t : ObjectType) → lvalue_type l names ≡ t → AreNamed l own v.variables names t → PartCanBeThrown l own v.variables e names t
@@ -98,7 +98,7 @@ module _ (laws : CaughtListFollows) (l : Lowering) (own : Option ℕ) (gives : B
       let is_class = shaped_type l.program (class_type k) (part_of w (lvalue l.program w v names)) (refers_shaped w stands.memory x.refers) in
       subst (λ u. Alike l.layout l.program at (first_temporary l) c w s (IsBuilt f (class_type k)) (source_part_thrown a v e (lvalue l.program w v names) u c w)
       (regions b (regions_from (copied l k (thrown_place l) (place_of l names) ∷ [])) (context_of w.open_calls c) s))
-      (sym is_class) (copy_built l own calls b v c fit same builtins at w s f stands reach slot made empty k (class_there l.program k (copy_constructor l.program k) can.1) (faring_calls_are_barred a fare) names named can.1))
+      (sym is_class) (copy_built l own calls b v c fit same builtins at w s f stands reach slot (made, unbuilt.0) empty k (class_there l.program k (copy_constructor l.program k) can.1) (faring_calls_are_barred a fare) names named can.1))
 
   lvalue_case : (e : Expression) (names : Option (List Name)) → LvalueCanBeThrown l own v.variables e names
       → DoesAlike l own gives b v c n i d (throw_new a c (source_lvalue_thrown a v e names c)) (lvalue_thrown l e names)

@@ -1,5 +1,5 @@
 -- The parameters of handlers, then the handlers.
-use Rattle.std.proofs.Common.{◌≡◌, ℕ, ◌+◌, ◌<◌, ◌≤◌, ℤ, Bool, List, [], ◌∷◌, ◌++◌, Option, Some, None, refl, sym, subst, arith}
+use Rattle.std.proofs.Common.{◌≡◌, ℕ, ◌+◌, ◌<◌, ◌≤◌, ℤ, Bool, List, [], ◌∷◌, ◌++◌, Option, Some, None, refl, sym, subst, arith, ◌∙◌}
 use Rattle.cxx_ast.specs.declared.name.Name.{Name}
 use Rattle.cxx_ast.specs.declared.types.Ty.{Ty}
 use Rattle.cxx_ast.specs.declared.types.Ty.TheVariants.{Int, Void, Object, IntRef, ObjectRef}
@@ -33,8 +33,10 @@ use Rattle.throw_simulation.specs.Fares.{CallsFare}
 use Rattle.throw_simulation.specs.Same.{RunAlike}
 use Rattle.throw_simulation.specs.Barred.{StaysInside}
 use Rattle.throw_simulation.specs.Handlers.{CanBeEntered, EmptyDestructor}
-use Rattle.throw_simulation.proofs.Barriers.{inside_then}
 use Rattle.throw_simulation.proofs.Handling.{entry_stands, handled_from}
+use Rattle.throw_simulation.specs.Left.{CanBeLeft}
+use Rattle.throw_simulation.proofs.Since.{alike_older, inside_since, left_on}
+use Rattle.scope_rules.specs.Class.{contains}
 
 -- nothing is done at the end of a scope
 scope_none : {A : Type 0} (a : SourceRunning) (c : SourceContext) (x : SourceResult A) → source_after_scope a c (λ d. source_pure (tt {0})) x ≡ x
@@ -85,24 +87,26 @@ module _ (laws : CaughtListFollows) (l : Lowering) (own : Option ℕ) (gives : B
   Passed inner r flow w at s = (flow ≡ normal) × (s.frame.slots (exception_slot l) ≡ address_word (object_address e)) × BodyAlike inner r w at s
 
   -- so the handler does
-  pub parameter_then : (at : Places) (w : SourceWorld) (s : State) (P inner : List Region) (source : Reference) → source ≡ exception_object (source_exception_at w e)
+  pub parameter_then : (at : Places) (w0 w : SourceWorld) (s : State) → CanBeLeft (contains c.handled e) e at w0 w → (P inner : List Region) (source : Reference) → source ≡ exception_object (source_exception_at w e)
       → StaysInside (catch_parameter a t source (with_travelling e c) w)
       → Alike l.layout a.program at k (with_travelling e c) w s (Passed inner) (catch_parameter a t source (with_travelling e c) w) (regions b (regions_from P) (context_of w.open_calls c) s)
-      → Alike l.layout a.program at k c w s (FlowAgrees l gives i d) (handle a e t x body v c w)
+      → Alike l.layout a.program at k c w0 s (FlowAgrees l gives i d) (handle a e t x body v c w)
       (regions b (regions_from (P ++ op (enter (exception_slot l)) ∷ protect (in_order inner) leave_handler ∷ [])) (context_of w.open_calls c) s)
-  parameter_then at w s P inner source is inside passes =
+  parameter_then at w0 w s can P inner source is inside passes =
       let ctx = context_of w.open_calls c in
       let behind = op (enter (exception_slot l)) ∷ protect (in_order inner) leave_handler ∷ [] in
       let next : Reference → SourceAction SourceFlow = (λ r. source_enter a e c >> while_handled a e c (in_handler r)) in
-      subst (λ z. Alike l.layout a.program at k c w s (FlowAgrees l gives i d) (handle a e t x body v c w) z) (sym (joined b ctx P behind s))
-      (subst (λ q. Alike l.layout a.program at k c w s (FlowAgrees l gives i d) (source_continued (catch_parameter a t q (with_travelling e c) w) next)
+      subst (λ z. Alike l.layout a.program at k c w0 s (FlowAgrees l gives i d) (handle a e t x body v c w) z) (sym (joined b ctx P behind s))
+      (subst (λ q. Alike l.layout a.program at k c w0 s (FlowAgrees l gives i d) (source_continued (catch_parameter a t q (with_travelling e c) w) next)
       (continued (regions b (regions_from P) ctx s) (followed (regions b (regions_from behind) ctx)))) is
-      (inside_then l.layout a.program (Passed inner) (FlowAgrees l gives i d) at k (with_travelling e c) c w s (catch_parameter a t source (with_travelling e c) w)
-      (regions b (regions_from P) ctx s) next (followed (regions b (regions_from behind) ctx)) inside passes
+      (inside_since l.layout a.program (Passed inner) (FlowAgrees l gives i d) at k (with_travelling e c) c w0 s (catch_parameter a t source (with_travelling e c) w)
+      (regions b (regions_from P) ctx s) next (followed (regions b (regions_from behind) ctx)) inside
+      (alike_older l.layout a.program (Passed inner) at k (with_travelling e c) w0 w s (catch_parameter a t source (with_travelling e c) w) (regions b (regions_from P) ctx s) can.objects can.open_calls passes)
       (λ r flow w2 s2 h (fl, slot, does).
-      subst (λ f. Alike l.layout a.program h.places k c w2 s2 (FlowAgrees l gives i d) (next r w2) (followed (regions b (regions_from behind) ctx) f s2)) (sym fl)
-      (subst (λ m. Alike l.layout a.program h.places k c w2 s2 (FlowAgrees l gives i d) (next r w2) (regions b (regions_from behind) (context_of m c) s2)) h.open_calls
-      (handled_from laws l gives i d lt a b same fare empty h.places k c w2 s2 e h.stands fresh (in_handler r) inner does slot)))))
+      subst (λ f. Alike l.layout a.program h.places k c w0 s2 (FlowAgrees l gives i d) (next r w2) (followed (regions b (regions_from behind) ctx) f s2)) (sym fl)
+      (subst (λ m. Alike l.layout a.program h.places k c w0 s2 (FlowAgrees l gives i d) (next r w2) (regions b (regions_from behind) (context_of m c) s2)) (h.open_calls ∙ sym can.open_calls)
+      (handled_from laws l gives i d lt a b same fare empty h.places k c w2 s2 e h.stands fresh (in_handler r) inner w0
+      (left_on l.layout a.program (contains c.handled e) e at k w0 w s (with_travelling e c) w2 s2 can h) does slot)))))
 
   -- the body of a handler whose parameter needs no destruction
   pub body_alike : (at : Places) (w : SourceWorld) (s : State) (r : Reference) (m : ℕ) (rs : List Region) → IsNoObject t → n ≤ m → Stands l.layout a.program at (with_travelling e c) w s

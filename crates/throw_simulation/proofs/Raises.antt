@@ -21,6 +21,7 @@ use Rattle.region_forms.specs.World.{World, exception_in, exception_at, exceptio
 use Rattle.region_forms.specs.Effect.{flies, entered_doomed}
 use Rattle.region_forms.specs.Outcome.{State, stop, change, ◌>>◌}
 use Rattle.region_forms.specs.Ending.{Running, enter_and_terminate, terminate_because, raise}
+use Rattle.region_simulation.specs.Lives.{CanBeThrown}
 use Rattle.region_simulation.specs.Places.{Places}
 use Rattle.region_simulation.specs.Stands.{exception_of, live_of, guard_of, context_of, world_of, Stands}
 use Rattle.region_simulation.specs.Alike.{Alike}
@@ -70,32 +71,33 @@ module _ (l : Layout) (p : Checked) (at : Places) (c : SourceContext) (w : Sourc
   type_same e = ap exception_type (exception_same e) ∙ type_of p (source_exception_at w e)
 
   -- an exception begins to travel
-  pub travels_on : CaughtListFollows → (e : ℕ) → CanBeRaised c w e → Stands l p at (with_travelling e c) w (record s { world = flies e s.world })
-  travels_on laws e can =
+  pub travels_on : CaughtListFollows → (e : ℕ) → CanBeRaised c w e → CanBeThrown w.live e → Stands l p at (with_travelling e c) w (record s { world = flies e s.world })
+  travels_on laws e can built =
       let more : length c.travelling + 1 ≡ suc (length c.travelling) = omega arith in
       let d = with_travelling e c in
       let world = world_of p d w s.world.memory s.world.calls in
       stands_on l p at c d w w s (flies e s.world)
       (ap (flies e) stands.world ∙ ap {A = ℕ} {B = World} (λ n. record world { uncaught = n; caught = flown_list e }) more ∙
       ap {B = World} (λ xs. record world { caught = xs }) (flown_front laws e c.travelling c.handled can.front))
-      refl refl (omega arith) (sound_travelling e c can.made stands.sound) stands.handlers (all_old w.live) stands
+      refl refl (omega arith) (sound_travelling e c can.made built stands.sound) stands.handlers (all_old w.live) stands
     where
       flown_list : ℕ → List Entry
       flown_list e = flown e (caught_of c.travelling c.handled)
 
   -- a doomed exception is entered
-  pub doomed_on : (e : ℕ) → CanBeRaised c w e
+  pub doomed_on : (e : ℕ) → CanBeRaised c w e → CanBeThrown w.live e
       → Stands l p at (handling e c) (record w { items = w.items ++ Enter e ∷ [] }) (record s { world = entered_doomed e s.world })
-  doomed_on e can =
+  doomed_on e can built =
       let d = handling e c in
       let w2 = record w { items = w.items ++ Enter e ∷ [] } in
       let world = world_of p d w2 s.world.memory s.world.calls in
       stands_on l p at c d w w2 s (entered_doomed e s.world)
       (ap (entered_doomed e) stands.world ∙ ap {B = World} (λ b. record world { caught = handled_on e b (caught_of c.travelling c.handled) }) (sym can.rests))
-      refl refl (omega arith) (sound_handled e c can.made can.front stands.sound) stands.handlers (all_old w.live) stands
+      refl refl (omega arith) (sound_handled e c can.made built can.front stands.sound) stands.handlers (all_old w.live) stands
 
 module _ (l : Layout) (a : SourceRunning) (b : Running) (same : RunAlike l a b) (laws : CaughtListFollows) where
-  module _ (A B : Type 0) (at : Places) (c : SourceContext) (w : SourceWorld) (s : State) (stands : Stands l a.program at c w s) (e : ℕ) (can : CanBeRaised c w e) where
+  module _ (A B : Type 0) (at : Places) (c : SourceContext) (w : SourceWorld) (s : State) (stands : Stands l a.program at c w s) (e : ℕ) (can : CanBeRaised c w e)
+      (built : CanBeThrown w.live e) where
     enters_and_terminates : (x : SourceException) → source_exception_at w e ≡ x
         → EndsAlike {A = A} {B = B} (source_enter_and_terminate a e x c w) (enter_and_terminate b e (exception_of a.program x) (context_of w.open_calls c) s)
     enters_and_terminates source_building is = terminates l a b same A B at c w s stands
@@ -103,7 +105,7 @@ module _ (l : Layout) (a : SourceRunning) (b : Running) (same : RunAlike l a b) 
     enters_and_terminates (source_native t o kept) is =
         let (i, there) = native_in w.live e o t kept is in
         terminates_with l a b same A B at (handling e c) (record w { items = w.items ++ Enter e ∷ [] }) (record s { world = entered_doomed e s.world })
-        (doomed_on l a.program at c w s stands e can) kept.terminate_handler (stands.kept i e o t kept there).handlers.0
+        (doomed_on l a.program at c w s stands e can built) kept.terminate_handler (stands.kept i e o t kept there).handlers.0
 
     because : EndsAlike {A = A} {B = B} (source_terminate_because a e c w) (terminate_because b e (context_of w.open_calls c) s)
     because =
@@ -138,8 +140,8 @@ module _ (l : Layout) (a : SourceRunning) (b : Running) (same : RunAlike l a b) 
         go false = (
           record s { world = flies e s.world },
           refl,
-          follows_changed l a.program at k (with_travelling e c) w w s (flies e s.world) refl refl refl (travels_on l a.program at c w s stands laws e can),
+          follows_changed l a.program at k (with_travelling e c) w w s (flies e s.world) refl refl refl (travels_on l a.program at c w s stands laws e can built),
         )
 
 pub raises_alike : CaughtListFollows → RaisesAlike
-raises_alike laws l a b same at k c w s e stands can = raises l a b same laws ℤ ℤ at c w s stands e can Never k
+raises_alike laws l a b same at k c w s e stands can built = raises l a b same laws ℤ ℤ at c w s stands e can built Never k

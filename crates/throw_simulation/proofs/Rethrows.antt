@@ -72,7 +72,7 @@ module _ (l : Layout) (a : SourceRunning) (b : Running) (same : RunAlike l a b) 
         made = stands.sound.handled e (ap (λ hs. contains hs e) is ∙ itself e es);
         rests = rests;
         front = subst (λ hs. only_front e hs ≡ true) (sym is) (front_newest e es (subst AreTogether is stands.sound.together).0);
-      }) Never k))
+      }) (stands.sound.entered e (ap (λ hs. contains hs e) is ∙ itself e es)) Never k))
 
   pub rethrown_out : Alike l a.program at k c w s agree (rethrow_newest a c.handled c w) (regions b (regions_from (op rethrow ∷ [])) ctx s)
   rethrown_out =

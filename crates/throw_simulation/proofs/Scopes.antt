@@ -14,11 +14,12 @@ use Rattle.region_simulation.specs.Places.{Places}
 use Rattle.region_simulation.specs.Stands.{context_of}
 use Rattle.region_simulation.specs.Alike.{Keeps, Follows, Alike}
 use Rattle.region_simulation.specs.Flows.{FlowAgrees}
-use Rattle.region_simulation.proofs.Following.{Agreement, follows_now, alike_less, alike_on, alike_then}
+use Rattle.region_simulation.proofs.Following.{Agreement, follows_now, alike_less, alike_then}
 use Rattle.throw_simulation.specs.Same.{RunAlike}
 use Rattle.throw_simulation.specs.Barred.{NotThrown, IsBarred}
 use Rattle.throw_simulation.specs.Scopes.{Any, CleansAlike, ScopesEndAlike}
 use Rattle.throw_simulation.proofs.Barriers.{follows_guarded, inside_then, barred_out}
+use Rattle.throw_simulation.proofs.Since.{alike_older, alike_since}
 
 -- answers agree as long as the frame's slots below the m-th are kept
 abbrev pub IsSteady : {A B : Type 0} → Agreement A B → ℕ → Type 0
@@ -40,23 +41,23 @@ module _ (l : Layout) (a : SourceRunning) (b : Running) (same : RunAlike l a b) 
 
   -- a cleanup behind a barrier in context d, then the stop
   behind : (d : SourceContext) (at2 : Places) (w2 : SourceWorld) (s2 : State) (x : Stop) → NotThrown (destruction (guarded_by barrier d) w2)
-      → Alike l a.program at2 k (guarded_by barrier d) w2 s2 Any (destruction (guarded_by barrier d) w2) (cleanup (context_of w2.open_calls (guarded_by barrier d)) s2)
-      → ((w3 : SourceWorld) (s3 : State) (g : Follows l a.program at2 k w2 s2 d w3 s3) → Alike l a.program g.places k c w3 s3 agree (source_stopped x w3) (stopped x s3))
-      → Alike l a.program at2 k c w2 s2 agree
+      → Alike l a.program at2 k (guarded_by barrier d) w s2 Any (destruction (guarded_by barrier d) w2) (cleanup (context_of w.open_calls (guarded_by barrier d)) s2)
+      → ((w3 : SourceWorld) (s3 : State) (g : Follows l a.program at2 k w s2 d w3 s3) → Alike l a.program g.places k c w3 s3 agree (source_stopped x w3) (stopped x s3))
+      → Alike l a.program at2 k c w s2 agree
       (source_continued (source_after_barrier a d (destruction (guarded_by barrier d) w2)) (λ u. source_stop x))
-      (continued (after_barrier b (context_of w2.open_calls d) (cleanup (context_of w2.open_calls (guarded_by barrier d)) s2)) (λ u. stop x))
+      (continued (after_barrier b (context_of w.open_calls d) (cleanup (context_of w.open_calls (guarded_by barrier d)) s2)) (λ u. stop x))
   behind d at2 w2 s2 x not h then =
       let x2 = destruction (guarded_by barrier d) w2 in
-      let y2 = cleanup (context_of w2.open_calls (guarded_by barrier d)) s2 in
-      let r = barred_out l a b same Any at2 k d w2 s2 x2 y2 not h in
-      inside_then l a.program Any agree at2 k d c w2 s2 (source_after_barrier a d x2) (after_barrier b (context_of w2.open_calls d) y2) (λ u. source_stop x) (λ u. stop x) r.0 r.1
+      let y2 = cleanup (context_of w.open_calls (guarded_by barrier d)) s2 in
+      let r = barred_out l a b same Any at2 k d w s2 x2 y2 not h in
+      inside_then l a.program Any agree at2 k d c w s2 (source_after_barrier a d x2) (after_barrier b (context_of w.open_calls d) y2) (λ u. source_stop x) (λ u. stop x) r.0 r.1
       (λ u v w3 s3 g any. then w3 s3 g)
 
   -- behind a barrier a cleanup does what a destruction does
   abbrev pub Barred : (d : SourceContext) (at2 : Places) (w2 : SourceWorld) (s2 : State) → Type 0
   Barred d at2 w2 s2 =
       NotThrown (destruction (guarded_by barrier d) w2) ×
-      Alike l a.program at2 k (guarded_by barrier d) w2 s2 Any (destruction (guarded_by barrier d) w2) (cleanup (context_of w2.open_calls (guarded_by barrier d)) s2)
+      Alike l a.program at2 k (guarded_by barrier d) w s2 Any (destruction (guarded_by barrier d) w2) (cleanup (context_of w.open_calls (guarded_by barrier d)) s2)
 
   -- an exception comes out of what is done in context i
   pub thrown_out : (i : SourceContext) (e : ℕ) (w2 : SourceWorld) (y : Result B) → Alike l a.program at k i w s agree (source_stopped (thrown e) w2) y
@@ -67,9 +68,8 @@ module _ (l : Layout) (a : SourceRunning) (b : Running) (same : RunAlike l a b) 
       let d = with_travelling e c in
       let (not, inner) = barred s2 h in
       subst (λ z. Alike l a.program at k c w s agree (source_unwound a c destruction (thrown e) w2) z) (sym (ap after same_y ∙ is s2))
-      (alike_on l a.program agree at k c (with_travelling e i) w s w2 s2 h (source_unwound a c destruction (thrown e) w2) (unwound b ctx cleanup (thrown e) s2)
-      (subst (λ n. Alike l a.program h.places k c w2 s2 agree (source_unwound a c destruction (thrown e) w2) (unwound b (context_of n c) cleanup (thrown e) s2)) h.open_calls
-      (behind d h.places w2 s2 (thrown e) not inner (λ w3 s3 g. (s3, refl, follows_now l a.program g.places k d w3 s3 g.stands)))))
+      (alike_since l a.program agree at k c (with_travelling e i) w s w2 s2 h (source_unwound a c destruction (thrown e) w2) (unwound b ctx cleanup (thrown e) s2)
+      (behind d h.places w2 s2 (thrown e) not inner (λ w3 s3 g. (s3, refl, follows_now l a.program g.places k d w3 s3 g.stands))))
 
   -- a forced unwind does
   pub cancelled_out : (i : SourceContext) (n : ℤ) (w2 : SourceWorld) (y : Result B) → Alike l a.program at k i w s agree (source_stopped (cancelled n) w2) y
@@ -79,21 +79,19 @@ module _ (l : Layout) (a : SourceRunning) (b : Running) (same : RunAlike l a b) 
   cancelled_out i n w2 y (s2, same_y, h) barred after is =
       let (not, inner) = barred s2 h in
       subst (λ z. Alike l a.program at k c w s agree (source_unwound a c destruction (cancelled n) w2) z) (sym (ap after same_y ∙ is s2))
-      (alike_on l a.program agree at k c i w s w2 s2 h (source_unwound a c destruction (cancelled n) w2) (unwound b ctx cleanup (cancelled n) s2)
-      (subst (λ o. Alike l a.program h.places k c w2 s2 agree (source_unwound a c destruction (cancelled n) w2) (unwound b (context_of o c) cleanup (cancelled n) s2)) h.open_calls
-      (behind c h.places w2 s2 (cancelled n) not inner (λ w3 s3 g. (s3, refl, follows_now l a.program g.places k c w3 s3 g.stands)))))
+      (alike_since l a.program agree at k c i w s w2 s2 h (source_unwound a c destruction (cancelled n) w2) (unwound b ctx cleanup (cancelled n) s2)
+      (behind c h.places w2 s2 (cancelled n) not inner (λ w3 s3 g. (s3, refl, follows_now l a.program g.places k c w3 s3 g.stands))))
 
   -- where it is done, the cleanup comes next
   pub done_out : (m : ℕ) → IsSteady agree m → (i : SourceContext) (u : A) (w2 : SourceWorld) (y : Result B) → Alike l a.program at k i w s agree (source_done u w2) y
-      → ((s2 : State) (h : Follows l a.program at k w s i w2 s2) → Alike l a.program h.places (k + m) c w2 s2 Any (destruction c w2) (cleanup (context_of w2.open_calls c) s2))
+      → ((s2 : State) (h : Follows l a.program at k w s i w2 s2) → Alike l a.program h.places (k + m) c w s2 Any (destruction c w2) (cleanup ctx s2))
       → Alike l a.program at k c w s agree (source_after_scope a c destruction (source_done u w2)) (after_scope b ctx cleanup y)
   done_out m steady i u w2 y (v, s2, same_y, (h, agrees)) cleans =
       let next = source_continued (destruction c w2) (λ z. source_pure u) in
       subst (λ z. Alike l a.program at k c w s agree next z) (sym (ap (after_scope b ctx cleanup) same_y))
-      (alike_on l a.program agree at k c i w s w2 s2 h next (continued (cleanup ctx s2) (λ z. pure v))
-      (alike_less l a.program agree h.places k (k + m) c w2 s2 next (continued (cleanup ctx s2) (λ z. pure v)) (omega arith)
-      (alike_then l a.program Any agree h.places (k + m) c w2 s2 (destruction c w2) (cleanup ctx s2) (λ z. source_pure u) (λ z. pure v)
-      (subst (λ n. Alike l a.program h.places (k + m) c w2 s2 Any (destruction c w2) (cleanup (context_of n c) s2)) h.open_calls (cleans s2 h))
+      (alike_since l a.program agree at k c i w s w2 s2 h next (continued (cleanup ctx s2) (λ z. pure v))
+      (alike_less l a.program agree h.places k (k + m) c w s2 next (continued (cleanup ctx s2) (λ z. pure v)) (omega arith)
+      (alike_then l a.program Any agree h.places (k + m) c w s2 (destruction c w2) (cleanup ctx s2) (λ z. source_pure u) (λ z. pure v) (cleans s2 h)
       (λ z z2 w3 s3 g any. (
         v,
         s3,
@@ -106,9 +104,16 @@ module _ (l : Layout) (a : SourceRunning) (b : Running) (same : RunAlike l a b) 
 
   -- a scope, or a part of an object, in one context
   module _ (m : ℕ) (steady : IsSteady agree m) (bar : IsBarred destruction) (cleans : CleansAlike l a.program at k w s destruction cleanup) where
+    -- said from the beginning of the scope on
+    cleans_since : (d : SourceContext) (w2 : SourceWorld) (s2 : State) (h : Follows l a.program at k w s d w2 s2) (m : ℕ)
+        → Alike l a.program h.places m d w s2 Any (destruction d w2) (cleanup (context_of w.open_calls d) s2)
+    cleans_since d w2 s2 h m =
+        subst (λ n. Alike l a.program h.places m d w s2 Any (destruction d w2) (cleanup (context_of n d) s2)) h.open_calls
+        (alike_older l a.program Any h.places m d w w2 s2 (destruction d w2) (cleanup (context_of w2.open_calls d) s2) h.objects h.open_calls (cleans d w2 s2 h m))
+
     barred : (d : SourceContext) (w2 : SourceWorld) (s2 : State) (h : Follows l a.program at k w s d w2 s2) → Barred d h.places w2 s2
     barred d w2 s2 h = let g = follows_guarded l a.program barrier at k w s d w2 s2 h in
-        (bar d w2 h.stands.sound, cleans (guarded_by barrier d) w2 s2 g k)
+        (bar d w2 h.stands.sound, cleans_since (guarded_by barrier d) w2 s2 g k)
 
     stops : (x : Stop) (w2 : SourceWorld) (y : Result B) → Alike l a.program at k c w s agree (source_stopped x w2) y
         → (after : Result B → Result B) → ((z : Stop) (t : State) → after (stopped z t) ≡ unwound b ctx cleanup z t)
@@ -122,7 +127,7 @@ module _ (l : Layout) (a : SourceRunning) (b : Running) (same : RunAlike l a b) 
 
     pub scope_ends : (x : SourceResult A) (y : Result B) → Alike l a.program at k c w s agree x y
         → Alike l a.program at k c w s agree (source_after_scope a c destruction x) (after_scope b ctx cleanup y)
-    scope_ends (source_done u w2) y h = done_out m steady c u w2 y h (λ s2 g. cleans c w2 s2 g (k + m))
+    scope_ends (source_done u w2) y h = done_out m steady c u w2 y h (λ s2 g. cleans_since c w2 s2 g (k + m))
     scope_ends (source_stopped x w2) y h = stops x w2 y h (after_scope b ctx cleanup) (λ z t. refl)
 
     pub part_ends : (x : SourceResult A) (y : Result B) → Alike l a.program at k c w s agree x y

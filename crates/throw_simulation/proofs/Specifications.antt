@@ -30,7 +30,7 @@ use Rattle.region_simulation.specs.Places.{Places}
 use Rattle.region_simulation.specs.Stands.{exception_of, AreHandlers, IsHandler, Stands, context_of}
 use Rattle.region_simulation.specs.Alike.{Alike}
 use Rattle.region_simulation.specs.Calls.{SameArguments}
-use Rattle.region_simulation.proofs.Following.{Agreement, alike_on}
+use Rattle.region_simulation.proofs.Following.{Agreement}
 use Rattle.throw_simulation.specs.Same.{RunAlike}
 use Rattle.throw_simulation.specs.Ends.{EndsAlike}
 use Rattle.throw_simulation.specs.Raises.{CanBeRaised}
@@ -39,7 +39,7 @@ use Rattle.throw_simulation.specs.Fares.{IsOrderly, GoesOn, Fares, CallsFare}
 use Rattle.throw_simulation.specs.Handlers.{EmptyDestructor}
 use Rattle.throw_simulation.specs.Extents.{EmptyConstructor}
 use Rattle.throw_simulation.proofs.Standing.{stands_guarded, stands_outside, follows_changed}
-use Rattle.throw_simulation.proofs.Barriers.{follows_outside, inside_then}
+use Rattle.throw_simulation.proofs.Barriers.{follows_outside}
 use Rattle.throw_simulation.proofs.Caught.{front_newest}
 use Rattle.throw_simulation.proofs.Doomed.{doomed_alike}
 use Rattle.throw_simulation.proofs.Ends.{ends_out, terminates_with as terminates_out}
@@ -52,6 +52,9 @@ use Rattle.throw_simulation.proofs.FaringHandlers.{entry_fares}
 use Rattle.throw_simulation.proofs.FaringScopes.{contains_first, contains_more}
 use Rattle.throw_simulation.proofs.Faring.{orderly_sound}
 use Rattle.throw_simulation.proofs.BadExceptions.{bad_out}
+use Rattle.region_simulation.specs.Lives.{CanBeThrown}
+use Rattle.throw_simulation.specs.Left.{CanBeLeft}
+use Rattle.throw_simulation.proofs.Since.{follows_older, alike_older, alike_since, inside_since, left_on, left_newly}
 
 -- bad_exception is listed by its row where it is by its class
 bad_listed : (types : List ObjectType) → contains (map type_number types) bad_row ≡ some_of is_bad_exception types
@@ -115,8 +118,8 @@ module _ (laws : CaughtListFollows) (l : Layout) (a : SourceRunning) (b : Runnin
 
   -- an exception out of the unexpected handler is passed on
   pass_out : (e : ℕ) (kept : Installed) → AreHandlers a.program kept → (at : Places) (k : ℕ) (d : SourceContext) (w : SourceWorld) (s : State) (f : ℕ) → Stands l a.program at d w s
-      → source_kept_with (source_exception_at w e) ≡ kept → CanBeRaised d w f → Alike l a.program at k d w s agree (source_pass_on a types kept f d w) (watched_pass b numbers e kept.terminate_handler f (context_of w.open_calls d) s)
-  pass_out e kept handlers at k d w s f stands keeps can =
+      → source_kept_with (source_exception_at w e) ≡ kept → CanBeRaised d w f → CanBeThrown w.live f → Alike l a.program at k d w s agree (source_pass_on a types kept f d w) (watched_pass b numbers e kept.terminate_handler f (context_of w.open_calls d) s)
+  pass_out e kept handlers at k d w s f stands keeps can built =
       let ctx = context_of w.open_calls d in
       subst (λ z. Alike l a.program at k d w s agree (source_pass_on a types kept f d w)
       ((if z then raise b f ctx else if contains numbers bad_row then throw_bad b ctx else terminate_for b e kept.terminate_handler ctx) s)) (sym (allowed_same at d w s stands f))
@@ -128,7 +131,7 @@ module _ (laws : CaughtListFollows) (l : Layout) (a : SourceRunning) (b : Runnin
           ((if y then raise_exception {A = A} a f d else if z then throw_new a d (new_bad_exception a d) else source_terminate_with a kept.terminate_handler d) w)
           ((if y then raise {A = B} b f (context_of w.open_calls d) else
           if z then throw_bad b (context_of w.open_calls d) else terminate_for b e kept.terminate_handler (context_of w.open_calls d)) s)
-      go true z = raises_out l a b same laws A B at d w s stands f can agree k
+      go true z = raises_out l a b same laws A B at d w s stands f can built agree k
       go false true = bad_out laws l a b same makes agree at k d w s stands
       go false false =
           subst (Alike l a.program at k d w s agree (source_terminate_with a kept.terminate_handler d w)) (sym (for_same B at d w s e kept stands keeps (context_of w.open_calls d)))
@@ -146,35 +149,42 @@ module _ (laws : CaughtListFollows) (l : Layout) (a : SourceRunning) (b : Runnin
     keeps_on w w2 g keeps = ap source_kept_with (g.held e held) ∙ keeps
 
     -- an exception that came out of it is entered, passed on and left
-    entered_out : (at : Places) (k : ℕ) (w : SourceWorld) (s : State) (f : ℕ) → Stands l a.program at (with_travelling f c) w s → contains c.travelling f ≡ false → only_front f c.handled ≡ true → source_kept_with (source_exception_at w e) ≡ kept
-        → Alike l a.program at k c w s agree (source_after_unexpected a types kept c (source_stopped (thrown f) w))
+    entered_out : (at : Places) (k : ℕ) (w0 w : SourceWorld) (s : State) (f : ℕ) → Stands l a.program at (with_travelling f c) w s → contains c.travelling f ≡ false → only_front f c.handled ≡ true
+        → source_kept_with (source_exception_at w e) ≡ kept → CanBeLeft (contains c.handled f) f at w0 w
+        → Alike l a.program at k c w0 s agree (source_after_unexpected a types kept c (source_stopped (thrown f) w))
         (watched_after b numbers e kept.terminate_handler (context_of w.open_calls c) (stopped (thrown f) s))
-    entered_out at k w s f stands rests front keeps =
+    entered_out at k w0 w s f stands rests front keeps left =
         let (within_ends, enters_same) = enters_out l a b same at k c w s f stands rests front laws in
         let sound = stands.sound in
         let order : IsOrderly c w =
         record { handled = sound.handled; travelling = λ g is. sound.travelling g (contains_more f g c.travelling is); live = sound.live; together = sound.together } in
-        inside_then l a.program (λ u v w2 at2 s2. GoesOn c w w2) agree at k (handling f c) c w s (source_enter a f c w) (perform b (enters f s.frame s.world) (context_of w.open_calls c) s)
+        inside_since l a.program (λ u v w2 at2 s2. GoesOn c w w2) agree at k (handling f c) c w0 s (source_enter a f c w) (perform b (enters f s.frame s.world) (context_of w.open_calls c) s)
         (λ u. source_while_handled a f c (source_pass_on a types kept f)) (λ u. watched_handled b (context_of w.open_calls c) (watched_pass b numbers e kept.terminate_handler f (context_of w.open_calls c))) within_ends
-        (goes_alike at k 0 c (handling f c) w s (source_enter a f c w) (perform b (enters f s.frame s.world) (context_of w.open_calls c) s) enters_same (entry_fares a fare 0 c w f order))
+        (alike_older l a.program (λ u v w2 at2 s2. GoesOn c w w2) at k (handling f c) w0 w s (source_enter a f c w) (perform b (enters f s.frame s.world) (context_of w.open_calls c) s) left.objects left.open_calls
+        (goes_alike at k 0 c (handling f c) w s (source_enter a f c w) (perform b (enters f s.frame s.world) (context_of w.open_calls c) s) enters_same (entry_fares a fare 0 c w f order)))
         (λ u v w3 s3 h g.
         let can : CanBeRaised (handling f c) w3 f = record {
           made = h.stands.sound.handled f (contains_first f c.handled);
           rests = rests;
           front = front_newest f c.handled h.stands.sound.together.0;
         } in
-        subst (λ n. Alike l a.program h.places k c w3 s3 agree (source_while_handled a f c (source_pass_on a types kept f) w3)
-        (watched_handled b (context_of n c) (watched_pass b numbers e kept.terminate_handler f (context_of n c)) s3)) h.open_calls
-        (handler_watched l a b same empty laws fare agree m steady h.places k c w3 s3 f h.stands rests (source_pass_on a types kept f (handling f c) w3)
-        (watched_pass b numbers e kept.terminate_handler f (context_of w3.open_calls c) s3) (pass_out e kept handlers h.places k (handling f c) w3 s3 f h.stands (keeps_on w w3 g keeps) can)))
+        let still = left_on l a.program (contains c.handled f) f at k w0 w s (handling f c) w3 s3 left h in
+        let x = source_pass_on {A = A} a types kept f (handling f c) w3 in
+        subst (λ n. Alike l a.program h.places k c w0 s3 agree (source_while_handled a f c (source_pass_on a types kept f) w3)
+        (watched_handled b (context_of n c) (watched_pass b numbers e kept.terminate_handler f (context_of n c)) s3)) (sym left.open_calls)
+        (handler_watched l a b same empty laws fare agree m steady h.places k c w0 s3 f h.stands.sound.together.0 rests still.new x
+        (watched_pass b numbers e kept.terminate_handler f (context_of w0.open_calls c) s3)
+        (subst (λ n. Alike l a.program h.places k (handling f c) w0 s3 agree x (watched_pass b numbers e kept.terminate_handler f (context_of n c) s3)) h.open_calls
+        (alike_older l a.program agree h.places k (handling f c) w0 w3 s3 x (watched_pass b numbers e kept.terminate_handler f (context_of w3.open_calls c) s3) still.objects still.open_calls
+        (pass_out e kept handlers h.places k (handling f c) w3 s3 f h.stands (keeps_on w w3 g keeps) can (h.stands.sound.entered f (contains_first f c.handled)))))))
 
-    module _ (at : Places) (k : ℕ) (w : SourceWorld) (s : State) (keeps : source_kept_with (source_exception_at w e) ≡ kept) where
+    module _ (at : Places) (k : ℕ) (w : SourceWorld) (s : State) (stands : Stands l a.program at c w s) (keeps : source_kept_with (source_exception_at w e) ≡ kept) where
       abbrev ctx : Context
       ctx = context_of w.open_calls c
 
-      after_out : (n : ℕ) (answers : Agreement ℤ ℤ) (x : SourceResult ℤ) (y : Result ℤ) → Alike l a.program at k inside w s answers x y → Fares a.program n inside w x
+      after_out : (answers : Agreement ℤ ℤ) (x : SourceResult ℤ) (y : Result ℤ) → Alike l a.program at k inside w s answers x y → Fares a.program w.last_number inside w x
           → Alike l a.program at k c w s agree (source_after_unexpected a types kept c x) (watched_after b numbers e kept.terminate_handler ctx y)
-      after_out n answers (source_done u w2) y (v, s2, is, (h, z)) fares =
+      after_out answers (source_done u w2) y (v, s2, is, (h, z)) fares =
           let g = follows_outside l a.program stop_all at k w s c w2 s2 h in
           ends_out l a b same agree at k c w s (source_terminate_with a kept.terminate_handler c w2) (watched_after b numbers e kept.terminate_handler ctx y)
           (subst (λ r. EndsAlike {A = A} {B = B} (source_terminate_with a kept.terminate_handler c w2) (watched_after b numbers e kept.terminate_handler ctx r)) (sym is)
@@ -182,47 +192,55 @@ module _ (laws : CaughtListFollows) (l : Layout) (a : SourceRunning) (b : Runnin
           (subst (EndsAlike {A = A} {B = B} (source_terminate_with a kept.terminate_handler c w2))
           (sym (for_same B h.places c w2 s2 e kept g.stands (ap source_kept_with (fares.held e held) ∙ keeps) (context_of w2.open_calls c)))
           (terminates_out l a b same A B h.places c w2 s2 g.stands kept.terminate_handler handlers.0))))
-      after_out n answers (source_stopped (thrown f) w2) y (s2, is, h) fares =
+      after_out answers (source_stopped (thrown f) w2) y (s2, is, h) fares =
           let standing = stands_outside l a.program h.places stop_all (with_travelling f c) w2 s2 h.stands in
           let x = source_after_unexpected {A = A} a types kept c (source_stopped (thrown f) w2) in
           subst (λ r. Alike l a.program at k c w s agree x (watched_after b numbers e kept.terminate_handler ctx r)) (sym is)
-          (alike_on l a.program agree at k c (with_travelling f inside) w s w2 s2 h x (watched_after b numbers e kept.terminate_handler ctx (stopped (thrown f) s2))
-          (subst (λ q. Alike l a.program h.places k c w2 s2 agree x (watched_after b numbers e kept.terminate_handler (context_of q c) (stopped (thrown f) s2))) h.open_calls
-          (entered_out h.places k w2 s2 f standing fares.1.raised.rests fares.1.raised.front (ap source_kept_with (fares.0.held e held) ∙ keeps))))
-      after_out n answers (source_stopped (cancelled q) w2) y (s2, is, h) fares =
+          (alike_since l a.program agree at k c (with_travelling f inside) w s w2 s2 h x (watched_after b numbers e kept.terminate_handler ctx (stopped (thrown f) s2))
+          (subst (λ q. Alike l a.program h.places k c w s2 agree x (watched_after b numbers e kept.terminate_handler (context_of q c) (stopped (thrown f) s2))) h.open_calls
+          (entered_out h.places k w w2 s2 f standing fares.1.raised.rests fares.1.raised.front (ap source_kept_with (fares.0.held e held) ∙ keeps)
+          (left_newly l a.program at k c w s stands f (with_travelling f inside) w2 s2 h fares.1.known))))
+      after_out answers (source_stopped (cancelled q) w2) y (s2, is, h) fares =
           (s2, ap (watched_after b numbers e kept.terminate_handler ctx) is, follows_outside l a.program stop_all at k w s c w2 s2 h)
-      after_out n answers (source_stopped undefined w2) y h fares = tt
-      after_out n answers (source_stopped (ended q) w2) y (s2, is, h) fares = (s2, ap (watched_after b numbers e kept.terminate_handler ctx) is, h)
-      after_out n answers (source_stopped out_of_turns w2) y (s2, is, h) fares = (s2, ap (watched_after b numbers e kept.terminate_handler ctx) is, h)
-      after_out n answers (source_stopped deep w2) y (s2, is, h) fares = (s2, ap (watched_after b numbers e kept.terminate_handler ctx) is, h)
+      after_out answers (source_stopped undefined w2) y h fares = tt
+      after_out answers (source_stopped (ended q) w2) y (s2, is, h) fares = (s2, ap (watched_after b numbers e kept.terminate_handler ctx) is, h)
+      after_out answers (source_stopped out_of_turns w2) y (s2, is, h) fares = (s2, ap (watched_after b numbers e kept.terminate_handler ctx) is, h)
+      after_out answers (source_stopped deep w2) y (s2, is, h) fares = (s2, ap (watched_after b numbers e kept.terminate_handler ctx) is, h)
 
-      run_out : Stands l a.program at c w s → (h : Option ℕ) → IsHandler a.program h
+      run_out : (h : Option ℕ) → IsHandler a.program h
           → Alike l a.program at k c w s agree (source_run_unexpected a types kept h c w) (watched_handler b numbers e kept.terminate_handler h ctx s)
-      run_out stands None is =
+      run_out None is =
           subst (Alike l a.program at k c w s agree (source_terminate_with a kept.terminate_handler c w)) (sym (for_same B at c w s e kept stands keeps ctx))
           (ends_out l a b same agree at k c w s (source_terminate_with a kept.terminate_handler c w) (terminate_with b kept.terminate_handler ctx s)
           (terminates_out l a b same A B at c w s stands kept.terminate_handler handlers.0))
-      run_out stands (Some n) is =
+      run_out (Some n) is =
           let standing = stands_guarded l a.program at stop_all c w s stands in
-          after_out 0 (λ x y w2 at2 s2. x ≡ y) (a.call (function n) nowhere [] inside w) (b.call n [] (context_of w.open_calls inside) s)
+          after_out (λ x y w2 at2 s2. x ≡ y) (a.call (function n) nowhere [] inside w) (b.call n [] (context_of w.open_calls inside) s)
           (same.calls at (function n) nowhere [] [] k inside w s is.0 standing (subst (λ ps. SameArguments l a.program at (types_of ps) [] []) (sym is.1) tt))
-          (fare (function n) nowhere [] inside 0 w (omega arith) (orderly_sound inside w standing.sound))
+          (fare (function n) nowhere [] inside w.last_number w (omega arith) (orderly_sound inside w standing.sound))
 
   module _ (c : SourceContext) where
-    unexpected_out : (at : Places) (k : ℕ) (w : SourceWorld) (s : State) (e : ℕ) → Stands l a.program at (with_travelling e c) w s → contains c.travelling e ≡ false → only_front e c.handled ≡ true
+    unexpected_out : (at : Places) (k : ℕ) (w0 w : SourceWorld) (s : State) (e : ℕ) → Stands l a.program at (with_travelling e c) w s → contains c.travelling e ≡ false → only_front e c.handled ≡ true
         → source_is_foreign (source_exception_at w e) ≡ false
-        → Alike l a.program at k c w s agree (source_unexpected a types e c w) (watched_unexpected b numbers e (context_of w.open_calls c) s)
-    unexpected_out at k w s e stands rests front native =
-        subst (λ z. Alike l a.program at k c w s agree
+        → CanBeLeft (contains c.handled e) e at w0 w
+        → Alike l a.program at k c w0 s agree (source_unexpected a types e c w) (watched_unexpected b numbers e (context_of w.open_calls c) s)
+    unexpected_out at k w0 w s e stands rests front native left =
+        subst (λ z. Alike l a.program at k c w0 s agree
         (source_continued ((if z && some_of (λ f. not (f == e)) c.handled then source_terminate a (with_travelling e c) else emit (Enter e)) w)
         (λ u w2. source_while_handled a e c (source_run_unexpected a types (source_kept_with (source_exception_at w2 e)) (source_kept_with (source_exception_at w2 e)).unexpected_handler) w2))
         (watched_unexpected b numbers e (context_of w.open_calls c) s)) (sym native)
-        (subst (λ q. Alike l a.program at k c w s agree handled (watched_handled b ctx (watched_handler b numbers e q.terminate_handler q.unexpected_handler ctx) s1))
+        (subst (λ q. Alike l a.program at k c w0 s agree handled (watched_handled b ctx (watched_handler b numbers e q.terminate_handler q.unexpected_handler ctx) s1))
         (sym (ap kept_with (exception_same l a.program at (with_travelling e c) w s stands e) ∙ kept_same a.program (source_exception_at w e)))
-        (alike_on l a.program agree at k c (handling e c) w s w1 s1 (follows_changed l a.program at k (handling e c) w w1 s s1.world refl refl refl stands1) handled (watched_handled b ctx (watched_handler b numbers e kept.terminate_handler kept.unexpected_handler ctx) s1)
-        (handler_watched l a b same empty laws fare agree m steady at k c w1 s1 e stands1 rests (source_run_unexpected a types kept kept.unexpected_handler (handling e c) w1)
-        (watched_handler b numbers e kept.terminate_handler kept.unexpected_handler ctx s1)
-        (run_out e kept handlers (handling e c) (contains_first e c.handled) at k w1 s1 refl stands1 kept.unexpected_handler handlers.1))))
+        (alike_since l a.program agree at k c (handling e c) w0 s w1 s1
+        (follows_older l a.program at k w0 w s (handling e c) w1 s1 left.objects left.open_calls (follows_changed l a.program at k (handling e c) w w1 s s1.world refl refl refl stands1))
+        handled (watched_handled b ctx (watched_handler b numbers e kept.terminate_handler kept.unexpected_handler ctx) s1)
+        (subst (λ n. Alike l a.program at k c w0 s1 agree handled (watched_handled b (context_of n c) (watched_handler b numbers e kept.terminate_handler kept.unexpected_handler (context_of n c)) s1))
+        (sym left.open_calls)
+        (handler_watched l a b same empty laws fare agree m steady at k c w0 s1 e stands1.sound.together.0 rests left.new run
+        (watched_handler b numbers e kept.terminate_handler kept.unexpected_handler (context_of w0.open_calls c) s1)
+        (subst (λ n. Alike l a.program at k (handling e c) w0 s1 agree run (watched_handler b numbers e kept.terminate_handler kept.unexpected_handler (context_of n c) s1)) left.open_calls
+        (alike_older l a.program agree at k (handling e c) w0 w1 s1 run (watched_handler b numbers e kept.terminate_handler kept.unexpected_handler ctx s1) left.objects left.open_calls
+        (run_out e kept handlers (handling e c) (contains_first e c.handled) at k w1 s1 stands1 refl kept.unexpected_handler handlers.1)))))))
       where
         ctx : Context
         ctx = context_of w.open_calls c
@@ -242,16 +260,19 @@ module _ (laws : CaughtListFollows) (l : Layout) (a : SourceRunning) (b : Runnin
         stands1 : Stands l a.program at (handling e c) w1 s1
         stands1 = entered_stands l a.program at c w s e stands rests front laws
 
+        run : SourceResult A
+        run = source_run_unexpected a types kept kept.unexpected_handler (handling e c) w1
+
         handled : SourceResult A
         handled = source_while_handled a e c (source_run_unexpected a types kept kept.unexpected_handler) w1
 
     -- however what is under a specification comes out
-    pub extent_out : (at : Places) (k : ℕ) (w : SourceWorld) (s : State) (n : ℕ) (x : SourceResult A) (y : Result B) → Alike l a.program at k (guarded_by (specification types) c) w s agree x y
-        → Fares a.program n (guarded_by (specification types) c) w x
+    pub extent_out : (at : Places) (k : ℕ) (w : SourceWorld) (s : State) → Stands l a.program at c w s → (x : SourceResult A) (y : Result B) → Alike l a.program at k (guarded_by (specification types) c) w s agree x y
+        → Fares a.program w.last_number (guarded_by (specification types) c) w x
         → Alike l a.program at k c w s agree (after_extent a types c x) (watched_limit b numbers (context_of w.open_calls c) y)
-    extent_out at k w s n (source_done u w2) y (v, s2, is, (h, z)) fares =
+    extent_out at k w s stands (source_done u w2) y (v, s2, is, (h, z)) fares =
         (v, s2, ap (watched_limit b numbers (context_of w.open_calls c)) is, (follows_outside l a.program (specification types) at k w s c w2 s2 h, z))
-    extent_out at k w s n (source_stopped (thrown e) w2) y (s2, is, h) fares =
+    extent_out at k w s stands (source_stopped (thrown e) w2) y (s2, is, h) fares =
         let inside = guarded_by (specification types) c in
         let standing = stands_outside l a.program h.places (specification types) (with_travelling e c) w2 s2 h.stands in
         let x = after_extent {A = A} a types c (source_stopped (thrown e) w2) in
@@ -267,12 +288,13 @@ module _ (laws : CaughtListFollows) (l : Layout) (a : SourceRunning) (b : Runnin
             let t = source_type_at w2 e in
             let safe = subst (λ z. source_dooms t (cond (not z) (Some (specification types)) (find (source_stops a.program t) c.guards)) ≡ false) said fares.1.safe in
             let x = source_unexpected {A = A} a types e c w2 in
-            alike_on l a.program agree at k c (with_travelling e (guarded_by (specification types) c)) w s w2 s2 h x (watched_unexpected b numbers e (context_of w.open_calls c) s2)
-            (subst (λ q. Alike l a.program h.places k c w2 s2 agree x (watched_unexpected b numbers e (context_of q c) s2)) h.open_calls
-            (unexpected_out h.places k w2 s2 e standing fares.1.raised.rests fares.1.raised.front (typed_is_native (source_exception_at w2 e) safe)))
-    extent_out at k w s n (source_stopped (cancelled q) w2) y (s2, is, h) fares =
+            alike_since l a.program agree at k c (with_travelling e (guarded_by (specification types) c)) w s w2 s2 h x (watched_unexpected b numbers e (context_of w.open_calls c) s2)
+            (subst (λ q. Alike l a.program h.places k c w s2 agree x (watched_unexpected b numbers e (context_of q c) s2)) h.open_calls
+            (unexpected_out h.places k w w2 s2 e standing fares.1.raised.rests fares.1.raised.front (typed_is_native (source_exception_at w2 e) safe)
+            (left_newly l a.program at k c w s stands e (with_travelling e (guarded_by (specification types) c)) w2 s2 h fares.1.known)))
+    extent_out at k w s stands (source_stopped (cancelled q) w2) y (s2, is, h) fares =
         (s2, ap (watched_limit b numbers (context_of w.open_calls c)) is, follows_outside l a.program (specification types) at k w s c w2 s2 h)
-    extent_out at k w s n (source_stopped undefined w2) y h fares = tt
-    extent_out at k w s n (source_stopped (ended q) w2) y (s2, is, h) fares = (s2, ap (watched_limit b numbers (context_of w.open_calls c)) is, h)
-    extent_out at k w s n (source_stopped out_of_turns w2) y (s2, is, h) fares = (s2, ap (watched_limit b numbers (context_of w.open_calls c)) is, h)
-    extent_out at k w s n (source_stopped deep w2) y (s2, is, h) fares = (s2, ap (watched_limit b numbers (context_of w.open_calls c)) is, h)
+    extent_out at k w s stands (source_stopped undefined w2) y h fares = tt
+    extent_out at k w s stands (source_stopped (ended q) w2) y (s2, is, h) fares = (s2, ap (watched_limit b numbers (context_of w.open_calls c)) is, h)
+    extent_out at k w s stands (source_stopped out_of_turns w2) y (s2, is, h) fares = (s2, ap (watched_limit b numbers (context_of w.open_calls c)) is, h)
+    extent_out at k w s stands (source_stopped deep w2) y (s2, is, h) fares = (s2, ap (watched_limit b numbers (context_of w.open_calls c)) is, h)

@@ -27,7 +27,7 @@ use Rattle.region_simulation.specs.Stands.{IsMade, IsOfProgram, Stands, context_
 use Rattle.region_simulation.specs.Alike.{Keeps, Follows, Alike}
 use Rattle.region_simulation.specs.Flows.{FlowAgrees}
 use Rattle.region_simulation.specs.Expressions.{source_running}
-use Rattle.region_simulation.proofs.Following.{Agreement, follows_on, alike_less, alike_on, alike_then, reaches_kept}
+use Rattle.region_simulation.proofs.Following.{Agreement, alike_less, alike_on, alike_then, reaches_kept}
 use Rattle.region_simulation.proofs.Storing.{same_number, other_number}
 use Rattle.throw_simulation.specs.Same.{RunAlike}
 use Rattle.throw_simulation.specs.Raises.{CanBeRaised, Never}
@@ -43,8 +43,8 @@ use Rattle.throw_simulation.proofs.Ends.{ends_out, never_on, terminates as termi
 use Rattle.throw_simulation.proofs.Raises.{raises as raises_out, type_same}
 use Rattle.throw_simulation.proofs.New.{newly, new_number, new_unbuilt, full_same, new_on}
 use Rattle.throw_simulation.proofs.Caught.{front_unhandled}
-use Rattle.throw_simulation.proofs.Giving.{without, without_follows}
-use Rattle.throw_simulation.proofs.Kept.{after_keeping, kept_on}
+use Rattle.throw_simulation.proofs.Kept.{after_keeping, kept_on, kept_thrown}
+use Rattle.throw_simulation.proofs.Freeing.{follows_without, unbuilt_rests, without}
 
 -- what is done in the region that a freeing protects
 abbrev freeing : ℕ → Result Flow → Result Flow
@@ -58,36 +58,40 @@ module _ (l : Lowering) (call : Callee → Reference → List SourceArgument →
 
   -- where building exits, the object is freed
   built_or_freed : (t : ObjectType) (e : ℕ) (at : Places) (w : SourceWorld) (s : State) (x : SourceResult ℕ) (y : Result Flow)
-      → s.frame.slots (exception_slot l) ≡ address_word (object_address e) → e ≤ w.last_number → IsUnbuilt e w → Fares l.program 0 c w x
+      → s.frame.slots (exception_slot l) ≡ address_word (object_address e) → e ≤ w.last_number → IsUnbuilt e w
+      → ((o : ℕ) (x : Stood) → at o ≡ Some x → x.base ≡ of_exception e → ⊥) → Fares l.program 0 c w x
       → Alike l.layout l.program at (first_temporary l) c w s (IsBuilt e t) x y
       → Alike l.layout l.program at (first_temporary l) c w s (IsBuilt e t) (source_after_building e x) (freeing (exception_slot l) y)
-  built_or_freed t e at w s (source_done o w2) y slot le unbuilt fares (flow, s2, is, (h, (fl, placed))) =
+  built_or_freed t e at w s (source_done o w2) y slot le unbuilt empty fares (flow, s2, is, (h, (fl, placed))) =
       (normal, s2, ap (freeing (exception_slot l)) is ∙ ap (λ f. done (outwards (outwards f)) s2) fl, (h, (refl, placed)))
-  built_or_freed t e at w s (source_stopped (thrown f) w2) y slot le unbuilt fares (s2, is, h) =
+  built_or_freed t e at w s (source_stopped (thrown f) w2) y slot le unbuilt empty fares (s2, is, h) =
       let d = with_travelling f c in
-      let g = without_follows l.layout l.program h.places e (Free e) (first_temporary l) d w2 s2 h.stands in
+      let yet = fares.0.unbuilt e le unbuilt in
+      let resting = unbuilt_rests l.layout l.program h.places d w2 s2 e h.stands yet.1 in
+      let g = follows_without l.layout l.program h.places e (Free e) at (first_temporary l) w s d w2 s2 resting.0 resting.1 (λ o z lt there base. empty o z there base) h refl in
       let outwards_on : Flow → State → Result Flow = (λ flow. pure (outwards flow)) in
       let same_kept : same_type (type_at s2.world f) (type_at (freed e s2.world) f) ≡ true =
       ap₂ same_type (type_same l.layout l.program h.places d w2 s2 h.stands f)
       (type_same l.layout l.program g.places d (without l.layout l.program h.places e (Free e) w2) (record s2 { world = freed e s2.world }) g.stands f ∙
-      ap numbered (removed_type w2 e f (Free e) (fares.0.unbuilt e le unbuilt))) ∙ same_itself (numbered (source_type_at w2 f)) in
+      ap numbered (removed_type w2 e f (Free e) yet)) ∙ same_itself (numbered (source_type_at w2 f)) in
       let address : exception_in_slot s2.frame (exception_slot l) ≡ e = ap (λ x. exception_of (address_in x)) (h.keeps.slots (exception_slot l) (omega arith) ∙ slot) in (
         record s2 { world = freed e s2.world },
         ap (freeing (exception_slot l)) is ∙ ap (λ n. continued (still (same_type (type_at s2.world f) (type_at (freed n s2.world) f)) f (record s2 { world = freed n s2.world })) outwards_on) address ∙
             ap (λ z. continued (still z f (record s2 { world = freed e s2.world })) outwards_on) same_kept,
-        follows_on l.layout l.program at (first_temporary l) w s d w2 s2 d (without l.layout l.program h.places e (Free e) w2) _ h g,
+        g,
       )
-  built_or_freed t e at w s (source_stopped (cancelled n) w2) y slot le unbuilt fares (s2, is, h) =
-      let g = without_follows l.layout l.program h.places e (Free e) (first_temporary l) c w2 s2 h.stands in
+  built_or_freed t e at w s (source_stopped (cancelled n) w2) y slot le unbuilt empty fares (s2, is, h) =
+      let resting = unbuilt_rests l.layout l.program h.places c w2 s2 e h.stands (fares.unbuilt e le unbuilt).1 in
+      let g = follows_without l.layout l.program h.places e (Free e) at (first_temporary l) w s c w2 s2 resting.0 resting.1 (λ o z lt there base. empty o z there base) h refl in
       let address : exception_in_slot s2.frame (exception_slot l) ≡ e = ap (λ x. exception_of (address_in x)) (h.keeps.slots (exception_slot l) (omega arith) ∙ slot) in (
         record s2 { world = freed e s2.world },
         ap (freeing (exception_slot l)) is ∙ ap (λ q. stopped (cancelled n) (record s2 { world = freed q s2.world })) address,
-        follows_on l.layout l.program at (first_temporary l) w s c w2 s2 c (without l.layout l.program h.places e (Free e) w2) _ h g,
+        g,
       )
-  built_or_freed t e at w s (source_stopped undefined w2) y slot le unbuilt fares h = tt
-  built_or_freed t e at w s (source_stopped (ended x) w2) y slot le unbuilt fares (s2, is, h) = (s2, ap (freeing (exception_slot l)) is, h)
-  built_or_freed t e at w s (source_stopped out_of_turns w2) y slot le unbuilt fares (s2, is, h) = (s2, ap (freeing (exception_slot l)) is, h)
-  built_or_freed t e at w s (source_stopped deep w2) y slot le unbuilt fares (s2, is, h) = (s2, ap (freeing (exception_slot l)) is, h)
+  built_or_freed t e at w s (source_stopped undefined w2) y slot le unbuilt empty fares h = tt
+  built_or_freed t e at w s (source_stopped (ended x) w2) y slot le unbuilt empty fares (s2, is, h) = (s2, ap (freeing (exception_slot l)) is, h)
+  built_or_freed t e at w s (source_stopped out_of_turns w2) y slot le unbuilt empty fares (s2, is, h) = (s2, ap (freeing (exception_slot l)) is, h)
+  built_or_freed t e at w s (source_stopped deep w2) y slot le unbuilt empty fares (s2, is, h) = (s2, ap (freeing (exception_slot l)) is, h)
 
   -- an object that is built is kept and raised
   abbrev threw : ObjectType → Context → State → Result Flow
@@ -102,7 +106,7 @@ module _ (l : Lowering) (call : Callee → Reference → List SourceArgument →
       let w2 = after_keeping l.layout l.program at c w s stands e o t placed in
       let after : ℕ → State = (λ n. record s { world = kept n (type_number t) (destructor_of l.program t) s.world }) in
       let stands2 = kept_on l.layout l.program at c w s stands e o t placed known in
-      let can : CanBeRaised c w2 e = record { made = stands.made o (record { base = of_exception e; type = t }) placed; rests = rests; front = front_unhandled e c.handled unhandled } in
+      let can : CanBeRaised c w2 e = record { made = (stands.made o (record { base = of_exception e; type = t }) placed).0; rests = rests; front = front_unhandled e c.handled unhandled } in
       let address : exception_in_slot s.frame (exception_slot l) ≡ e = ap (λ x. exception_of (address_in x)) slot in
       let h = follows_changed l.layout l.program at k c w w2 s (after e).world refl refl refl stands2 in
       subst (λ n. Alike l.layout l.program at k c w s agree (raise_exception {A = A} a e c w2)
@@ -111,7 +115,7 @@ module _ (l : Lowering) (call : Callee → Reference → List SourceArgument →
       (continued (continued (raise {A = Unit {0}} b e ctx (after e)) (λ u. pure normal)) (followed (pure normal)))
       (never_on l.layout a b same agree at k c w2 (after e) (raise_exception {A = A} a e c w2) (continued (raise {A = Unit {0}} b e ctx (after e)) (λ u. pure normal)) (followed (pure normal))
       (never_on l.layout a b same Never at k c w2 (after e) (raise_exception {A = A} a e c w2) (raise {A = Unit {0}} b e ctx (after e)) (λ u. pure normal)
-      (raises_out l.layout a b same laws A (Unit {0}) at c w2 (after e) stands2 e can Never k))))
+      (raises_out l.layout a b same laws A (Unit {0}) at c w2 (after e) stands2 e can (kept_thrown l.layout l.program at c w s stands e o t placed) Never k))))
 
   -- an exception object is made, then built, kept and raised
   module _ (own : Option ℕ) (v : SourceFrame) (t : ObjectType) (build : SourceAction ℕ) (rs : List Region) (known : IsOfProgram l.program t) (fares : FaresIn l.program c build) (builds : BuildsAlike l own b v c t build rs)
@@ -164,10 +168,10 @@ module _ (l : Lowering) (call : Callee → Reference → List SourceArgument →
     }
 
     nothing_there : (o : ℕ) (x : Stood) → at o ≡ Some x → x.base ≡ of_exception e → ⊥
-    nothing_there o x is base = let le = subst (IsMade s.world.calls w.last_number) base (stands.made o x is) in omega (arith, le)
+    nothing_there o x is base = let le = (subst (IsMade s.world.calls w.last_number w.live) base (stands.made o x is)).0 in omega (arith, le)
 
     unbuilt : IsUnbuilt e made
-    unbuilt i o u handlers there = new_unbuilt w (w.last_number) source_building tt stands.sound.live i o u handlers there
+    unbuilt = new_unbuilt w (Make e) stands.sound.live
 
     built : Alike l.layout l.program at (first_temporary l) c made s2 (IsBuilt e t) (build made) (regions b (regions_from rs) ctx s2)
     built =
@@ -182,7 +186,7 @@ module _ (l : Lowering) (call : Callee → Reference → List SourceArgument →
         (source_continued (source_after_building e (build made)) (λ o. keep e o >> raise_exception a e c)) (regions b (regions_from rest) ctx s2) (omega (arith, low))
         (alike_then l.layout l.program (IsBuilt e t) agree at (first_temporary l) c made s2 (source_after_building e (build made))
         (freeing (exception_slot l) (regions b (regions_from rs) ctx s2)) (λ o. keep e o >> raise_exception a e c) (followed (threw t ctx))
-        (built_or_freed t e at made s2 (build made) (regions b (regions_from rs) ctx s2) slot (omega arith) unbuilt (fares 0 made (omega arith) (orderly_sound c made made_stands.sound)) built)
+        (built_or_freed t e at made s2 (build made) (regions b (regions_from rs) ctx s2) slot (omega arith) unbuilt nothing_there (fares 0 made (omega arith) (orderly_sound c made made_stands.sound)) built)
         (λ o flow w3 s3 h (fl, placed).
         subst (λ f. Alike l.layout l.program h.places (first_temporary l) c w3 s3 agree ((keep e o >> raise_exception a e c) w3) (followed (threw t ctx) f s3)) (sym fl)
         (subst (λ n. Alike l.layout l.program h.places (first_temporary l) c w3 s3 agree ((keep e o >> raise_exception a e c) w3) (threw t (context_of n c) s3)) h.open_calls

@@ -18,12 +18,12 @@ use Rattle.region_simulation.specs.Places.{Places}
 use Rattle.region_simulation.specs.Stands.{clause_of, context_of, Stands}
 use Rattle.region_simulation.specs.Alike.{Alike}
 use Rattle.region_simulation.specs.Flows.{FlowAgrees, InScope, DoesAlike}
-use Rattle.region_simulation.proofs.Following.{alike_on}
 use Rattle.region_simulation.proofs.Leaving.{follows_forgetting, scope_left}
 use Rattle.region_simulation.proofs.Flowing.{alike_after, outwards_agrees, single}
 use Rattle.throw_simulation.specs.Tries.{CanBeCaught, CatchesAlike, TriesAlike}
 use Rattle.throw_simulation.proofs.Standing.{stands_guarded, stands_outside}
 use Rattle.throw_simulation.proofs.Barriers.{follows_outside}
+use Rattle.throw_simulation.proofs.Since.{alike_since, left_newly}
 
 module _ (l : Lowering) (own : Option ℕ) (gives : Bool) (b : Running) (v : SourceFrame) (c : SourceContext) (n i d : ℕ) (lt : i < d) (clauses : List Clause) (cs : Clauses)
     (act : SourceAction SourceFlow) (rs : List Region) (handled : ℕ → SourceAction SourceFlow) (fresh : CanBeCaught (guarded_by (try_block clauses) c) act)
@@ -62,9 +62,10 @@ module _ (l : Lowering) (own : Option ℕ) (gives : Bool) (b : Running) (v : Sou
       let g = follows_forgetting l.layout l.program at k inside w s (with_travelling e inside) w2 s2 h in
       let standing = stands_outside l.layout l.program g.places (try_block clauses) (with_travelling e c) w2 s2 g.stands in
       subst (λ z. Alike l.layout l.program at k c w s (FlowAgrees l gives i (d + 1)) (handled e w2) z) (sym (ap (after_try (caught b cs ctx)) same))
-      (alike_on l.layout l.program (FlowAgrees l gives i (d + 1)) at k c (with_travelling e inside) w s w2 s2 g (handled e w2) (caught b cs ctx e s2)
-      (subst (λ m. Alike l.layout l.program g.places k c w2 s2 (FlowAgrees l gives i (d + 1)) (handled e w2) (caught b cs (context_of m c) e s2)) h.open_calls
-      (catches e g.places w2 s2 standing (scope_left l own v n at w s inside (with_travelling e inside) w2 s2 stands_inside h scope) (record { rests = comes.rests; front = comes.front }))))
+      (alike_since l.layout l.program (FlowAgrees l gives i (d + 1)) at k c (with_travelling e inside) w s w2 s2 g (handled e w2) (caught b cs ctx e s2)
+      (subst (λ m. Alike l.layout l.program g.places k c w s2 (FlowAgrees l gives i (d + 1)) (handled e w2) (caught b cs (context_of m c) e s2)) h.open_calls
+      (catches e g.places w w2 s2 standing (scope_left l own v n at w s inside (with_travelling e inside) w2 s2 stands_inside h scope) (record { rests = comes.0.rests; front = comes.0.front })
+      (left_newly l.layout l.program at k c w s stands e (with_travelling e inside) w2 s2 g comes.1))))
   tried (source_stopped (cancelled q) w2) is y (s2, same, h) = (s2, ap (after_try (caught b cs ctx)) same, follows_outside l.layout l.program (try_block clauses) at k w s c w2 s2 h)
   tried (source_stopped undefined w2) is y h = tt
   tried (source_stopped (ended x) w2) is y (s2, same, h) = (s2, ap (after_try (caught b cs ctx)) same, h)

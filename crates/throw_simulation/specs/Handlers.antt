@@ -20,6 +20,7 @@ use Rattle.region_simulation.specs.Stands.{Stands, context_of}
 use Rattle.region_simulation.specs.Alike.{Alike}
 use Rattle.region_simulation.specs.Flows.{FlowAgrees}
 use Rattle.throw_simulation.specs.Same.{RunAlike}
+use Rattle.throw_simulation.specs.Left.{CanBeLeft}
 use Rattle.throw_simulation.specs.Barred.{StaysInside}
 use Rattle.throw_simulation.specs.Fares.{CallsFare}
 use Rattle.throw_simulation.specs.Scopes.{Any}
@@ -44,12 +45,13 @@ EmptyDestructor l a b =
     → Alike l a.program at k c w s Any (a.call (destructor 0) this [] c w) (empty_call b (context_of w.open_calls c) s)
 
 -- What is done while an exception is handled, and then its leaving: it is given back where no handler of it is left and it does not travel
--- again.
+-- again. What follows upon an earlier world still does.
 abbrev pub HandlersEndAlike : Type 0
 HandlersEndAlike =
     (l : Lowering) (gives : Bool) (i d : ℕ) → i < d → (a : SourceRunning) (b : Running) → RunAlike l.layout a b → CallsFare a
     → EmptyDestructor l.layout a b
-    → (at : Places) (k : ℕ) (c : SourceContext) (w : SourceWorld) (s : State) (e : ℕ) → Stands l.layout a.program at (handling e c) w s → contains c.travelling e ≡ false
+    → (at : Places) (k : ℕ) (c : SourceContext) (earlier w : SourceWorld) (s : State) (e : ℕ) → Stands l.layout a.program at (handling e c) w s → contains c.travelling e ≡ false
+    → CanBeLeft (contains c.handled e) e at earlier w
     → (act : SourceContext → SourceAction SourceFlow) (body : Region)
     → Alike l.layout a.program at k (handling e c) w s (FlowAgrees l gives i (d + 1)) (act (handling e c) w) (watched b body (context_of w.open_calls c) s)
-    → Alike l.layout a.program at k c w s (FlowAgrees l gives i d) (while_handled a e c act w) (watched b (protect body leave_handler) (context_of w.open_calls c) s)
+    → Alike l.layout a.program at k c earlier s (FlowAgrees l gives i d) (while_handled a e c act w) (watched b (protect body leave_handler) (context_of w.open_calls c) s)

@@ -6,6 +6,7 @@ pub mod Barred
 pub mod Scopes
 pub mod Handlers
 pub mod Unbuilt
+pub mod Left
 pub mod Throws
 pub mod Copies
 pub mod Operands

@@ -15,6 +15,7 @@ use Rattle.region_forms.specs.Layout.{Layout}
 use Rattle.region_forms.specs.Outcome.{State}
 use Rattle.region_forms.specs.Ending.{Running, raise}
 use Rattle.region_forms.specs.LowerExpression.{Lowering, first_temporary, lower}
+use Rattle.region_simulation.specs.Lives.{CanBeThrown}
 use Rattle.region_simulation.specs.Places.{Places}
 use Rattle.region_simulation.specs.Reach.{KindsFit}
 use Rattle.region_simulation.specs.Stands.{IsSound, Stands, context_of}
@@ -24,10 +25,10 @@ use Rattle.region_simulation.specs.Evaluates.{Evaluates}
 use Rattle.region_simulation.specs.Expressions.{source_running, SameBuiltin}
 use Rattle.throw_simulation.specs.Same.{RunAlike}
 
--- where an exception is entered that was made, and has no handler beneath those of others, what is handled and what travels stays sound
+-- where an exception is entered that was made and can be thrown, and has no handler beneath those of others, what is handled and what travels stays sound
 abbrev pub EntriesStaySound : Type 0
 EntriesStaySound =
-    (c : SourceContext) (e last : ℕ) (lives : List Live) → e ≤ last → only_front e c.handled ≡ true → IsSound c last lives → IsSound (handling e c) last lives
+    (c : SourceContext) (e last : ℕ) (lives : List Live) → e ≤ last → CanBeThrown lives e → only_front e c.handled ≡ true → IsSound c last lives → IsSound (handling e c) last lives
 
 -- an exception can be raised: it was made, it does not travel, and if it is handled, its handlers are the newest
 pub record CanBeRaised (c : SourceContext) (w : SourceWorld) (e : ℕ) : Type 0 where
@@ -39,11 +40,11 @@ pub record CanBeRaised (c : SourceContext) (w : SourceWorld) (e : ℕ) : Type 0 
 abbrev pub Never : {A B : Type 0} → A → B → SourceWorld → Places → State → Type 0
 Never a b w at s = ⊥
 
--- it is raised alike
+-- one that is built is raised alike
 abbrev pub RaisesAlike : Type 0
 RaisesAlike =
     (l : Layout) (a : SourceRunning) (b : Running) → RunAlike l a b → (at : Places) (k : ℕ) (c : SourceContext) (w : SourceWorld) (s : State) (e : ℕ)
-    → Stands l a.program at c w s → CanBeRaised c w e
+    → Stands l a.program at c w s → CanBeRaised c w e → CanBeThrown w.live e
     → Alike l a.program at k c w s Never (raise_exception {A = ℤ} a e c w) (raise {A = ℤ} b e (context_of w.open_calls c) s)
 
 -- the two built-in functions that may raise or terminate do the same

@@ -1,5 +1,6 @@
 -- That try blocks do the same (ISO/IEC 14882:2003, 15.3).
-use Rattle.std.specs.Prelude.{◌≡◌, ℕ, ◌+◌, ◌<◌, Bool, List, [], ◌∷◌, map, Option}
+use Rattle.std.specs.Prelude.{◌≡◌, ℕ, ◌+◌, ◌<◌, ◌⊎◌, Bool, true, List, [], ◌∷◌, map, Option}
+use Rattle.scope_rules.specs.Class.{contains}
 use Rattle.scope_rules.specs.World.{World as SourceWorld}
 use Rattle.scope_rules.specs.Context.{Context as SourceContext, Clause, try_block, guarded_by, with_travelling}
 use Rattle.scope_rules.specs.Frame.{Frame as SourceFrame}
@@ -17,16 +18,19 @@ use Rattle.region_simulation.specs.Stands.{clause_of, context_of, IsSound, Stand
 use Rattle.region_simulation.specs.Alike.{Alike}
 use Rattle.region_simulation.specs.Flows.{FlowAgrees, InScope, DoesAlike}
 use Rattle.throw_simulation.specs.Handlers.{CanBeEntered}
+use Rattle.throw_simulation.specs.Left.{CanBeLeft}
 
--- an exception that comes out of an action can be entered, wherever what is live, handled or travelling was made
+-- an exception that comes out of an action can be entered, and is handled outside or was made since, wherever what is live, handled or travelling was made
 abbrev pub CanBeCaught : {A : Type 0} → SourceContext → SourceAction A → Type 0
-CanBeCaught c act = (w w2 : SourceWorld) (e : ℕ) → IsSound c w.last_number w.live → act w ≡ stopped (thrown e) w2 → CanBeEntered c e
+CanBeCaught c act = (w w2 : SourceWorld) (e : ℕ) → IsSound c w.last_number w.live → act w ≡ stopped (thrown e) w2
+    → CanBeEntered c e × ((contains c.handled e ≡ true) ⊎ (w.last_number < e))
 
--- clauses do with an exception that comes out, and travels, what an action does
+-- clauses do with an exception that comes out, and travels, what an action does; what follows upon an earlier world still does
 abbrev pub CatchesAlike : Lowering → (own : Option ℕ) → (gives : Bool) → Running → SourceFrame → SourceContext → (n i d : ℕ) → (ℕ → SourceAction SourceFlow) → Clauses → Type 0
 CatchesAlike l own gives b v c n i d handled cs =
-    (e : ℕ) (at : Places) (w : SourceWorld) (s : State) → Stands l.layout l.program at (with_travelling e c) w s → InScope l own n at v s → CanBeEntered c e
-    → Alike l.layout l.program at (variable_slot l n) c w s (FlowAgrees l gives i d) (handled e w) (watched_caught b cs (context_of w.open_calls c) e s)
+    (e : ℕ) (at : Places) (earlier w : SourceWorld) (s : State) → Stands l.layout l.program at (with_travelling e c) w s → InScope l own n at v s → CanBeEntered c e
+    → CanBeLeft (contains c.handled e) e at earlier w
+    → Alike l.layout l.program at (variable_slot l n) c earlier s (FlowAgrees l gives i d) (handled e w) (watched_caught b cs (context_of w.open_calls c) e s)
 
 -- so a try block does the same, over whatever is done in it and whatever is done with what comes out
 abbrev pub TriesAlike : Type 0
