@@ -1,148 +1,201 @@
--- The linear code of a region reaches where the region does.
-use Rattle.std.proofs.Common.{◌≡◌, refl, subst, arith, ℕ, zero, suc, ◌+◌, ◌≤◌, Bool, true, false, List, [], ◌∷◌, ◌++◌, length, Some, if◌then◌else◌}
-use Rattle.std.specs.Prelude.{⊤, map, slice_get}
-use Rattle.cxx_ast.specs.Limits.{most_class_bytes}
-use Rattle.region_forms.specs.Form.{Slot, Op, Cleanup, destroy_scope, destroy_part, free_object, leave_handler, Region, seq, op, branch, loop, protect, catch, limit, barrier, leave_region, RegionList, no_regions, region_then, Clauses, no_clauses, clause_then, RegionFunction}
+-- What holds of all operations of a region, and of those that code adds to them, holds of all operations of its linear code.
+use Rattle.std.proofs.Common.{◌≡◌, refl, subst, ℕ, zero, suc, ◌+◌, Bool, true, false, List, [], ◌∷◌, ◌++◌, length, Some, if◌then◌else◌}
+use Rattle.std.specs.Prelude.{⊤, ◌||◌, map, slice_get, ℤ, pos}
+use Rattle.cxx_ast.specs.declared.expression.BinaryOp.TheVariants.{NotEqual}
+use Rattle.region_forms.specs.Form.{through, Value, number, load, binary, Op, store, bind, leave, destroy, Cleanup, destroy_scope, destroy_part, free_object, leave_handler, Region, seq, op, branch, loop, protect, catch, limit, barrier, leave_region, RegionList, no_regions, region_then, Clauses, no_clauses, clause_then}
 use Rattle.region_forms.specs.Guard.{types_of}
-use Rattle.region_forms.specs.LowerProgram.{regions_of}
-use Rattle.linear_forms.specs.Linear.{LinearOp, jump, return, FunctionCode}
-use Rattle.linear_forms.specs.Tables.{Cover, bare, unpadded, list_of}
+use Rattle.linear_forms.specs.Linear.{LinearOp, plain, label, jump, jump_zero, pad, jump_filter, free, resume, unexpected}
+use Rattle.linear_forms.specs.Tables.{Cover, bare, list_of}
 use Rattle.linear_forms.specs.Sites.{Placed}
 use Rattle.linear_forms.specs.Distinct.{distinct}
 use Rattle.linear_forms.specs.Exits.{Exit, exit_to, inner, beyond, outs_of, crosses, name_of, first_label}
 use Rattle.linear_forms.specs.Emission.{Emitting, quiet, put, guarded, cleaned, way_place, set_way, leave_code, way_tests, pad_cleanup, exit_cleanup, protect_exit, no_way_out, exit_code, filters_of}
 use Rattle.linear_forms.specs.Code.{labels, labels_clauses, clause_tests, region_code, all_code, clauses_code}
-use Rattle.linear_forms.specs.Frame.{code_slots}
-use Rattle.linear_forms.specs.Unit.{emitting, placed_code, function_code}
-use Rattle.object_reach.specs.Rooms.{Reach, HasRoom}
-use Rattle.object_reach.specs.Reaches.{Needs, OpReaches, CleanupReaches, RegionReaches, RegionsReach, ClausesReach, LinearReaches}
-use Rattle.object_reach.specs.Givens.{needs_of}
-use Rattle.object_reach.specs.Laws.{CodeReachesInside}
-use Rattle.object_reach.proofs.Programs.{regions_reach_inside, pads_known}
+use Rattle.linear_forms.specs.Frame.{has_pad, some_has_pad}
+use Rattle.object_reach.specs.Everywhere.{Said, CleanupAll, RegionAll, RegionsAll, ClausesAll}
 
-module _ (needs : Needs) (reach : Reach) (slots : List Slot) (em : Emitting) (object : most_class_bytes ≤ reach em.object) (way : HasRoom reach slots (way_place em) 4) where
-  -- all operations of code reach
+-- What is to be shown of operations of linear code: of those of regions by what is said of them, and of those that code adds, some of which
+-- only a function with pads has.
+pub record Shows (said : Said) (P : LinearOp → Type 0) (em : Emitting) (padded : Type 0) : Type 0 where
+  pub operation : (o : Op) → said.operation o → P (plain o)
+  pub leaves : P (plain leave)
+  pub test : (v : Value) (l : ℕ) → said.test v → P (jump_zero v l)
+  pub caught : (s : ℕ) → padded → said.caught s → P (plain (bind s (record { root = through em.object; offset = 0 })))
+  pub freed : (s : ℕ) → said.freed s → P (free s)
+  pub way_set : (n : ℕ) → padded → P (plain (store (way_place em) (number (pos n))))
+  pub way_test : (n l : ℕ) → padded → P (jump_zero (binary NotEqual (load (way_place em)) (number (pos n))) l)
+  pub labels : (l : ℕ) → P (label l)
+  pub jumps : (l : ℕ) → P (jump l)
+  pub pads : padded → P (pad em.object em.selector)
+  pub filters : (n : ℤ) (l : ℕ) → padded → P (jump_filter em.selector n l)
+  pub resumes : padded → P (resume em.object)
+  pub passes : padded → P (unexpected em.object em.selector)
+
+left_is : (a b : Bool) → a ≡ true → (a || b) ≡ true
+left_is true b e = refl
+left_is false b e = absurd (cc e)
+
+right_is : (a b : Bool) → b ≡ true → (a || b) ≡ true
+right_is true b e = refl
+right_is false b e = e
+
+module _ (said : Said) (P : LinearOp → Type 0) (em : Emitting) (padded : Type 0) (s : Shows said P em padded) where
   abbrev pub Placeds : List Placed → Type 0
   Placeds [] = ⊤
-  Placeds (x ∷ xs) = LinearReaches needs reach slots x.op × Placeds xs
+  Placeds (x ∷ xs) = P x.op × Placeds xs
 
-  both_placed : (xs ys : List Placed) → Placeds xs → Placeds ys → Placeds (xs ++ ys)
+  pub both_placed : (xs ys : List Placed) → Placeds xs → Placeds ys → Placeds (xs ++ ys)
   both_placed [] ys a b = b
   both_placed (x ∷ xs) ys a b = (a.0, both_placed xs ys a.1 b)
 
-  ways_placed : (xs : List Exit) (ns : List ℕ) → Placeds (way_tests em xs ns)
-  ways_placed xs [] = tt
-  ways_placed xs (n ∷ ns) = ((way, tt), ways_placed xs ns)
+  -- an exit by way of a cleanup is one of a function with pads
+  abbrev pub Crosses : List Exit → Type 0
+  Crosses xs = (n : ℕ) → crosses n xs ≡ true → padded
 
-  no_way_placed : (ns : List ℕ) → Placeds (no_way_out em ns)
-  no_way_placed [] = tt
-  no_way_placed (n ∷ ns) = ((way, tt), tt)
+  crosses_on : (xs : List Exit) (l : ℕ) → Crosses xs → Crosses (exit_to l ∷ xs)
+  crosses_on xs l h zero e = absurd (cc e)
+  crosses_on xs l h (suc n) e = h n e
 
-  leave_placed : (n : ℕ) (xs : List Exit) → Placeds (leave_code em n xs)
-  leave_placed n xs = by (crosses n xs)
+  ways_placed : padded → (xs : List Exit) (ns : List ℕ) → Placeds (way_tests em xs ns)
+  ways_placed w xs [] = tt
+  ways_placed w xs (n ∷ ns) = (s.way_test (name_of n xs) (first_label n xs) w, ways_placed w xs ns)
+
+  no_way_placed : padded → (ns : List ℕ) → Placeds (no_way_out em ns)
+  no_way_placed w [] = tt
+  no_way_placed w (n ∷ ns) = (s.way_set 0 w, tt)
+
+  leave_placed : (n : ℕ) (xs : List Exit) → Crosses xs → Placeds (leave_code em n xs)
+  leave_placed n xs h = by (crosses n xs) refl
     where
-      by : (b : Bool) → Placeds (if b then set_way em (name_of n xs) ∷ quiet (jump (first_label n xs)) ∷ [] else quiet (jump (first_label n xs)) ∷ [])
-      by true = ((way, tt), (tt, tt))
-      by false = (tt, tt)
+      by : (b : Bool) → crosses n xs ≡ b → Placeds (if b then set_way em (name_of n xs) ∷ quiet (jump (first_label n xs)) ∷ [] else quiet (jump (first_label n xs)) ∷ [])
+      by true e = (s.way_set (name_of n xs) (h n e), (s.jumps (first_label n xs), tt))
+      by false e = (s.jumps (first_label n xs), tt)
 
-  put_placed : (o : Op) (c : Cover) → OpReaches needs reach slots o → LinearReaches needs reach slots (put o c).op
-  put_placed o c h = h
+  cleanup_placed : (cl : Cleanup) → CleanupAll said cl → P (pad_cleanup cl).op
+  cleanup_placed (destroy_scope q d) h = s.operation (destroy q d) h
+  cleanup_placed (destroy_part q d) h = s.operation (destroy q d) h
+  cleanup_placed (free_object x) h = s.freed x h
+  cleanup_placed leave_handler h = s.leaves
 
-  cleanup_placed : (cl : Cleanup) → CleanupReaches needs reach slots cl → LinearReaches needs reach slots (pad_cleanup cl).op
-  cleanup_placed (destroy_scope q d) h = h
-  cleanup_placed (destroy_part q d) h = h
-  cleanup_placed (free_object s) h = tt
-  cleanup_placed leave_handler h = tt
+  exits_placed : padded → (cl : Cleanup) (c : Cover) (xs : List Exit) (l : ℕ) (outs : List ℕ) → CleanupAll said cl → Placeds (exit_code em (exit_cleanup cl) c xs l outs)
+  exits_placed w (destroy_scope q d) c xs l outs h = both_placed (no_way_out em outs) (quiet (label (l + 2)) ∷ put (destroy q d) c ∷ way_tests em xs outs) (no_way_placed w outs) (s.labels (l + 2), (s.operation (destroy q d) h, ways_placed w xs outs))
+  exits_placed w (destroy_part q d) c xs l outs h = tt
+  exits_placed w (free_object x) c xs l outs h = tt
+  exits_placed w leave_handler c xs l outs h = both_placed (no_way_out em outs) (quiet (label (l + 2)) ∷ put leave c ∷ way_tests em xs outs) (no_way_placed w outs) (s.labels (l + 2), (s.leaves, ways_placed w xs outs))
 
-  exits_placed : (cl : Cleanup) (c : Cover) (xs : List Exit) (l : ℕ) (outs : List ℕ) → CleanupReaches needs reach slots cl → Placeds (exit_code em (exit_cleanup cl) c xs l outs)
-  exits_placed (destroy_scope q d) c xs l outs h = both_placed (no_way_out em outs) _ (no_way_placed outs) (tt, (h, ways_placed xs outs))
-  exits_placed (destroy_part q d) c xs l outs h = tt
-  exits_placed (free_object s) c xs l outs h = tt
-  exits_placed leave_handler c xs l outs h = both_placed (no_way_out em outs) _ (no_way_placed outs) (tt, (tt, ways_placed xs outs))
-
-  tests_placed : (l : ℕ) (cs : Clauses) → Placeds (clause_tests em l cs)
-  tests_placed l no_clauses = tt
-  tests_placed l (clause_then t x r cs) = (tt, tests_placed (l + 1) cs)
+  tests_placed : padded → (l : ℕ) (cs : Clauses) → Placeds (clause_tests em l cs)
+  tests_placed w l no_clauses = tt
+  tests_placed w l (clause_then t x r cs) = (s.filters _ l w, tests_placed w (l + 1) cs)
 
   mutual
-    pub region_placed : (c : Cover) (xs : List Exit) (l p : ℕ) (r : Region) → RegionReaches needs reach slots r → Placeds (region_code em c xs l p r)
-    region_placed c xs l p (seq rs) h = both_placed (all_code em c (exit_to l ∷ xs) (l + 1) p rs) _ (all_placed c (exit_to l ∷ xs) (l + 1) p rs h) (tt, tt)
-    region_placed c xs l p (op o) h = (h, tt)
-    region_placed c xs l p (branch v a b) h =
+    pub region_placed : (c : Cover) (xs : List Exit) (l p : ℕ) (r : Region) → Crosses xs → (has_pad r ≡ true → padded) → RegionAll said r → Placeds (region_code em c xs l p r)
+    region_placed c xs l p (seq rs) x up h =
+        both_placed (all_code em c (exit_to l ∷ xs) (l + 1) p rs) (quiet (label l) ∷ []) (all_placed c (exit_to l ∷ xs) (l + 1) p rs (crosses_on xs l x) up h) (s.labels l, tt)
+    region_placed c xs l p (op o) x up h = (s.operation o h, tt)
+    region_placed c xs l p (branch v a b) x up h =
         let first : List Placed = region_code em c (exit_to l ∷ xs) (l + 2) (p + 1) a in
-        let second : List Placed = region_code em c (exit_to l ∷ xs) (l + 2 + labels a) (p + 3 + length first) b in
-        (h.0, both_placed first _ (region_placed c (exit_to l ∷ xs) (l + 2) (p + 1) a h.1) (tt, (tt, both_placed second _ (region_placed c (exit_to l ∷ xs) (l + 2 + labels a) (p + 3 + length first) b h.2) (tt, tt))))
-    region_placed c xs l p (loop v a) h =
-        (tt, (h.0, both_placed (region_code em c (exit_to l ∷ xs) (l + 2) (p + 2) a) _ (region_placed c (exit_to l ∷ xs) (l + 2) (p + 2) a h.1) (tt, (tt, tt))))
-    region_placed c xs l p (protect r cl) h =
+        let second : List Placed = region_code em c (exit_to l ∷ xs) (l + 2 + labels a) (p + 3 + length first) b in (
+          s.test v (l + 1) h.0,
+          both_placed first (quiet (jump l) ∷ quiet (label (l + 1)) ∷ (second ++ quiet (label l) ∷ [])) (region_placed c (exit_to l ∷ xs) (l + 2) (p + 1) a (crosses_on xs l x) (λ e. up (left_is (has_pad a) (has_pad b) e)) h.1)
+              (s.jumps l, (s.labels (l + 1), both_placed second (quiet (label l) ∷ []) (region_placed c (exit_to l ∷ xs) (l + 2 + labels a) (p + 3 + length first) b (crosses_on xs l x) (λ e. up (right_is (has_pad a) (has_pad b) e)) h.2) (s.labels l, tt))),
+        )
+    region_placed c xs l p (loop v a) x up h = (
+      s.labels (l + 1),
+      (
+        s.test v l h.0,
+        both_placed (region_code em c (exit_to l ∷ xs) (l + 2) (p + 2) a) (quiet (jump (l + 1)) ∷ quiet (label l) ∷ []) (region_placed c (exit_to l ∷ xs) (l + 2) (p + 2) a (crosses_on xs l x) up h.1)
+            (s.jumps (l + 1), (s.labels l, tt)),
+      ),
+    )
+    region_placed c xs l p (protect r cl) x up h =
+        let w : padded = up refl in
         let body : List Placed = region_code em (cleaned em (p + 1) c) (protect_exit cl l ∷ xs) (l + 3) (p + 5) r in
         let outs : List ℕ = distinct (beyond (outs_of r)) in (
-          tt,
+          s.jumps (l + 1),
           (
-            tt,
+            s.pads w,
             (
               cleanup_placed cl h.1,
               (
-                tt,
+                s.resumes w,
                 (
-                  tt,
-                  both_placed body _ (region_placed (cleaned em (p + 1) c) (protect_exit cl l ∷ xs) (l + 3) (p + 5) r h.0)
-                      (both_placed (exit_code em (exit_cleanup cl) c xs l outs) _ (exits_placed cl c xs l outs h.1) (tt, tt)),
+                  s.labels (l + 1),
+                  both_placed body (exit_code em (exit_cleanup cl) c xs l outs ++ quiet (label l) ∷ [])
+                      (region_placed (cleaned em (p + 1) c) (protect_exit cl l ∷ xs) (l + 3) (p + 5) r (λ n e. w) (λ e. w) h.0)
+                      (both_placed (exit_code em (exit_cleanup cl) c xs l outs) (quiet (label l) ∷ []) (exits_placed w cl c xs l outs h.1) (s.labels l, tt)),
                 ),
               ),
             ),
           ),
         )
-    region_placed c xs l p (catch r cs) h =
+    region_placed c xs l p (catch r cs) x up h =
+        let w : padded = up refl in
         let tests : List Placed = clause_tests em (l + 2) cs in
         let handlers : List Placed = clauses_code em c (exit_to l ∷ xs) l (l + 2) (l + 2 + length (types_of cs)) (p + 3 + length tests) cs in
         let body : List Placed = region_code em (guarded (p + 1) (filters_of em (types_of cs)) c) (exit_to l ∷ xs) (l + 2 + length (types_of cs) + labels_clauses cs) (p + 4 + length tests + length handlers) r in (
-          tt,
+          s.jumps (l + 1),
           (
-            tt,
-            both_placed tests _ (tests_placed (l + 2) cs) (
-              tt,
-              both_placed handlers _ (clauses_placed c (exit_to l ∷ xs) l (l + 2) (l + 2 + length (types_of cs)) (p + 3 + length tests) cs h.1)
-                  (tt, both_placed body _ (region_placed (guarded (p + 1) (filters_of em (types_of cs)) c) (exit_to l ∷ xs) (l + 2 + length (types_of cs) + labels_clauses cs) (p + 4 + length tests + length handlers) r h.0) (tt, tt)),
+            s.pads w,
+            both_placed tests _ (tests_placed w (l + 2) cs) (
+              s.resumes w,
+              both_placed handlers (quiet (label (l + 1)) ∷ (body ++ quiet (label l) ∷ []))
+                  (clauses_placed c (exit_to l ∷ xs) l (l + 2) (l + 2 + length (types_of cs)) (p + 3 + length tests) cs (crosses_on xs l x) w h.1) (
+                    s.labels (l + 1),
+                    both_placed body (quiet (label l) ∷ [])
+                        (region_placed (guarded (p + 1) (filters_of em (types_of cs)) c) (exit_to l ∷ xs) (l + 2 + length (types_of cs) + labels_clauses cs) (p + 4 + length tests + length handlers) r (crosses_on xs l x) (λ e. w) h.0) (s.labels l, tt),
+                  ),
             ),
           ),
         )
-    region_placed c xs l p (limit r types) h =
-        let body : List Placed = region_code em (guarded (p + 1) (em.filter (list_of types) ∷ []) c) (exit_to l ∷ xs) (l + 3) (p + 7) r in
-        (tt, (tt, (tt, (tt, (tt, (tt, (tt, both_placed body _ (region_placed (guarded (p + 1) (em.filter (list_of types) ∷ []) c) (exit_to l ∷ xs) (l + 3) (p + 7) r h) (tt, tt))))))))
-    region_placed c xs l p (barrier r) h = both_placed (region_code em bare (exit_to l ∷ xs) (l + 1) p r) _ (region_placed bare (exit_to l ∷ xs) (l + 1) p r h) (tt, tt)
-    region_placed c xs l p (leave_region n) h = leave_placed (inner n) xs
+    region_placed c xs l p (limit r types) x up h =
+        let w : padded = up refl in
+        let body : List Placed = region_code em (guarded (p + 1) (em.filter (list_of types) ∷ []) c) (exit_to l ∷ xs) (l + 3) (p + 7) r in (
+          s.jumps (l + 1),
+          (
+            s.pads w,
+            (
+              s.filters (em.filter (list_of types)) (l + 2) w,
+              (
+                s.resumes w,
+                (
+                  s.labels (l + 2),
+                  (
+                    s.passes w,
+                    (
+                      s.labels (l + 1),
+                      both_placed body (quiet (label l) ∷ [])
+                          (region_placed (guarded (p + 1) (em.filter (list_of types) ∷ []) c) (exit_to l ∷ xs) (l + 3) (p + 7) r (crosses_on xs l x) (λ e. w) h) (s.labels l, tt),
+                    ),
+                  ),
+                ),
+              ),
+            ),
+          ),
+        )
+    region_placed c xs l p (barrier r) x up h =
+        both_placed (region_code em bare (exit_to l ∷ xs) (l + 1) p r) (quiet (label l) ∷ []) (region_placed bare (exit_to l ∷ xs) (l + 1) p r (crosses_on xs l x) up h) (s.labels l, tt)
+    region_placed c xs l p (leave_region n) x up h = leave_placed (inner n) xs x
 
-    pub all_placed : (c : Cover) (xs : List Exit) (l p : ℕ) (rs : RegionList) → RegionsReach needs reach slots rs → Placeds (all_code em c xs l p rs)
-    all_placed c xs l p no_regions h = tt
-    all_placed c xs l p (region_then r rs) h =
-        let a : List Placed = region_code em c xs l p r in both_placed a _ (region_placed c xs l p r h.0) (all_placed c xs (l + labels r) (p + length a) rs h.1)
+    all_placed : (c : Cover) (xs : List Exit) (l p : ℕ) (rs : RegionList) → Crosses xs → (some_has_pad rs ≡ true → padded) → RegionsAll said rs → Placeds (all_code em c xs l p rs)
+    all_placed c xs l p no_regions x up h = tt
+    all_placed c xs l p (region_then r rs) x up h =
+        let a : List Placed = region_code em c xs l p r in
+        both_placed a (all_code em c xs (l + labels r) (p + length a) rs) (region_placed c xs l p r x (λ e. up (left_is (has_pad r) (some_has_pad rs) e)) h.0)
+        (all_placed c xs (l + labels r) (p + length a) rs x (λ e. up (right_is (has_pad r) (some_has_pad rs) e)) h.1)
 
-    clauses_placed : (c : Cover) (xs : List Exit) (end first l p : ℕ) (cs : Clauses) → ClausesReach needs reach slots cs → Placeds (clauses_code em c xs end first l p cs)
-    clauses_placed c xs end first l p no_clauses h = tt
-    clauses_placed c xs end first l p (clause_then t x r cs) h =
-        let a : List Placed = region_code em c xs l (p + 2) r in
-        let small = h.0 in
-        (tt, ((refl, omega (arith, small, object)), both_placed a _ (region_placed c xs l (p + 2) r h.1) (tt, clauses_placed c xs end (first + 1) (l + labels r) (p + 3 + length a) cs h.2)))
+    clauses_placed : (c : Cover) (xs : List Exit) (end first l p : ℕ) (cs : Clauses) → Crosses xs → padded → ClausesAll said cs → Placeds (clauses_code em c xs end first l p cs)
+    clauses_placed c xs end first l p no_clauses x w h = tt
+    clauses_placed c xs end first l p (clause_then t y r cs) x w h =
+        let a : List Placed = region_code em c xs l (p + 2) r in (
+          s.labels first,
+          (
+            s.caught y w h.0,
+            both_placed a (quiet (jump end) ∷ clauses_code em c xs end (first + 1) (l + labels r) (p + 3 + length a) cs) (region_placed c xs l (p + 2) r x (λ e. w) h.1)
+                (s.jumps end, clauses_placed c xs end (first + 1) (l + labels r) (p + 3 + length a) cs x w h.2),
+          ),
+        )
 
-  pub ops_reach : (xs : List Placed) → Placeds xs → (place : ℕ) (o : LinearOp) → slice_get (map (λ x. x.op) xs) place ≡ Some o → LinearReaches needs reach slots o
-  ops_reach [] h place o e = absurd (cc e)
-  ops_reach (x ∷ xs) h zero o e = let same : x.op ≡ o = cc e in subst (λ y. LinearReaches needs reach slots y) same h.0
-  ops_reach (x ∷ xs) h (suc place) o e = ops_reach xs h.1 place o e
-
--- a function of the unit is the code of one of the regions' functions
-of_function : (fs : List RegionFunction) (n : ℕ) (g : FunctionCode) → slice_get (map function_code fs) n ≡ Some g → (f : RegionFunction) × (slice_get fs n ≡ Some f) × (function_code f ≡ g)
-of_function [] n g e = absurd (cc e)
-of_function (f ∷ fs) zero g e = (f, refl, cc e)
-of_function (f ∷ fs) (suc n) g e = of_function fs n g e
-
-pub code_reaches_inside : CodeReachesInside
-code_reaches_inside p l typed small n g place o there at =
-    let x = of_function (regions_of p l).functions n g there in
-    let f : RegionFunction = x.0 in
-    let inside = regions_reach_inside p l typed small n f x.1 in
-    let pads = pads_known p l typed small n f x.1 in
-    subst (λ h. slice_get h.ops place ≡ Some o → LinearReaches (needs_of p l) (needs_of p l n) h.slots o) x.2
-    (λ at. ops_reach (needs_of p l) (needs_of p l n) (code_slots f) (emitting f) pads.0 pads.1 (placed_code f)
-    (both_placed (needs_of p l) (needs_of p l n) (code_slots f) (emitting f) pads.0 pads.1 (region_code (emitting f) unpadded [] 0 0 f.body) (quiet (return f.result) ∷ [])
-    (region_placed (needs_of p l) (needs_of p l n) (code_slots f) (emitting f) pads.0 pads.1 unpadded [] 0 0 f.body inside) (tt, tt)) place o at) at
+  pub ops_are : (xs : List Placed) → Placeds xs → (place : ℕ) (o : LinearOp) → slice_get (map (λ x. x.op) xs) place ≡ Some o → P o
+  ops_are [] h place o e = absurd (cc e)
+  ops_are (x ∷ xs) h zero o e = let same : x.op ≡ o = cc e in subst P same h.0
+  ops_are (x ∷ xs) h (suc place) o e = ops_are xs h.1 place o e

@@ -1,10 +1,11 @@
-mod Sizes
-mod Callees
-mod Where
-mod Expressions
-mod Constructed
-mod Statements
-mod Functions
-mod Bodies
-mod Programs
-mod Codes
+pub mod Sizes
+pub mod Callees
+pub mod Where
+pub mod Expressions
+pub mod Constructed
+pub mod Statements
+pub mod Functions
+pub mod Bodies
+pub mod Programs
+pub mod Codes
+pub mod Reaching

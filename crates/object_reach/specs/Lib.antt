@@ -1,4 +1,5 @@
 pub mod Rooms
+pub mod Everywhere
 pub mod Reaches
 pub mod Givens
 pub mod Laws

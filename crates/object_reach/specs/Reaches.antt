@@ -2,9 +2,10 @@
 -- called needs.
 use Rattle.std.specs.Prelude.{⊤, ℕ, ◌+◌, ◌≤◌, List, Option, Some, None}
 use Rattle.cxx_ast.specs.Limits.{most_class_bytes}
-use Rattle.region_forms.specs.Form.{Slot, Callee, defined, builtin, Value, number, load, unary, binary, call_value, Argument, int_argument, address_argument, handler_argument, Arguments, no_arguments, argument_then, Op, evaluate, store, bind, call, construct, destroy, make, throw, rethrow, enter, leave, Cleanup, destroy_scope, destroy_part, free_object, leave_handler, Region, seq, op, branch, loop, protect, catch, limit, barrier, leave_region, RegionList, no_regions, region_then, Clauses, no_clauses, clause_then}
+use Rattle.region_forms.specs.Form.{Slot, Callee, defined, builtin, Value, number, load, unary, binary, call_value, Argument, int_argument, address_argument, handler_argument, Arguments, no_arguments, argument_then, Op, evaluate, store, bind, call, construct, destroy, make, throw, rethrow, enter, leave, Region, RegionList, Clauses}
 use Rattle.linear_forms.specs.Linear.{LinearOp, plain, jump_zero}
 use Rattle.object_reach.specs.Rooms.{Reach, HasRoom}
+use Rattle.object_reach.specs.Everywhere.{Said, RegionAll, RegionsAll, ClausesAll}
 
 -- what each function needs behind the addresses in its slots
 abbrev pub Needs : Type 0
@@ -57,33 +58,23 @@ OpReaches needs reach slots rethrow = ⊤
 OpReaches needs reach slots (enter s) = ⊤
 OpReaches needs reach slots leave = ⊤
 
--- a cleanup
-abbrev pub CleanupReaches : Needs → Reach → List Slot → Cleanup → Type 0
-CleanupReaches needs reach slots (destroy_scope q n) = HasRoom reach slots q (needs n 0)
-CleanupReaches needs reach slots (destroy_part q n) = HasRoom reach slots q (needs n 0)
-CleanupReaches needs reach slots (free_object s) = ⊤
-CleanupReaches needs reach slots leave_handler = ⊤
+-- what is said of a region: all of its operations reach inside, and a handler's slot holds the address of an exception object
+abbrev pub reaches : Needs → Reach → List Slot → Said
+reaches needs reach slots = record {
+  operation = OpReaches needs reach slots;
+  test = ValueReaches needs reach slots;
+  caught = λ s. reach s ≤ most_class_bytes;
+  freed = λ s. ⊤;
+}
 
-abbrev mutual
-  -- all operations of a region; a handler's slot holds the address of an exception object
-  pub RegionReaches : Needs → Reach → List Slot → Region → Type 0
-  RegionReaches needs reach slots (seq rs) = RegionsReach needs reach slots rs
-  RegionReaches needs reach slots (op o) = OpReaches needs reach slots o
-  RegionReaches needs reach slots (branch v a b) = ValueReaches needs reach slots v × RegionReaches needs reach slots a × RegionReaches needs reach slots b
-  RegionReaches needs reach slots (loop v a) = ValueReaches needs reach slots v × RegionReaches needs reach slots a
-  RegionReaches needs reach slots (protect a c) = RegionReaches needs reach slots a × CleanupReaches needs reach slots c
-  RegionReaches needs reach slots (catch a cs) = RegionReaches needs reach slots a × ClausesReach needs reach slots cs
-  RegionReaches needs reach slots (limit a types) = RegionReaches needs reach slots a
-  RegionReaches needs reach slots (barrier a) = RegionReaches needs reach slots a
-  RegionReaches needs reach slots (leave_region n) = ⊤
+abbrev pub RegionReaches : Needs → Reach → List Slot → Region → Type 0
+RegionReaches needs reach slots r = RegionAll (reaches needs reach slots) r
 
-  pub RegionsReach : Needs → Reach → List Slot → RegionList → Type 0
-  RegionsReach needs reach slots no_regions = ⊤
-  RegionsReach needs reach slots (region_then a rs) = RegionReaches needs reach slots a × RegionsReach needs reach slots rs
+abbrev pub RegionsReach : Needs → Reach → List Slot → RegionList → Type 0
+RegionsReach needs reach slots rs = RegionsAll (reaches needs reach slots) rs
 
-  pub ClausesReach : Needs → Reach → List Slot → Clauses → Type 0
-  ClausesReach needs reach slots no_clauses = ⊤
-  ClausesReach needs reach slots (clause_then t s a cs) = (reach s ≤ most_class_bytes) × RegionReaches needs reach slots a × ClausesReach needs reach slots cs
+abbrev pub ClausesReach : Needs → Reach → List Slot → Clauses → Type 0
+ClausesReach needs reach slots cs = ClausesAll (reaches needs reach slots) cs
 
 -- an operation of linear code
 abbrev pub LinearReaches : Needs → Reach → List Slot → LinearOp → Type 0
