@@ -1,41 +1,21 @@
 -- The operations of each function have ranks.
 use Rattle.std.proofs.Common.{◌≡◌, ◌⊎◌, ℕ, zero, suc, ◌+◌, ◌<◌, ◌≤◌, Bool, true, false, List, [], ◌∷◌, ◌++◌, map, length, length-append, Some, None, inl, inr, refl, sym, ap, ◌∙◌, subst, arith}
-use Rattle.std.specs.Prelude.{slice_get, unwrap_or, if◌then◌else◌}
-use Rattle.region_forms.specs.Form.{Region, seq, op, branch, loop, protect, catch, limit, barrier, leave_region, RegionFunction}
+use Rattle.std.specs.Prelude.{slice_get}
+use Rattle.region_forms.specs.Form.{RegionFunction}
 use Rattle.linear_forms.specs.Linear.{FunctionCode, LinearOp, plain, label, jump, jump_zero, pad, jump_filter, free, resume, unexpected, return}
-use Rattle.linear_forms.specs.Tables.{Cover, unpadded, label_place, look_up}
+use Rattle.linear_forms.specs.Tables.{unpadded, look_up}
 use Rattle.linear_forms.specs.Sites.{Placed}
 use Rattle.linear_forms.specs.CodeRuns.{HasAt}
-use Rattle.linear_forms.specs.Exits.{Exit, inner, first_label, crosses, name_of}
-use Rattle.linear_forms.specs.Emission.{Emitting, quiet, set_way}
+use Rattle.linear_forms.specs.Emission.{quiet}
 use Rattle.linear_forms.specs.Code.{region_code}
 use Rattle.linear_forms.specs.Unit.{emitting, placed_code, function_code}
-use Rattle.linear_forms.proofs.Standing.{functions_stand}
 use Rattle.execution_order.specs.Control.{goes_on, label_of, place_of, CanGo, TurnsBack}
 use Rattle.execution_order.specs.Order.{weight as spec_weight, AreRanks, OperationsAreInOrder}
 use Rattle.execution_order.proofs.Ranks.{weight, alone, weight_both, has_front, Ranked, ranked_front, ranked_back, at_place, NextRises, JumpRises, CoverAbove, Rises, AllRise, both_rise}
 use Rattle.execution_order.proofs.Pieces.{RegionOrdered}
+use Rattle.execution_order.proofs.Listed.{rank_in, all_listed, behind_all}
+use Rattle.execution_order.proofs.Missing.{missing, both_without, no_labels, op_inside, function_has}
 use Rattle.execution_order.proofs.Regions.{has_end, region_ordered}
-
--- ranks in a list, and behind its end
-abbrev rank_in : List ℕ → ℕ → ℕ → ℕ
-rank_in ns other p = unwrap_or (slice_get ns p) other
-
--- what stands at places from k on
-listed : (other : ℕ) (ns whole : List ℕ) (k : ℕ) → ((i : ℕ) → rank_in whole other (k + i) ≡ rank_in ns other i) → Ranked (rank_in whole other) k ns
-listed other [] whole k h = tt
-listed other (n ∷ ns) whole k h =
-    let here : k ≡ k + 0 = omega arith in
-    (ap (rank_in whole other) here ∙ h 0, listed other ns whole (k + 1) (λ i. let next : k + 1 + i ≡ k + suc i = omega arith in ap (rank_in whole other) next ∙ h (suc i)))
-
-all_listed : (other : ℕ) (ns : List ℕ) → Ranked (rank_in ns other) 0 ns
-all_listed other ns = listed other ns ns 0 (λ i. let same : 0 + i ≡ i = omega arith in ap (rank_in ns other) same)
-
-behind_all : (other : ℕ) (ns : List ℕ) (p : ℕ) → length ns ≤ p → rank_in ns other p ≡ other
-behind_all other [] zero h = refl
-behind_all other [] (suc p) h = refl
-behind_all other (n ∷ ns) zero h = absurd (omega (arith, h))
-behind_all other (n ∷ ns) (suc p) h = behind_all other ns p (omega (arith, h))
 
 -- the operation at a place is one of those that rise
 record Found (g : FunctionCode) (weigh : LinearOp → ℕ) (top : ℕ) (rank : ℕ → ℕ) (p : ℕ) (o : LinearOp) : Type 0 where
@@ -90,12 +70,6 @@ module _ (g : FunctionCode) (weigh : LinearOp → ℕ) (top : ℕ) (rank : ℕ �
       to_label (return result) h e = absurd (cc e)
   stepped p q x r covers (inr (inr go)) = inl (subst (CoverAbove g weigh top rank (rank p + weigh x.op)) (sym covers ∙ go.1) r.pad)
 
--- code that has an operation there goes on there
-op_inside : (is : List Placed) (p : ℕ) (o : LinearOp) → slice_get (map (λ x. x.op) is) p ≡ Some o → p < length is
-op_inside [] p o e = absurd (cc e)
-op_inside (x ∷ is) zero o e = omega arith
-op_inside (x ∷ is) (suc p) o e = omega (arith, op_inside is p o e)
-
 none_behind : (is : List Placed) (p : ℕ) → slice_get (map (λ x. x.op) is) p ≡ None → length is ≤ p
 none_behind [] p e = omega arith
 none_behind (x ∷ is) zero e = absurd (cc e)
@@ -104,51 +78,6 @@ none_behind (x ∷ is) (suc p) e = omega (arith, none_behind is p e)
 weighed : (weigh : LinearOp → ℕ) (is : List Placed) → spec_weight weigh (map (λ x. x.op) is) ≡ weight weigh is
 weighed weigh [] = refl
 weighed weigh (x ∷ is) = omega (arith, weighed weigh is)
-
--- code without labels
-abbrev NotLabel : LinearOp → Type 0
-NotLabel (label l) = ⊥
-NotLabel o = Unit {0}
-
-abbrev NoLabels : List Placed → Type 0
-NoLabels [] = Unit {0}
-NoLabels (x ∷ is) = NotLabel x.op × NoLabels is
-
-passed : (o : LinearOp) (ops : List LinearOp) (l p : ℕ) → NotLabel o → label_place (o ∷ ops) l p ≡ label_place ops l (p + 1)
-passed (plain o) ops l p h = refl
-passed (label m) ops l p h = absurd h
-passed (jump m) ops l p h = refl
-passed (jump_zero v m) ops l p h = refl
-passed (pad o s) ops l p h = refl
-passed (jump_filter s n m) ops l p h = refl
-passed (free s) ops l p h = refl
-passed (resume s) ops l p h = refl
-passed (unexpected o s) ops l p h = refl
-passed (return result) ops l p h = refl
-
--- a label that does not stand is found behind the last operation
-missing : (is : List Placed) (l p : ℕ) → NoLabels is → label_place (map (λ x. x.op) is) l p ≡ p + length is
-missing [] l p h = omega arith
-missing (x ∷ is) l p h = let next = missing is l (p + 1) h.1 in passed x.op (map (λ y. y.op) is) l p h.0 ∙ omega (arith, next)
-
-both_without : (is js : List Placed) → NoLabels is → NoLabels js → NoLabels (is ++ js)
-both_without [] js h k = k
-both_without (x ∷ is) js h k = (h.0, both_without is js h.1 k)
-
-no_labels : (em : Emitting) (r : Region) (c : Cover) (xs : List Exit) (l p : ℕ) → has_end r ≡ false → NoLabels (region_code em c xs l p r)
-no_labels em (seq rs) c xs l p e = absurd (cc e)
-no_labels em (op o) c xs l p e = (tt, tt)
-no_labels em (branch v a b) c xs l p e = absurd (cc e)
-no_labels em (loop v a) c xs l p e = absurd (cc e)
-no_labels em (protect a cl) c xs l p e = absurd (cc e)
-no_labels em (catch a cs) c xs l p e = absurd (cc e)
-no_labels em (limit a types) c xs l p e = absurd (cc e)
-no_labels em (barrier a) c xs l p e = absurd (cc e)
-no_labels em (leave_region n) c xs l p e = go (crosses (inner n) xs)
-  where
-    go : (b : Bool) → NoLabels (if b then set_way em (name_of (inner n) xs) ∷ quiet (jump (first_label (inner n) xs)) ∷ [] else quiet (jump (first_label (inner n) xs)) ∷ [])
-    go true = (tt, (tt, tt))
-    go false = (tt, tt)
 
 -- a function
 module _ (f : RegionFunction) (weigh : LinearOp → ℕ) (light : (l : ℕ) → weigh (label l) ≡ 0) where
@@ -179,11 +108,8 @@ module _ (f : RegionFunction) (weigh : LinearOp → ℕ) (light : (l : ℕ) → 
   as_many : length ranks ≡ length (placed_code f)
   as_many = omega (arith, length-append parts.all.ranks (weight weigh body ∷ []), length-append body last, parts.all.same)
 
-  has : HasAt (alone code) 0 0 (placed_code f)
-  has = (functions_stand (record { functions = f ∷ []; types = []; globals = []; tokens = 0; main = 0 }) 0 f refl).has
-
   in_body : HasAt (alone code) 0 0 body
-  in_body = has_front code 0 body last has
+  in_body = has_front code 0 body last (function_has f)
 
   body_ranks : Ranked rank 0 parts.all.ranks
   body_ranks = ranked_front rank 0 parts.all.ranks (weight weigh body ∷ []) (all_listed top ranks)
@@ -211,7 +137,7 @@ module _ (f : RegionFunction) (weigh : LinearOp → ℕ) (light : (l : ℕ) → 
       (record { next = tt; jump = tt; pad = tt; inside = omega (arith, return_rank, whole) }, tt)
 
   found_at : (p : ℕ) (o : LinearOp) → slice_get code.ops p ≡ Some o → Found code weigh top rank p o
-  found_at p o e = found code weigh top rank (placed_code f) 0 p p o (omega arith) (op_inside (placed_code f) p o e) has all_rise e
+  found_at p o e = found code weigh top rank (placed_code f) 0 p p o (omega arith) (op_inside (placed_code f) p o e) (function_has f) all_rise e
 
   are_ranks : AreRanks code weigh rank
   are_ranks = record {

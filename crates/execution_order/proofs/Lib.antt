@@ -5,6 +5,8 @@ pub mod Forms
 pub mod Cleaning
 pub mod Guarding
 pub mod Regions
+pub mod Listed
+pub mod Missing
 pub mod Functions
 pub mod Ahead
 pub mod Rows

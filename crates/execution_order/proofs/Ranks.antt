@@ -35,23 +35,23 @@ module _ (g : FunctionCode) where
   has_back p q [] b e h = let same : p ≡ q = omega (arith, e) in subst (λ n. HasAt (alone g) 0 n b) same h
   has_back p q (x ∷ a) b e h = has_back (p + 1) q a b (omega (arith, e)) h.3
 
--- ranks of the places from p on
-module _ (rank : ℕ → ℕ) where
-  abbrev pub Ranked : ℕ → List ℕ → Type 0
+-- ranks of the places from p on, or what else is said of each
+module _ {A : Type 0} (rank : ℕ → A) where
+  abbrev pub Ranked : ℕ → List A → Type 0
   Ranked p [] = Unit {0}
   Ranked p (n ∷ ns) = (rank p ≡ n) × Ranked (p + 1) ns
 
-  pub ranked_front : (p : ℕ) (a b : List ℕ) → Ranked p (a ++ b) → Ranked p a
+  pub ranked_front : (p : ℕ) (a b : List A) → Ranked p (a ++ b) → Ranked p a
   ranked_front p [] b h = tt
   ranked_front p (n ∷ a) b h = (h.0, ranked_front (p + 1) a b h.1)
 
-  pub ranked_back : (p q : ℕ) (a b : List ℕ) → q ≡ p + length a → Ranked p (a ++ b) → Ranked q b
+  pub ranked_back : (p q : ℕ) (a b : List A) → q ≡ p + length a → Ranked p (a ++ b) → Ranked q b
   ranked_back p q [] b e h = let same : p ≡ q = omega (arith, e) in subst (λ n. Ranked n b) same h
   ranked_back p q (n ∷ a) b e h = ranked_back (p + 1) q a b (omega (arith, e)) h.1
 
-  -- a rank at a place that is the same
-  pub at_place : (p q n : ℕ) → p ≡ q → n ≤ rank q → n ≤ rank p
-  at_place p q n e h = let same : rank p ≡ rank q = ap rank e in omega (arith, same, h)
+-- a rank at a place that is the same
+pub at_place : (rank : ℕ → ℕ) (p q n : ℕ) → p ≡ q → n ≤ rank q → n ≤ rank p
+at_place rank p q n e h = let same : rank p ≡ rank q = ap rank e in omega (arith, same, h)
 
 module _ (g : FunctionCode) (weigh : LinearOp → ℕ) (top : ℕ) (rank : ℕ → ℕ) where
   -- the step to the next operation rises
