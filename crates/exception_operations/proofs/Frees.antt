@@ -41,7 +41,7 @@ use Rattle.exception_operations.specs.Objects.{is_object, without_object, HoldsO
 use Rattle.exception_operations.specs.Frees.{FreesRun}
 use Rattle.exception_operations.proofs.LiveLists.{without, gone_in, kept_in}
 use Rattle.exception_operations.proofs.Finding.{live_header, object_found}
-use Rattle.exception_operations.proofs.Freed.{freed_match}
+use Rattle.exception_operations.proofs.Freed.{freed_match, building_out}
 use Rattle.exception_operations.proofs.Ecalls.{ecall_reached, object_loaded, call_made}
 
 free_is : (image : Image) (wish : ℕ) (t : abi.World) → call_effect 4 image wish t ≡ free_call_effect t
@@ -148,7 +148,7 @@ free_runs turns made image p n s e st next w back h at holds there =
           replies = r.replies;
           last_number = r.last_number;
           terminating = r.terminating;
-          exceptions = freed_match (addresses_of p) gone gone (exceptions_in v) (kept_by ec.at) e slot building m live.has kind there m.distinct (built_stays (addresses_of p) gone (exceptions_in v) (kept_by ec.at) e m there)
+          exceptions = freed_match (addresses_of p) gone gone (exceptions_in v) (kept_by ec.at) e slot building m live.has (building_out (addresses_of p) gone (exceptions_in v) (kept_by ec.at) slot header m live.has.there kind) there m.distinct (built_stays (addresses_of p) gone (exceptions_in v) (kept_by ec.at) e m there)
               (λ d other. refl);
           plan = plan_without p e v.live r.plan;
         };

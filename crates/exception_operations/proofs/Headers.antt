@@ -6,11 +6,12 @@ use Rattle.caught_stack.specs.Slots.{is_in}
 use Rattle.caught_stack.specs.Live.{Live as Headers, header_of, is_live, live_count}
 use Rattle.caught_stack.specs.Caught.{Caught, slots_of}
 use Rattle.caught_stack.specs.Exceptions.{Exceptions, IsSound}
+use Rattle.caught_stack.proofs.Bools.{or_false}
 use Rattle.caught_stack.proofs.Stacks.{all_but}
 use Rattle.caught_stack.proofs.Headers.{live_below, header_kept, live_kept, both_counts, count_allocated, count_freed}
 use Rattle.cxa_runtime.specs.Objects.{object_of, is_thrown}
 use Rattle.region_forms.specs.Caught.{Entry}
-use Rattle.operation_simulation.specs.Exceptions.{IsCaught, AreCaught}
+use Rattle.operation_simulation.specs.Exceptions.{AreCaught}
 
 -- a slot of which a header is known is one of the slots
 pub slot_below : (headers : Headers) (slot : ℕ) (h : Header) → header_of headers slot ≡ Some h → slot < length headers
@@ -39,35 +40,35 @@ count_more headers slot h low vacant =
 abbrev pub IsIdle : Headers → ℕ → Type 0
 IsIdle headers slot = (h : Header) → header_of headers slot ≡ Some h → is_thrown h.kind ≡ false
 
-module _ (headers : Headers) (slot : ℕ) (idle : IsIdle headers slot) (new : Option Header) where
-  pub caught_other : (e s : ℕ) → IsCaught headers e s → nat_eq slot s ≡ false
-  caught_other e s c = by (nat_eq slot s) refl
-    where
-      by : (b : Bool) → nat_eq slot s ≡ b → nat_eq slot s ≡ false
-      by false is = is
-      by true is =
-          let same : slot ≡ s = grind (arith, nat_tests, is) in
-          absurd (thrown_or (is_thrown c.0.header.kind) c.1 (idle c.0.header (ap (header_of headers) same ∙ c.0.there)))
+-- so no handler has it
+pub none_caught : (headers : Headers) (slot : ℕ) → IsIdle headers slot → (xs : List Entry) (ys : Caught) → AreCaught headers xs ys → is_in (slots_of ys) slot ≡ false
+none_caught headers slot idle [] [] h = refl
+none_caught headers slot idle (x ∷ xs) ((s, n) ∷ ys) h = ap (λ b. b || is_in (slots_of ys) slot) (by (nat_eq slot s) refl) ∙ none_caught headers slot idle xs ys h.2
+  where
+    by : (b : Bool) → nat_eq slot s ≡ b → nat_eq slot s ≡ false
+    by false is = is
+    by true is =
+        let same : slot ≡ s = grind (arith, nat_tests, is) in
+        absurd (thrown_or (is_thrown h.0.0.header.kind) h.0.1 (idle h.0.0.header (ap (header_of headers) same ∙ h.0.0.there)))
+none_caught headers slot idle [] (y ∷ ys) h = absurd h
+none_caught headers slot idle (x ∷ xs) [] h = absurd h
 
-  pub caught_kept : (e s : ℕ) → IsCaught headers e s → IsCaught (slice_set headers slot new) e s
-  caught_kept e s c = (record { header = c.0.header; there = header_kept headers slot s new (caught_other e s c) ∙ c.0.there; number = c.0.number }, c.1)
+-- those that handlers have they have still
+pub all_caught : (headers : Headers) (slot : ℕ) (new : Option Header) (xs : List Entry) (ys : Caught) → is_in (slots_of ys) slot ≡ false → AreCaught headers xs ys → AreCaught (slice_set headers slot new) xs ys
+all_caught headers slot new [] [] out h = tt
+all_caught headers slot new (x ∷ xs) ((s, n) ∷ ys) out h =
+    let parts = or_false (nat_eq slot s) (is_in (slots_of ys) slot) out in (
+      (record { header = h.0.0.header; there = header_kept headers slot s new parts.0 ∙ h.0.0.there; number = h.0.0.number }, h.0.1),
+      h.1,
+      all_caught headers slot new xs ys parts.1 h.2,
+    )
+all_caught headers slot new [] (y ∷ ys) out h = absurd h
+all_caught headers slot new (x ∷ xs) [] out h = absurd h
 
-  pub all_caught : (xs : List Entry) (ys : Caught) → AreCaught headers xs ys → AreCaught (slice_set headers slot new) xs ys
-  all_caught [] [] h = tt
-  all_caught (x ∷ xs) ((s, n) ∷ ys) h = (caught_kept x.number s h.0, h.1, all_caught xs ys h.2)
-  all_caught [] (y ∷ ys) h = absurd h
-  all_caught (x ∷ xs) [] h = absurd h
-
-  pub none_caught : (xs : List Entry) (ys : Caught) → AreCaught headers xs ys → is_in (slots_of ys) slot ≡ false
-  none_caught [] [] h = refl
-  none_caught (x ∷ xs) ((s, n) ∷ ys) h = ap (λ b. b || is_in (slots_of ys) slot) (caught_other x.number s h.0) ∙ none_caught xs ys h.2
-  none_caught [] (y ∷ ys) h = absurd h
-  none_caught (x ∷ xs) [] h = absurd h
-
-pub sound_kept : (e : Exceptions) (slot : ℕ) (new : Option Header) (xs : List Entry) → IsIdle e.live slot → AreCaught e.live xs e.caught → IsSound e → IsSound (record e { live = slice_set e.live slot new })
-sound_kept e slot new xs idle caught h = record {
+pub sound_kept : (e : Exceptions) (slot : ℕ) (new : Option Header) → is_in (slots_of e.caught) slot ≡ false → IsSound e → IsSound (record e { live = slice_set e.live slot new })
+sound_kept e slot new out h = record {
   slots = length-set e.live slot new ∙ h.slots;
-  live = all_but (is_live e.live) (is_live (slice_set e.live slot new)) (slots_of e.caught) slot (none_caught e.live slot idle new xs e.caught caught) (λ t other. live_kept e.live slot t new other) ∙ h.live;
+  live = all_but (is_live e.live) (is_live (slice_set e.live slot new)) (slots_of e.caught) slot out (λ t other. live_kept e.live slot t new other) ∙ h.live;
   once = h.once;
   counted = h.counted;
 }

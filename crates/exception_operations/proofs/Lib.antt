@@ -12,3 +12,4 @@ pub mod Made
 pub mod Making
 pub mod Makes
 pub mod Pads
+pub mod Left

@@ -6,6 +6,8 @@ use Rattle.scope_rules.specs.Class.{contains}
 use Rattle.caught_stack.specs.declared.header.Header.{Header}
 use Rattle.caught_stack.specs.declared.header.HeaderKind.TheVariants.{Building}
 use Rattle.caught_stack.specs.Allocate.{with_header}
+use Rattle.caught_stack.specs.Slots.{is_in}
+use Rattle.caught_stack.specs.Caught.{slots_of}
 use Rattle.caught_stack.specs.Live.{Live as Headers, slots, header_of, is_live, is_vacant, live_count}
 use Rattle.caught_stack.proofs.Headers.{vacant_below, vacant_not_live, header_changed, header_kept}
 use Rattle.cxa_runtime.specs.Objects.{object_of, first_vacant_from, slot_for}
@@ -14,7 +16,7 @@ use Rattle.cxa_runtime.proofs.ForeignCounts.{first_known}
 use Rattle.region_forms.specs.World.{Exception, building, native, foreign}
 use Rattle.operation_simulation.specs.Exceptions.{Addresses, LinearExceptions, KeptExceptions, live_in, IsFunction, HeaderIs, SlotIs, HasHeader, IsLeft, ExceptionsMatch}
 use Rattle.exception_operations.proofs.LiveLists.{with_one, still_in, new_in, other_in, once_more, one_more}
-use Rattle.exception_operations.proofs.Headers.{count_more, IsIdle, all_caught, sound_kept}
+use Rattle.exception_operations.proofs.Headers.{count_more, IsIdle, none_caught, all_caught, sound_kept}
 
 -- ---- a slot that is given
 
@@ -85,6 +87,9 @@ module _ (t : Addresses) (o : ℕ → ℕ) (gone : List ℕ) (v : LinearExceptio
       let both : true ≡ false = sym (ap is_some is) ∙ none in
       absurd (cc both)
 
+  out : is_in (slots_of w.exceptions.caught) slot ≡ false
+  out = none_caught w.exceptions.live slot idle v.caught w.exceptions.caught m.caught
+
   not_gone : contains gone e ≡ false
   not_gone = by (contains gone e) refl
     where
@@ -146,13 +151,13 @@ module _ (t : Addresses) (o : ℕ → ℕ) (gone : List ℕ) (v : LinearExceptio
 
   pub made_match : ExceptionsMatch (moved_to t o) gone (record v { live = with_one v.live e building; last_number = e }) (record w { exceptions = with_header slot header w.exceptions })
   made_match = record {
-    sound = sound_kept w.exceptions slot (Some header) v.caught idle m.caught m.sound;
+    sound = sound_kept w.exceptions slot (Some header) out m.sound;
     headers = slot_at;
     live = live_at;
     count = omega (arith, count_more w.exceptions.live slot header low (vacant_not_live w.exceptions.live slot vacant), one_more v.live e building, m.count);
     once = once_more v.live e building m.once not_there;
     numbers = numbered;
-    caught = all_caught w.exceptions.live slot idle (Some header) v.caught w.exceptions.caught m.caught;
+    caught = all_caught w.exceptions.live slot (Some header) v.caught w.exceptions.caught out m.caught;
     uncaught = m.uncaught;
     terminate_handler = function_moved t o v.installed.terminate_handler w.terminate_handler m.terminate_handler;
     unexpected_handler = function_moved t o v.installed.unexpected_handler w.unexpected_handler m.unexpected_handler;
