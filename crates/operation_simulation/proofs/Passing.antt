@@ -9,7 +9,7 @@ use Rattle.rv64_isa.specs.Arithmetic.{add}
 use Rattle.rv64_isa.specs.State.{State, Part, state, with_value}
 use Rattle.rv64_isa.specs.Step.{step_of, next, stores, x, imm12, done}
 use Rattle.region_forms.specs.Form.{Argument, int_argument, address_argument, handler_argument, Arguments, no_arguments, argument_then}
-use Rattle.region_forms.specs.World.{Base, Address, address_in, Word, nothing, number_word, address_word, flying, unwinding, object_address, Frame, World}
+use Rattle.region_forms.specs.World.{Base, Address, address_in, Word, number_word, address_word, Frame, World}
 use Rattle.region_forms.specs.Evaluation.{with_some, value_in, address_of, word_in, words_in}
 use Rattle.linear_forms.specs.Activation.{Activation}
 use Rattle.emission_forms.specs.Bounds.{ArgumentFits, ArgumentsFit}
@@ -19,7 +19,7 @@ use Rattle.emission_forms.specs.Piece.{Piece}
 use Rattle.emission_forms.specs.CallCode.{argument_code, passed, arguments_passed}
 use Rattle.code_simulation.specs.Memory.{Holds, MayWrite, Written}
 use Rattle.code_simulation.specs.Executes.{Executes}
-use Rattle.code_simulation.specs.Numbers.{IsInt, int_bits, extended}
+use Rattle.code_simulation.specs.Numbers.{IsInt, extended}
 use Rattle.code_simulation.specs.Standing.{Ground, address, PieceAt, PiecesAt}
 use Rattle.code_simulation.specs.Going.{Computes}
 use Rattle.code_simulation.specs.Frames.{Setting, byte_of, WordHolds, Ready}
@@ -33,7 +33,7 @@ use Rattle.code_simulation.proofs.Testing.{values_are_computed}
 use Rattle.operation_simulation.specs.Plan.{Plan, shape, slot_kinds, setting}
 use Rattle.operation_simulation.specs.Matches.{MemoryMatches}
 use Rattle.operation_simulation.specs.Entering.{ArgumentStands, ArgumentsStand}
-use Rattle.operation_simulation.proofs.Freeing.{free_matches}
+use Rattle.operation_simulation.proofs.Freeing.{word_kept, free_matches}
 
 -- ---- a word in eight bytes
 
@@ -69,14 +69,6 @@ address_passed t b small = record {
       let whole : byte_of t b % 2 ^ 64 ≡ byte_of t b = omega (arith, small) in
       record { aligned = even; below = below; holds = subst (Holds (with_value memory a 8 (byte_of t b)) a 8) whole (eight_stored memory a (byte_of t b) may8) };
 }
-
--- what keeps four and eight bytes from a place on keeps a word there
-pub word_kept : (t : Setting) (old new : List Part) (a : ℕ) (word : Word) → ((k z : ℕ) → Holds old a k z → Holds new a k z) → WordHolds t old a word → WordHolds t new a word
-word_kept t old new a nothing keep h = tt
-word_kept t old new a (number_word z) keep h = record { int = h.int; aligned = h.aligned; below = h.below; holds = keep 4 (int_bits z) h.holds }
-word_kept t old new a (address_word b) keep h = record { aligned = h.aligned; below = h.below; holds = keep 8 (byte_of t b) h.holds }
-word_kept t old new a (flying e target) keep h = record { aligned = h.aligned; below = h.below; holds = keep 8 (byte_of t (object_address e)) h.holds }
-word_kept t old new a (unwinding n) keep h = tt
 
 -- ---- an argument in a register
 
