@@ -13,3 +13,7 @@ pub mod Making
 pub mod Makes
 pub mod Pads
 pub mod Left
+pub mod EndCatching
+pub mod CatchSteps
+pub mod ComingBack
+pub mod Leaves

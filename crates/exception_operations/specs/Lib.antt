@@ -4,3 +4,4 @@ pub mod Enters
 pub mod Picks
 pub mod Makes
 pub mod Pads
+pub mod Leaves
