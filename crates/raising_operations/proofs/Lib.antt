@@ -3,3 +3,6 @@ pub mod Saying
 pub mod Waiting
 pub mod Stacks
 pub mod Pads
+pub mod Passing
+pub mod Landing
+pub mod Entered

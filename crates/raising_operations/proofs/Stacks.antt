@@ -22,10 +22,10 @@ use Rattle.image_tables.specs.Functions.{records_end}
 
 module _ (p : Plan) (i : CleanImage) (n back : ℕ) (a : Activation) (fs : List Activation) (v : World) (s : State) (running : IsRunning p i s) (h : InCall p n back a fs v s) where
   -- the call that runs, and those that wait
-  pub all_opens : List Open
+  unfoldable pub all_opens : List Open
   all_opens = record { activation = a; call = record { size = (shape p n).size; back = back } } ∷ opens_of p fs v s.memory (x s sp + (shape p n).size) back a.frame.call h.memory.waiting
 
-  pub all_tail : List Activation
+  unfoldable pub all_tail : List Activation
   all_tail = tail_of p fs v s.memory (x s sp + (shape p n).size) back a.frame.call h.memory.waiting
 
   stack_for : (judge : Judge) (thrown : Thrown) → SaysAll p.unit (said s (program_of i).image.fdes thrown) judge →

@@ -32,7 +32,7 @@ use Rattle.linear_forms.specs.Tables.{bare}
 use Rattle.raise_simulation.specs.Verdicts.{told_of, cover_of}
 
 -- ---- the open calls among those that wait, up to terminate
-pub opens_of : (p : Plan) (fs : List Activation) (v : World) (memory : List Part) (stack back limit : ℕ) → CallsWait p fs v memory stack back limit → List Open
+unfoldable pub opens_of : (p : Plan) (fs : List Activation) (v : World) (memory : List Part) (stack back limit : ℕ) → CallsWait p fs v memory stack back limit → List Open
 opens_of p [] v memory stack back limit w = []
 opens_of p (a ∷ fs) v memory stack back limit (inl (less, n, outer, waits, more)) =
     record { activation = a; call = record { size = (shape p n).size; back = outer } } ∷ opens_of p fs v memory (stack + (shape p n).size) outer a.frame.call more
@@ -40,7 +40,7 @@ opens_of p (a ∷ fs) v memory stack back limit (inr (inl (outer, waits, more)))
     record { activation = a; call = record { size = frame_size a.function; back = outer } } ∷ opens_of p fs v memory (stack + frame_size a.function) outer limit more
 opens_of p (a ∷ fs) v memory stack back limit (inr (inr w)) = []
 
-pub tail_of : (p : Plan) (fs : List Activation) (v : World) (memory : List Part) (stack back limit : ℕ) → CallsWait p fs v memory stack back limit → List Activation
+unfoldable pub tail_of : (p : Plan) (fs : List Activation) (v : World) (memory : List Part) (stack back limit : ℕ) → CallsWait p fs v memory stack back limit → List Activation
 tail_of p [] v memory stack back limit w = []
 tail_of p (a ∷ fs) v memory stack back limit (inl (less, n, outer, waits, more)) = tail_of p fs v memory (stack + (shape p n).size) outer a.frame.call more
 tail_of p (a ∷ fs) v memory stack back limit (inr (inl (outer, waits, more))) = tail_of p fs v memory (stack + frame_size a.function) outer limit more
