@@ -11,6 +11,7 @@ use Rattle.linear_forms.specs.Code.{region_code}
 use Rattle.linear_forms.specs.Frame.{code_slots}
 use Rattle.linear_forms.specs.Unit.{emitting, placed_code, function_code}
 use Rattle.region_forms.specs.Form.{Slot}
+use Rattle.object_reach.specs.Everywhere.{holders}
 use Rattle.object_reach.specs.Rooms.{Reach, HasRoom}
 use Rattle.object_reach.specs.Reaches.{Needs, reaches, LinearReaches}
 use Rattle.object_reach.specs.Givens.{needs_of}
@@ -19,15 +20,15 @@ use Rattle.object_reach.proofs.Codes.{Shows, both_placed, region_placed, ops_are
 use Rattle.object_reach.proofs.Programs.{regions_reach_inside, pads_known}
 
 -- what code adds reaches inside, too
-reaching : (needs : Needs) (reach : Reach) (slots : List Slot) (em : Emitting) → most_class_bytes ≤ reach em.object → HasRoom reach slots (way_place em) 4 → Shows (reaches needs reach slots) (LinearReaches needs reach slots) em ⊤
-reaching needs reach slots em object way = record {
+reaching : (needs : Needs) (reach : Reach) (slots : List Slot) (em : Emitting) → most_class_bytes ≤ reach em.object → HasRoom reach slots (way_place em) 4 → (most : ℕ) → Shows (reaches needs reach slots) (LinearReaches needs reach slots) em ⊤ most
+reaching needs reach slots em object way most = record {
   operation = λ o h. h;
   leaves = tt;
   test = λ v l h. h;
   caught = λ s w small. (refl, omega (arith, small, object));
   freed = λ s h. tt;
-  way_set = λ n w. (way, tt);
-  way_test = λ n l w. (way, tt);
+  way_set = λ n few w. (way, tt);
+  way_test = λ n l few w. (way, tt);
   labels = λ l. tt;
   jumps = λ l. tt;
   pads = λ w. tt;
@@ -50,8 +51,8 @@ code_reaches_inside p l typed small n g place o there at =
     let pads = pads_known p l typed small n f x.1 in
     let needs : Needs = needs_of p l in
     let em : Emitting = emitting f in
-    let shown = reaching needs (needs n) (code_slots f) em pads.0 pads.1 in
+    let shown = reaching needs (needs n) (code_slots f) em pads.0 pads.1 (holders f.body) in
     subst (λ h. slice_get h.ops place ≡ Some o → LinearReaches needs (needs n) h.slots o) x.2
-    (λ at. ops_are (reaches needs (needs n) (code_slots f)) (LinearReaches needs (needs n) (code_slots f)) em ⊤ shown (placed_code f)
-    (both_placed (reaches needs (needs n) (code_slots f)) (LinearReaches needs (needs n) (code_slots f)) em ⊤ shown (region_code em unpadded [] 0 0 f.body) (quiet (return f.result) ∷ [])
-    (region_placed (reaches needs (needs n) (code_slots f)) (LinearReaches needs (needs n) (code_slots f)) em ⊤ shown unpadded [] 0 0 f.body (λ k e. tt) (λ e. tt) inside) (tt, tt)) place o at) at
+    (λ at. ops_are (reaches needs (needs n) (code_slots f)) (LinearReaches needs (needs n) (code_slots f)) em ⊤ (holders f.body) shown (placed_code f)
+    (both_placed (reaches needs (needs n) (code_slots f)) (LinearReaches needs (needs n) (code_slots f)) em ⊤ (holders f.body) shown (region_code em unpadded [] 0 0 f.body) (quiet (return f.result) ∷ [])
+    (region_placed (reaches needs (needs n) (code_slots f)) (LinearReaches needs (needs n) (code_slots f)) em ⊤ (holders f.body) shown unpadded [] 0 0 f.body (λ k e. tt) (λ e. tt) (omega arith) inside) (tt, tt)) place o at) at

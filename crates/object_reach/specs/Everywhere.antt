@@ -1,5 +1,5 @@
 -- What is said of all operations of a region, and of all values that it tests.
-use Rattle.std.specs.Prelude.{⊤, ℕ}
+use Rattle.std.specs.Prelude.{⊤, ℕ, ◌+◌}
 use Rattle.region_forms.specs.Form.{Value, Op, destroy, Cleanup, destroy_scope, destroy_part, free_object, leave_handler, Region, seq, op, branch, loop, protect, catch, limit, barrier, leave_region, RegionList, no_regions, region_then, Clauses, no_clauses, clause_then}
 
 -- of an operation, of a value that is tested, of the slot of a clause and of one whose object is freed
@@ -34,3 +34,24 @@ abbrev mutual
   pub ClausesAll : Said → Clauses → Type 0
   ClausesAll said no_clauses = ⊤
   ClausesAll said (clause_then t s a cs) = said.caught s × RegionAll said a × ClausesAll said cs
+
+-- how many regions hold others, which is no less than how deep they stand in one another
+abbrev mutual
+  pub holders : Region → ℕ
+  holders (seq rs) = holders_all rs + 1
+  holders (op o) = 0
+  holders (branch v a b) = holders a + holders b + 1
+  holders (loop v a) = holders a + 1
+  holders (protect a c) = holders a + 1
+  holders (catch a cs) = holders a + holders_clauses cs + 1
+  holders (limit a types) = holders a + 1
+  holders (barrier a) = holders a + 1
+  holders (leave_region n) = 0
+
+  pub holders_all : RegionList → ℕ
+  holders_all no_regions = 0
+  holders_all (region_then a rs) = holders a + holders_all rs
+
+  pub holders_clauses : Clauses → ℕ
+  holders_clauses no_clauses = 0
+  holders_clauses (clause_then t s a cs) = holders a + holders_clauses cs

@@ -1,0 +1,3 @@
+pub mod Static
+pub mod Ints
+pub mod Laws
