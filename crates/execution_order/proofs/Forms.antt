@@ -119,6 +119,7 @@ module _ (g : FunctionCode) (weigh : LinearOp → ℕ) (top : ℕ) (light : (l :
                 first = l + 1;
                 last = l;
                 value = v;
+                before = omega (arith, has.2);
                 back = back.0;
                 end = back.3.0;
                 begin = subst (λ p. slice_get g.ops p ≡ Some (label (l + 1))) (sym has.2) has.0;

@@ -1,5 +1,5 @@
 -- Where control can go from an operation of linear code, inside one call.
-use Rattle.std.specs.Prelude.{◌≡◌, ◌⊎◌, ℕ, ◌+◌, ℤ, Bool, true, false, List, Option, Some, None, slice_get}
+use Rattle.std.specs.Prelude.{◌≡◌, ◌⊎◌, ℕ, ◌+◌, ◌≤◌, ℤ, Bool, true, false, List, Option, Some, None, slice_get}
 use Rattle.region_forms.specs.Form.{Value}
 use Rattle.linear_forms.specs.Linear.{LinearOp, label, jump, jump_zero, jump_filter, resume, unexpected, return, FunctionCode}
 use Rattle.linear_forms.specs.Tables.{padded, look_up, label_place}
@@ -31,11 +31,13 @@ CanGo g p o q =
     ((l : ℕ) × (label_of o ≡ Some l) × (q ≡ place_of g l)) ⊎
     ((chain : List ℤ) × (look_up g.sites p ≡ padded q chain))
 
--- A loop turns back: the jump at its end, in front of the label behind the loop, goes to the label in front of the loop's test.
+-- A loop turns back: the jump at its end, in front of the label behind the loop, goes to the label in front of the loop's test, which stands
+-- before it.
 pub record TurnsBack (g : FunctionCode) (p q : ℕ) : Type 0 where
   pub first : ℕ
   pub last : ℕ
   pub value : Value
+  pub before : q ≤ p
   pub back : slice_get g.ops p ≡ Some (jump first)
   pub end : slice_get g.ops (p + 1) ≡ Some (label last)
   pub begin : slice_get g.ops q ≡ Some (label first)
