@@ -31,7 +31,7 @@ use Rattle.code_simulation.specs.Standing.{WordsAt}
 use Rattle.code_simulation.specs.UnitAt.{whole_words}
 use Rattle.operation_simulation.specs.Beginning.{global_byte, plan_before, StandsBefore}
 use Rattle.emission_forms.proofs.Words.{words_stand}
-use Rattle.operation_simulation.proofs.Units.{units_stand}
+use Rattle.operation_simulation.specs.Units.{UnitsStand}
 use Rattle.checked_regions.specs.WellFormed.{CheckedRegionsAreWellFormed}
 use Rattle.function_lengths.specs.Lengths.{CheckedFunctionsAreShort}
 use Rattle.literal_mains.proofs.Low.{code_is_low}
@@ -39,7 +39,7 @@ use Rattle.unit_simulation.specs.Asked.{IsAsked, CheckedUnitsAreAsked}
 use Rattle.image_beginning.specs.Images.{ImagesBegin}
 use Rattle.image_beginning.proofs.Globals.{globals_are_ints}
 use Rattle.image_beginning.proofs.Jump.{jump_stands}
-use Rattle.image_beginning.proofs.Memory.{stack_may}
+use Rattle.image_beginning.proofs.Memory.{slots_may, stack_may}
 use Rattle.image_beginning.proofs.Values.{global_int, global_may, image_words}
 use Rattle.image_beginning.proofs.Words.{units_have_bits}
 
@@ -59,7 +59,7 @@ main_is_there p h =
     let inside : r.main < length r.functions = grind (arith, nat_tests, test) in
     omega (arith, inside, length-map r.functions function_code)
 
-module _ (u : UnitCode) (i : CleanImage) (stands : ImageStands (contents_for (emitted_of u)) i.image) (can : IsLinkable (emitted_of u)) (asked : IsAsked u)
+module _ (units_stand : UnitsStand) (u : UnitCode) (i : CleanImage) (tables : ℕ → ℕ) (stands : ImageStands (contents_for (emitted_of u)) i.image) (can : IsLinkable (emitted_of u)) (asked : IsAsked u)
     (short : AllByRecursion (λ g. routine_words (function_routine g) < 2 ^ 18) u.functions) (ints : AllByRecursion IsInt u.globals) (main : u.main < length u.functions) where
   abbrev e : ListedUnit
   e = emitted_of u
@@ -93,15 +93,16 @@ module _ (u : UnitCode) (i : CleanImage) (stands : ImageStands (contents_for (em
   there : (g : ℕ) → g < length u.globals → (z : ℤ) × (slice_get u.globals g ≡ Some z)
   there g inside = (_, slice_get-get_or u.globals g (pos 0) inside)
 
-  pub begins : StandsBefore u base (program_of i).hart
+  pub begins : StandsBefore u base tables (program_of i).hart
   begins = record {
     pc = stands.entry;
     registers = refl;
     stack = refl;
-    unit = units_stand (plan_before u base) (initial parts).memory asked.few short asked.frames asked.registers words;
+    unit = units_stand (plan_before u base tables) (initial parts).memory asked.few short asked.frames asked.registers words;
     jump = jump_stands u base (initial parts).memory words;
     main = main;
     may = λ a n bottom top. stack_may parts a n bottom top;
+    objects = λ a n bottom top. slots_may parts a n bottom top;
     deep = omega (arith, types, room);
     near = omega (arith, low, types, room, all_length);
     low = omega (arith, low);
@@ -117,6 +118,6 @@ module _ (u : UnitCode) (i : CleanImage) (stands : ImageStands (contents_for (em
         global_may e i.image stands low g k (global_byte u base g) o n known.0 known.1 count (global_place g k count) small;
   }
 
-pub images_begin : CheckedIsLinkable → CheckedUnitsAreAsked → CheckedFunctionsAreShort → CheckedRegionsAreWellFormed → ImagesBegin
-images_begin linkable asked short formed p checked i stands =
-    begins (unit_for p) i stands (linkable p checked) (asked p checked) (short p checked) (globals_are_ints p checked) (main_is_there p (formed p checked))
+pub images_begin : UnitsStand → CheckedIsLinkable → CheckedUnitsAreAsked → CheckedFunctionsAreShort → CheckedRegionsAreWellFormed → ImagesBegin
+images_begin units_stand linkable asked short formed p checked i tables stands =
+    begins units_stand (unit_for p) i tables stands (linkable p checked) (asked p checked) (short p checked) (globals_are_ints p checked) (main_is_there p (formed p checked))

@@ -20,7 +20,7 @@ use Rattle.code_simulation.specs.Memory.{MayWrite}
 use Rattle.code_simulation.proofs.Bytes.{byte_in}
 use Rattle.image_beginning.proofs.Bytes.{held, all_may}
 
--- the stack
+-- room for exceptions, and the stack
 
 covers_zero : (address size a : ℕ) → covers (zero_part address size) a ≡ (nat_le address a && nat_lt (a - address) size)
 unfolding zero_part
@@ -43,6 +43,18 @@ stack_byte parts a low high =
 pub stack_may : (parts : List Part) (a n : ℕ) → 0x7000_0000 ≤ a → a + n ≤ 0x7100_0000 → MayWrite (initial parts).memory a n
 stack_may parts a n low high =
     all_may (initial parts).memory a n (λ k. (zero_byte 0x7000_0000 0x100_0000 (a + k)).0) (λ k lt. stack_byte parts (a + k) (omega (arith, low)) (omega (arith, high, lt)))
+
+slot_byte : (parts : List Part) (a : ℕ) → 0x6000_0000 ≤ a → a < 0x6040_0000 → byte_at (initial parts).memory a ≡ Some (held true false (zero_byte 0x6000_0000 0x40_0000 a).0)
+slot_byte parts a low high =
+    let slots : Part = zero_part 0x6000_0000 0x40_0000 in
+    let inside : covers slots a ≡ true
+    = covers_zero 0x6000_0000 0x40_0000 a
+    ∙ and_from (nat_le 0x6000_0000 a) (nat_lt (a - 0x6000_0000) 0x40_0000) (le-leb 0x6000_0000 a low) (lt-ltb (a - 0x6000_0000) 0x40_0000 (omega (arith, low, high))) in
+    byte_in slots (zero_part 0x7000_0000 0x100_0000 ∷ parts) a true inside ∙ ap (λ b. Some b) (zero_byte 0x6000_0000 0x40_0000 a).1
+
+pub slots_may : (parts : List Part) (a n : ℕ) → 0x6000_0000 ≤ a → a + n ≤ 0x6040_0000 → MayWrite (initial parts).memory a n
+slots_may parts a n low high =
+    all_may (initial parts).memory a n (λ k. (zero_byte 0x6000_0000 0x40_0000 (a + k)).0) (λ k lt. slot_byte parts (a + k) (omega (arith, low)) (omega (arith, high, lt)))
 
 -- where a part stands in its file does not matter
 

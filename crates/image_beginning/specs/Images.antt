@@ -1,5 +1,5 @@
 -- What the calls of laws state of images.
-use Rattle.std.specs.Prelude.{◌^◌, ◌<◌}
+use Rattle.std.specs.Prelude.{ℕ, ◌^◌, ◌<◌}
 use Rattle.std.specs.List.{AllByRecursion}
 use Rattle.cxx_ast.specs.Checked.{IsChecked}
 use Rattle.cxx_ast.specs.Plain.{Checked}
@@ -24,8 +24,8 @@ GlobalsAreInts = (p : Checked) → IsChecked p → AllByRecursion IsInt p.global
 abbrev pub UnitsHaveBits : Type 0
 UnitsHaveBits = (u : UnitCode) → AllByRecursion (λ g. routine_words (function_routine g) < 2 ^ 18) u.functions → HaveBits (all_code (emitted_of u))
 
--- Whatever file the image of a checked program was read of: the hart with which a run begins is at the first word of the image, and memory
--- has the unit, the globals with their first values, and the stack.
+-- Whatever file the image of a checked program was read of, and wherever its functions' tables are: the hart with which a run begins is at
+-- the first word of the image, and memory has the unit, the globals with their first values, room for exceptions, and the stack.
 abbrev pub ImagesBegin : Type 0
-ImagesBegin = (p : Checked) → IsChecked p → (i : CleanImage) → ImageStands (contents_for (emitted_for p)) i.image →
-    StandsBefore (unit_for p) (code_at (emitted_for p)) (program_of i).hart
+ImagesBegin = (p : Checked) → IsChecked p → (i : CleanImage) (tables : ℕ → ℕ) → ImageStands (contents_for (emitted_for p)) i.image →
+    StandsBefore (unit_for p) (code_at (emitted_for p)) tables (program_of i).hart

@@ -3,6 +3,7 @@ ghost use Rattle.image_beginning.specs.Images.{GlobalsAreInts, ImagesBegin, Unit
 
 use checked_regions::laws::checked_regions_are_well_formed;
 use function_lengths::laws::checked_functions_are_short;
+use operation_simulation::laws::units_stand;
 use source_bounds::laws::checked_is_linkable;
 use unit_simulation::laws::checked_units_are_asked;
 
@@ -25,4 +26,5 @@ pub fn images_begin()
     checked_units_are_asked();
     checked_functions_are_short();
     checked_regions_are_well_formed();
+    units_stand();
 }
