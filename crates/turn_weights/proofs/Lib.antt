@@ -1,0 +1,9 @@
+pub mod Stubs
+pub mod Pace
+pub mod Effects
+pub mod Credit
+pub mod Unwound
+pub mod Steps
+pub mod Returns
+pub mod Acts
+pub mod Runs

@@ -1,0 +1,8 @@
+// Laws on what runs of linear code weigh: calls of no effect, whose contracts state what holds of every program.
+ghost use Rattle.turn_weights.specs.Runs.{RunsWeighLittle};
+
+/// Whatever operations weigh, if labels weigh nothing, a run of a program weighs no more for each of its turns than the longest of its
+/// functions, with what its operations call of the runtime's own functions.
+pub fn runs_weigh_little()
+    ensures { RunsWeighLittle }
+{}
