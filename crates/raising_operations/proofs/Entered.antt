@@ -1,5 +1,5 @@
 -- A pad that the unwinder has installed is entered.
-use Rattle.std.proofs.Common.{◌≡◌, ◌∙◌, refl, sym, ap, subst, arith, ℕ, ◌+◌, ◌*◌, ◌<◌, ◌≤◌, ℤ, List, [], ◌∷◌, ◌++◌, length, map, append_assoc, Option, Some, None}
+use Rattle.std.proofs.Common.{◌≡◌, ◌∙◌, sym, ap, subst, arith, ℕ, ◌+◌, ◌≤◌, List, [], ◌∷◌, ◌++◌, length, append_assoc, Option, Some, None}
 use Rattle.std.specs.Prelude.{slice_get}
 use Rattle.std.specs.List.{AllByRecursion}
 use Rattle.std.proofs.lemmas.List.{map-append}
@@ -11,10 +11,10 @@ use Rattle.cxa_runtime.specs.World as abi
 use Rattle.cxa_runtime.specs.Raising.{Image, at_pad}
 use Rattle.region_forms.specs.World.{Word, nothing, number_word, address_word, flying, unwinding, World}
 use Rattle.linear_forms.specs.Linear.{LinearOp, pad}
-use Rattle.linear_forms.specs.Stub.{compiled, terminating, CodeOp, linear}
+use Rattle.linear_forms.specs.Stub.{compiled, terminating, linear}
 use Rattle.linear_forms.specs.Activation.{Activation, State as LinearState, Next, goes_to, compiled_op, fetch}
 use Rattle.linear_forms.specs.UnitRun.{code_of}
-use Rattle.emission_forms.specs.Registers.{a0, a1, sp}
+use Rattle.emission_forms.specs.Registers.{sp}
 use Rattle.emission_forms.specs.Routine.{op_word}
 use Rattle.code_simulation.specs.Numbers.{IsInt, extended}
 use Rattle.code_simulation.specs.Standing.{address}
@@ -22,7 +22,7 @@ use Rattle.code_simulation.proofs.Registers.{set_length, read_same, read_other}
 use Rattle.image_tables.specs.Functions.{records_end, operation_at}
 use Rattle.raise_simulation.specs.OpenCalls.{outer_sp}
 use Rattle.raise_simulation.specs.Opens.{Open, activations, calls, Judge}
-use Rattle.raise_simulation.specs.Raises.{InFrame, Lands}
+use Rattle.raise_simulation.specs.Raises.{Lands}
 use Rattle.operation_simulation.specs.Plan.{Plan, function, shape, routine, first_word, setting}
 use Rattle.operation_simulation.specs.Extents.{newer}
 use Rattle.operation_simulation.specs.Exceptions.{destroyed}
@@ -32,12 +32,12 @@ use Rattle.operation_simulation.specs.Returns.{closed}
 use Rattle.operation_simulation.proofs.Closing.{newer_over, matches_narrowed}
 use Rattle.operation_simulation.proofs.Lines.{matches_alike}
 use Rattle.raising_operations.specs.Stacks.{IsRunning, InCall}
-use Rattle.raising_operations.specs.Pads.{PlainSlot, PadGets, AtPad, behind_pad}
+use Rattle.raising_operations.specs.Pads.{PlainSlot, PadGets, AtPad}
 use Rattle.raising_operations.proofs.Waiting.{opens_of, tail_of, all_are}
 use Rattle.raising_operations.proofs.Stacks.{all_opens, all_tail}
 use Rattle.raising_operations.proofs.Pads.{pads_run}
-use Rattle.raising_operations.proofs.Passing.{Passed, StopsStubs, GoesByCalls, PadIs, pad_is, inner_passed}
-use Rattle.raising_operations.proofs.Landing.{Landed, same_first, same_others, one_number, landed, popped_to, runtime_to}
+use Rattle.raising_operations.proofs.Passing.{Passed, StopsStubs, GoesByCalls, pad_is, inner_passed}
+use Rattle.raising_operations.proofs.Landing.{same_first, same_others, one_number, landed, popped_to, runtime_to}
 
 -- ---- the landing among open calls
 split_activations : (inner : List Open) (landing : Open) (outer : List Open) (tail : List Activation) →

@@ -1,5 +1,5 @@
 -- A landing in a compiled function: its call is the newest again.
-use Rattle.std.proofs.Common.{◌≡◌, ◌∙◌, refl, sym, ap, subst, arith, ℕ, ◌+◌, ◌*◌, ◌<◌, ◌≤◌, ℤ, true, false, List, [], ◌∷◌, ◌++◌, length, map, append_assoc, Option, Some, inl, inr}
+use Rattle.std.proofs.Common.{◌≡◌, ◌∙◌, refl, sym, ap, subst, arith, ℕ, ◌+◌, ◌<◌, List, [], ◌∷◌, ◌++◌, inl, inr}
 use Rattle.std.specs.Prelude.{◌⊎◌}
 use Rattle.std.specs.List.{AllByRecursion}
 use Rattle.rv64_isa.specs.State.{Part}
@@ -9,16 +9,16 @@ use Rattle.linear_forms.specs.Activation.{Activation}
 use Rattle.linear_forms.specs.UnitRun.{code_of}
 use Rattle.cxa_runtime.specs.World as abi
 use Rattle.stub_simulation.specs.Stretches.{frame_size}
-use Rattle.raise_simulation.specs.OpenCalls.{OpenCall, outer_sp}
+use Rattle.raise_simulation.specs.OpenCalls.{outer_sp}
 use Rattle.raise_simulation.specs.Opens.{Open, activations, calls, Judge}
-use Rattle.operation_simulation.specs.Plan.{Plan, shape, narrowed}
+use Rattle.operation_simulation.specs.Plan.{Plan, shape}
 use Rattle.operation_simulation.specs.Extents.{newer}
 use Rattle.operation_simulation.specs.StubCalls.{StubWaits, DestructorWaits, UnexpectedWaits, LeavingWaits}
 use Rattle.operation_simulation.specs.Calls.{CallStands, CallsWait}
-use Rattle.operation_simulation.specs.Exceptions.{addresses_of, exceptions_in, kept_by, destroyed_by, destroyed, ExceptionsMatch}
+use Rattle.operation_simulation.specs.Exceptions.{addresses_of, exceptions_in, kept_by, destroyed, ExceptionsMatch}
 use Rattle.operation_simulation.specs.Matches.{RuntimeMatches, MemoryMatches}
 use Rattle.operation_simulation.specs.Returns.{closed}
-use Rattle.operation_simulation.proofs.Closing.{live_before, newer_over, call_narrowed, waits_narrowed, apart_narrowed, objects_narrowed, unit_narrowed, matches_narrowed, destroyed_nothing, runtime_popped}
+use Rattle.operation_simulation.proofs.Closing.{live_before, newer_over, call_narrowed, waits_narrowed, apart_narrowed, objects_narrowed, unit_narrowed, destroyed_nothing, runtime_popped}
 use Rattle.raising_operations.proofs.Waiting.{opens_of, tail_of, all_are}
 use Rattle.raising_operations.proofs.Passing.{Passed, StopsStubs, stub_not_passed}
 

@@ -6,3 +6,6 @@ pub mod Pads
 pub mod Passing
 pub mod Landing
 pub mod Entered
+pub mod Targets
+pub mod Replaced
+pub mod Thrown
