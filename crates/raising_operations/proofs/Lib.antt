@@ -9,3 +9,4 @@ pub mod Entered
 pub mod Targets
 pub mod Replaced
 pub mod Thrown
+pub mod Selectors

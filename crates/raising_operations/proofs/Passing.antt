@@ -51,13 +51,13 @@ pub data Passed (code : Code) (judge : Judge) (a : Activation) : Type 0 where
   by_pad : (q : ℕ) (chain : List ℤ) → cover_of code a ≡ padded q chain → judge a chain ≡ nothing_here → Passed code judge a
 
 -- where an unwind stops at a call, those that wait for it stay, or the program terminates
-abbrev StopsAt : List Activation → Next → Type 0
+abbrev pub StopsAt : List Activation → Next → Type 0
 StopsAt fs x = (st : State) → x ≡ goes_to st → (st.frames ≡ fs) ⊎ (st.top.function ≡ terminating)
 
 pad_stops : (o : Option CodeOp) (word : Word) (n : ℤ) (f : Function) (p : ℕ) (frame : Frame) (fs : List Activation) (w : World) → StopsAt fs (pad_entered o word n f p frame fs w)
 pad_stops o word n f p frame fs w st e = inl (ap (λ s. s.frames) (pad_is o word n f p frame fs w st e).is)
 
-one_of_both : (b : Bool) (x y : Next) (st : State) → (if b then x else y) ≡ goes_to st → (x ≡ goes_to st) ⊎ (y ≡ goes_to st)
+pub one_of_both : (b : Bool) (x y : Next) (st : State) → (if b then x else y) ≡ goes_to st → (x ≡ goes_to st) ⊎ (y ≡ goes_to st)
 one_of_both true x y st e = inl e
 one_of_both false x y st e = inr e
 

@@ -13,7 +13,7 @@ use Rattle.cxa_runtime.specs.Objects.{is_thrown}
 use Rattle.region_forms.specs.Caught.{Entry, flown}
 use Rattle.region_forms.specs.World.{Exception, replaced}
 use Rattle.operation_simulation.specs.Exceptions.{Addresses, LinearExceptions, KeptExceptions, live_in, HeaderIs, SlotIs, HasHeader, AreCaught, IsLeft, ExceptionsMatch}
-use Rattle.exception_operations.proofs.Headers.{slot_below, IsIdle, all_caught, sound_kept}
+use Rattle.exception_operations.proofs.Headers.{slot_below, IsIdle, none_caught, all_caught, sound_kept}
 use Rattle.exception_operations.proofs.Freed.{slots_alike}
 use Rattle.raising_operations.proofs.Replaced.{replaced_in, other_replaced, once_replaced}
 
@@ -113,7 +113,8 @@ module _ (t : Addresses) (gone : List ℕ) (v : LinearExceptions) (w : KeptExcep
   thrown_match =
       let headers = w.exceptions.live in
       let low = slot_below headers slot h.header h.there in
-      let sound = sound_kept w.exceptions slot (Some new) v.caught idle m.caught m.sound in
+      let out = none_caught headers slot idle v.caught w.exceptions.caught m.caught in
+      let sound = sound_kept w.exceptions slot (Some new) out m.sound in
       record {
         sound = record { slots = sound.slots; live = sound.live; once = sound.once; counted = sound.counted };
         headers = slot_at;
@@ -129,7 +130,7 @@ module _ (t : Addresses) (gone : List ℕ) (v : LinearExceptions) (w : KeptExcep
         );
         once = once_replaced v.live e x m.once;
         numbers = λ d y is. (live_at d y is).1;
-        caught = subst (λ xs. AreCaught (slice_set headers slot (Some new)) xs w.exceptions.caught) (sym (not_flown v.caught w.exceptions.caught m.caught)) (all_caught headers slot idle (Some new) v.caught w.exceptions.caught m.caught);
+        caught = subst (λ xs. AreCaught (slice_set headers slot (Some new)) xs w.exceptions.caught) (sym (not_flown v.caught w.exceptions.caught m.caught)) (all_caught headers slot (Some new) v.caught w.exceptions.caught out m.caught);
         uncaught = ap (λ n. n + 1) m.uncaught;
         terminate_handler = m.terminate_handler;
         unexpected_handler = m.unexpected_handler;
