@@ -12,12 +12,13 @@ use Rattle.cxa_runtime.specs.Raising.{Image, at_pad}
 use Rattle.region_forms.specs.World.{Word, nothing, number_word, address_word, flying, unwinding, World}
 use Rattle.linear_forms.specs.Linear.{LinearOp, pad}
 use Rattle.linear_forms.specs.Stub.{compiled, terminating, linear}
-use Rattle.linear_forms.specs.Activation.{Activation, State as LinearState, Next, goes_to, compiled_op, fetch}
+use Rattle.linear_forms.specs.Activation.{Activation, State as LinearState, Next, goes_to, compiled_op, fetch, look}
 use Rattle.linear_forms.specs.UnitRun.{code_of}
 use Rattle.emission_forms.specs.Registers.{sp}
 use Rattle.emission_forms.specs.Routine.{op_word}
-use Rattle.code_simulation.specs.Numbers.{IsInt, extended}
+use Rattle.code_simulation.specs.Numbers.{extended}
 use Rattle.code_simulation.specs.Standing.{address}
+use Rattle.code_simulation.specs.Turning.{SameRuntime}
 use Rattle.code_simulation.proofs.Registers.{set_length, read_same, read_other}
 use Rattle.image_tables.specs.Functions.{records_end, operation_at}
 use Rattle.raise_simulation.specs.OpenCalls.{outer_sp}
@@ -32,11 +33,12 @@ use Rattle.operation_simulation.specs.Returns.{closed}
 use Rattle.operation_simulation.proofs.Closing.{newer_over, matches_narrowed}
 use Rattle.operation_simulation.proofs.Lines.{matches_alike}
 use Rattle.raising_operations.specs.Stacks.{IsRunning, InCall}
-use Rattle.raising_operations.specs.Pads.{PlainSlot, PadGets, AtPad}
+use Rattle.raising_operations.specs.Pads.{PadGets, PadsArePlain, FiltersAreInts, AtPad, behind_pad}
 use Rattle.raising_operations.proofs.Waiting.{opens_of, tail_of, all_are}
 use Rattle.raising_operations.proofs.Stacks.{all_opens, all_tail}
 use Rattle.raising_operations.proofs.Pads.{pads_run}
 use Rattle.raising_operations.proofs.Passing.{Passed, StopsStubs, GoesByCalls, pad_is, inner_passed}
+use Rattle.raising_operations.proofs.Selectors.{SelectsInts, inner_gone}
 use Rattle.raising_operations.proofs.Landing.{same_first, same_others, one_number, landed, popped_to, runtime_to}
 
 -- ---- the landing among open calls
@@ -91,10 +93,6 @@ fetched_there : (p : Plan) (m place object selector : ℕ) (o : Option LinearOp)
 fetched_there p m place object selector None e = absurd (cc e)
 fetched_there p m place object selector (Some q) e = let same : q ≡ pad object selector = cc e in ap Some same
 
--- each pad's slots are no variables of its function
-pub PadsArePlain : Plan → Type 0
-PadsArePlain p = (m place object selector : ℕ) → slice_get (function p m).ops place ≡ Some (pad object selector) → PlainSlot p m object × PlainSlot p m selector
-
 -- ---- the hart in the pad
 pad_hart : (s : State) (value selector : ℕ) → length s.regs ≡ 32 → (length (with_reg (with_reg s.regs 10 value) 11 selector) ≡ 32) × (reg_of (with_reg (with_reg s.regs 10 value) 11 selector) 10 ≡ value) ×
     (reg_of (with_reg (with_reg s.regs 10 value) 11 selector) 11 ≡ selector) × (reg_of (with_reg (with_reg s.regs 10 value) 11 selector) 2 ≡ reg_of s.regs 2)
@@ -114,10 +112,10 @@ module _ (p : Plan) (i : CleanImage) (n back : ℕ) (a : Activation) (fs : List 
   pub pad_entered_runs : (image : Image) (judge : Judge) (go : List Activation → Next) (u : World) (w : abi.World) (word : Word) (value cfa m : ℕ) (next : Next) (st : LinearState) (result : Raised × State) →
       (lands : Lands (code_of p.unit) (operation_at p.unit) word u s (x s sp) (all_opens p i n back a fs v s running h) (all_tail p i n back a fs v s running h) cfa next result) →
       GoesByCalls (code_of p.unit) judge go → StopsStubs judge → next ≡ go (a ∷ fs) → next ≡ goes_to st → st.top.function ≡ compiled m → PadsArePlain p →
-      u.memory ≡ v.memory → u.calls ≡ v.calls → v.last_number ≤ u.last_number → RuntimeMatches p fs u w → PadGets p u word value → IsInt lands.selector →
-      Matched image 2 (at_pad value lands.selector (abi.at_hart lands.after w)) [] (λ t. Matches (closed p st.top.frame.call) st t)
-  unfolding all_opens all_tail PadsArePlain
-  pad_entered_runs image judge go u w word value cfa m next st result lands goes stops from to callee plain ints count later runtime gets int =
+      u.memory ≡ v.memory → u.calls ≡ v.calls → v.last_number ≤ u.last_number → RuntimeMatches p fs u w → PadGets p u word value → SelectsInts (code_of p.unit) go → FiltersAreInts p →
+      Matched image 2 (at_pad value lands.selector (abi.at_hart lands.after w)) [] (λ t. Matches (closed p st.top.frame.call) st t × SameRuntime w t)
+  unfolding all_opens all_tail
+  pad_entered_runs image judge go u w word value cfa m next st result lands goes stops from to callee plain ints count later runtime gets selects filters =
       let code = code_of p.unit in
       let opens = all_opens p i n back a fs v s running h in
       let tail = all_tail p i n back a fs v s running h in
@@ -131,6 +129,9 @@ module _ (p : Plan) (i : CleanImage) (n back : ℕ) (a : Activation) (fs : List 
       let live : st.top.function ≡ terminating → ⊥ = λ e. let both : compiled m ≡ terminating = sym callee ∙ e in cc both in
       let passed = all_of (Passed code judge) lands.inner
       (inner_passed code judge go (activations lands.inner) landing.activation rest st goes (ap go (sym whole) ∙ (sym from ∙ to)) (ap (λ y. y.frames) entered.is) live) in
+      let here = inner_gone code judge go (activations lands.inner) landing.activation rest st goes (ap go (sym whole) ∙ (sym from ∙ to)) (ap (λ y. y.frames) entered.is) live in
+      let int = selects landing.activation rest st lands.pad lands.chain word lands.selector u here (ap (λ y. y.frames) entered.is) live lands.covers (sym lands.enters ∙ to)
+      (filters m landing.activation.place lands.pad lands.chain (ap (λ f. look code f landing.activation.place) (sym function_is) ∙ lands.covers)) in
       let there = has_landed p i n back a fs v s running h judge m lands.inner landing lands.outer lands.split passed stops function_is in
       let q = closed p frame.call in
       let op = fetched_there p m lands.pad entered.object entered.selector (slice_get (function p m).ops lands.pad) (ap (λ f. fetch code f lands.pad) (sym function_is) ∙ entered.fetched) in
@@ -160,9 +161,30 @@ module _ (p : Plan) (i : CleanImage) (n back : ℕ) (a : Activation) (fs : List 
           plan = matching.plan;
         };
       } in
-      subst (λ y. Matched image 2 (at_pad value lands.selector (abi.at_hart lands.after w)) [] (λ t. Matches (closed p y.top.frame.call) y t)) (sym entered.is)
-      (pads_run image q m lands.pad entered.object entered.selector there.back landing.activation rest u word lands.selector (at_pad value lands.selector (abi.at_hart lands.after w)) at)
+      let ran = pads_run image q m lands.pad entered.object entered.selector there.back landing.activation rest u word lands.selector (at_pad value lands.selector (abi.at_hart lands.after w)) at in
+      let to : LinearState = behind_pad lands.pad entered.object entered.selector landing.activation rest u word lands.selector in
+      let whole : Matched image 2 (at_pad value lands.selector (abi.at_hart lands.after w)) [] (λ t. Matches (closed p to.top.frame.call) to t × SameRuntime w t) = record {
+        turns = ran.turns;
+        few = ran.few;
+        some = ran.some;
+        after = ran.after;
+        runs = ran.runs;
+        holds = (ran.holds.0, same_kept w ran.after value (extended lands.selector) lands.after ran.holds.1);
+      } in
+      subst (λ y. Matched image 2 (at_pad value lands.selector (abi.at_hart lands.after w)) [] (λ t. Matches (closed p y.top.frame.call) y t × SameRuntime w t)) (sym entered.is) whole
     where
+      same_kept : (w t : abi.World) (value selector : ℕ) (s : State) → SameRuntime (abi.gives_both value selector (abi.at_hart s w)) t → SameRuntime w t
+      same_kept w t value selector s h = record {
+        exceptions = h.exceptions;
+        terminate_handler = h.terminate_handler;
+        unexpected_handler = h.unexpected_handler;
+        last_number = h.last_number;
+        unwinding = h.unwinding;
+        input = h.input;
+        replies = h.replies;
+        terminating = h.terminating;
+      }
+
       gets_closed : (p : Plan) (u : World) (c : ℕ) (word : Word) (value : ℕ) → PadGets p u word value → PadGets (closed p c) u word value
       gets_closed p u c nothing value gets = gets
       gets_closed p u c (number_word z) value gets = gets

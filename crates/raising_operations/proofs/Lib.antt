@@ -10,3 +10,4 @@ pub mod Targets
 pub mod Replaced
 pub mod Thrown
 pub mod Selectors
+pub mod Raised

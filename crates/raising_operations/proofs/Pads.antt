@@ -1,5 +1,5 @@
 -- The words of a pad.
-use Rattle.std.proofs.Common.{◌≡◌, ◌∙◌, refl, sym, ap, subst, arith, ℕ, ◌+◌, ◌%◌, ◌^◌, ◌<◌, ◌≤◌, List, Some}
+use Rattle.std.proofs.Common.{◌≡◌, ◌∙◌, refl, sym, ap, subst, arith, ℕ, ◌+◌, ◌%◌, ◌^◌, ◌<◌, ◌≤◌, List, [], Some}
 use Rattle.rv64_isa.specs.Arithmetic.{add}
 use Rattle.rv64_isa.specs.State.{State, Part, with_value}
 use Rattle.rv64_isa.specs.Step.{x, imm12}
@@ -21,11 +21,17 @@ use Rattle.stub_simulation.proofs.Walking.{Path, walk_begins, walk_store, slot_t
 use Rattle.stub_simulation.proofs.Reaching.{low_half}
 use Rattle.operation_simulation.specs.Plan.{Plan, function, shape, routine, first_word, setting}
 use Rattle.operation_simulation.specs.Calls.{HeldBy}
-use Rattle.operation_simulation.specs.Matches.{MemoryMatches}
+use Rattle.operation_simulation.specs.Matches.{RuntimeMatches, MemoryMatches, Matches}
 use Rattle.operation_simulation.proofs.Words.{operation_at}
 use Rattle.operation_simulation.proofs.Slots.{slot_place_of, plain_room}
 use Rattle.operation_simulation.proofs.Holding.{slot_matches}
-use Rattle.operation_simulation.proofs.Matching.{matched}
+use Rattle.operation_simulation.proofs.Matching.{runtime_stays, Arrives}
+use Rattle.code_simulation.specs.Executes.{Executes}
+use Rattle.code_simulation.specs.Turning.{SameRuntime}
+use Rattle.code_simulation.proofs.Turning.{executes_turns}
+use Rattle.operation_simulation.specs.Operations.{Matched}
+use Rattle.cxa_runtime.specs.World as abi
+use Rattle.cxa_runtime.specs.Raising.{Image}
 use Rattle.raising_operations.specs.Pads.{PlainSlot, PadGets, behind_pad, PadsRun}
 
 -- ---- a slot in its frame
@@ -73,6 +79,32 @@ gets_small p v (address_word b) value gets = absurd gets
 gets_small p v (flying e d) value gets = gets.2
 gets_small p v (unwinding k) value gets = omega (arith, gets)
 
+-- ---- turns to where the next state stands
+stays_matched : (image : Image) (p : Plan) (n : ℕ) (next : LinearState) (w : abi.World) (back words k : ℕ) (t : State) → k ≤ words → (0 < words → 0 < k) → Executes k w.hart t → Arrives p n next back t → RuntimeMatches p next.frames next.world w →
+    Matched image words w [] (λ v. Matches p next v × SameRuntime w v)
+stays_matched image p n next w back words k t few some runs there runtime =
+    let ran = executes_turns image k w w.hart t refl runs in
+    let at : Arrives p n next back ran.after.hart = subst (Arrives p n next back) (sym ran.hart) there in
+    record {
+      turns = k;
+      few = few;
+      some = some;
+      after = ran.after;
+      runs = ran.turns;
+      holds = (
+        record {
+          number = n;
+          back = back;
+          runs = at.runs;
+          registers = at.registers;
+          pc = at.pc;
+          memory = at.memory;
+          runtime = runtime_stays p next.frames next.world w ran.after ran.runtime runtime;
+        },
+        ran.runtime,
+      );
+    }
+
 -- ---- both words
 pub pads_run : PadsRun
 pads_run image p n place object selector back a fs v word filter w h =
@@ -110,7 +142,7 @@ pads_run image p n place object selector back a fs v word filter w h =
     let u : State = second.after in
     let to : LinearState = behind_pad place object selector a fs v word filter in
     let same_stack : x u sp ≡ stack = second.hart.regs 2 in
-    matched image p n to w back 2 2 u (omega arith) (λ some. omega arith) second.runs
+    stays_matched image p n to w back 2 2 u (omega arith) (λ some. omega arith) second.runs
     (record {
       runs = h.runs;
       registers = second.hart.all;

@@ -6,15 +6,16 @@ use Rattle.std.proofs.lemmas.Bool.Decides.{nat_tests}
 use Rattle.scope_rules.specs.Outcome.{aborted}
 use Rattle.region_forms.specs.Form.{TypeRow}
 use Rattle.region_forms.specs.Guard.{matches, allows}
-use Rattle.region_forms.specs.World.{Word, number_word, flying, Frame, World, type_at, with_slot}
+use Rattle.region_forms.specs.World.{Word, number_word, flying, unwinding, Frame, World, type_at, with_slot}
 use Rattle.linear_forms.specs.Tables.{padded, Sense, cleanup, clause, list_of, no_sense}
-use Rattle.linear_forms.specs.Verdict.{Verdict, target, no_way, clean, nothing_here, or_clean, judged, verdict, pad_verdict}
+use Rattle.linear_forms.specs.Verdict.{Verdict, target, no_way, clean, nothing_here, or_clean, judged, verdict, pad_verdict, has_cleanup}
 use Rattle.linear_forms.specs.Stub.{Function, terminating, CodeOp}
 use Rattle.linear_forms.specs.Activation.{Code, Activation, State, Next, goes_to, finishes, by_program, fault, fetch, sense, stub_frame, function_word}
 use Rattle.region_forms.specs.World.{nothing}
 use Rattle.linear_forms.specs.Unwinding.{pad_entered, terminated_in, unwound_by, unwound_at, unwound_above}
+use Rattle.linear_forms.specs.Forced.{forced_by, forced_at, forced_above}
 use Rattle.code_simulation.specs.Numbers.{IsInt}
-use Rattle.raise_simulation.specs.Verdicts.{judged_by, cover_of}
+use Rattle.raise_simulation.specs.Verdicts.{judged_by, forced_by_table, cover_of}
 use Rattle.raise_simulation.specs.Opens.{Judge}
 use Rattle.raising_operations.proofs.Passing.{pad_is, Passed, StopsAt, one_of_both, GoesByCalls}
 
@@ -56,11 +57,11 @@ pad_chosen rows senses (m ∷ chain) t n e ints = chosen rows senses (m ∷ chai
 itself : (s : ℕ) → (s == s) ≡ true
 itself s = grind (arith, nat_tests)
 
-pub one_selector : (o : Option CodeOp) (x y : Word) (n m : ℤ) (f : Function) (p : ℕ) (frame : Frame) (fs : List Activation) (w : World) (st : State) → pad_entered o x n f p frame fs w ≡ goes_to st → pad_entered o y m f p frame fs w ≡ goes_to st →
+pub one_selector : (o : Option CodeOp) (x y : Word) (n m : ℤ) (f : Function) (p : ℕ) (frame : Frame) (fs : List Activation) (w u : World) (st : State) → pad_entered o x n f p frame fs w ≡ goes_to st → pad_entered o y m f p frame fs u ≡ goes_to st →
     n ≡ m
-one_selector o x y n m f p frame fs w st one two =
+one_selector o x y n m f p frame fs w u st one two =
     let a = pad_is o x n f p frame fs w st one in
-    let b = pad_is o y m f p frame fs w st two in
+    let b = pad_is o y m f p frame fs u st two in
     let ops = sym a.fetched ∙ b.fetched in
     let slot : a.selector ≡ b.selector = cc ops in
     let words : number_word n ≡ number_word m
@@ -108,13 +109,12 @@ fewer code judge go (a ∷ fs) st steps ends e = by (steps a fs) (fewer code jud
 
 -- ---- the selector of a landing
 -- The first call of an unwind stops it in a pad, and its filters are ints: so is the selector.
-pub SelectsInts : Code → (List Activation → Next) → World → Type 0
-SelectsInts code go w = (a : Activation) (fs : List Activation) (st : State) (q : ℕ) (chain : List ℤ) (word : Word) (n : ℤ) → go (a ∷ fs) ≡ goes_to st → st.frames ≡ fs → (st.top.function ≡ terminating → ⊥) → cover_of code a ≡ padded q chain →
-    pad_entered (fetch code a.function q) word n a.function q a.frame fs w ≡ goes_to st → AllByRecursion IsInt chain → IsInt n
+abbrev pub SelectsInts : Code → (List Activation → Next) → Type 0
+SelectsInts code go = (a : Activation) (fs : List Activation) (st : State) (q : ℕ) (chain : List ℤ) (word : Word) (n : ℤ) (u : World) → go (a ∷ fs) ≡ goes_to st → st.frames ≡ fs → (st.top.function ≡ terminating → ⊥) → cover_of code a ≡ padded q chain →
+    pad_entered (fetch code a.function q) word n a.function q a.frame fs u ≡ goes_to st → AllByRecursion IsInt chain → IsInt n
 
-pub raise_selects : (code : Code) (d e : ℕ) (w : World) → GoesByCalls code (λ a. judged_by code a (type_at w e)) (λ fs. unwound_above code d e fs w) → SelectsInts code (λ fs. unwound_above code d e fs w) w
-unfolding SelectsInts
-raise_selects code d e w steps a fs st q chain word n goes frames live cover pad ints =
+pub raise_selects : (code : Code) (d e : ℕ) (w : World) → GoesByCalls code (λ a. judged_by code a (type_at w e)) (λ fs. unwound_above code d e fs w) → SelectsInts code (λ fs. unwound_above code d e fs w)
+raise_selects code d e w steps a fs st q chain word n u goes frames live cover pad ints =
     by (pad_verdict code.rows (sense code a.function) chain (type_at w e)) refl (sym (ap (λ c. unwound_at code c d e a.function a.frame fs w rest) cover) ∙ goes)
   where
     rest : Next
@@ -128,14 +128,31 @@ raise_selects code d e w steps a fs st q chain word n goes frames live cover pad
       where
         one : (pad_entered (fetch code a.function q) (flying e d) k a.function q a.frame fs w ≡ goes_to st) ⊎ (finishes fault w ≡ goes_to st) → IsInt n
         one (inl h) =
-            let same : k ≡ n = one_selector (fetch code a.function q) (flying e d) word k n a.function q a.frame fs w st h pad in
+            let same : k ≡ n = one_selector (fetch code a.function q) (flying e d) word k n a.function q a.frame fs w u st h pad in
             pad_chosen code.rows (sense code a.function) chain (type_at w e) n (said ∙ ap target same) ints
         one (inr h) = absurd (cc h)
     by no_way said g = absurd (live (terminates_there a.function a.frame fs w st g))
     by clean said g =
-        let same : pos 0 ≡ n = one_selector (fetch code a.function q) (flying e d) word (pos 0) n a.function q a.frame fs w st g pad in
+        let same : pos 0 ≡ n = one_selector (fetch code a.function q) (flying e d) word (pos 0) n a.function q a.frame fs w u st g pad in
         cc same
     by nothing_here said g = absurd (none (fewer code judge (λ xs. unwound_above code d e xs w) fs st steps (λ h. absurd (cc h)) g))
+      where
+        none : (length st.frames < length fs) ⊎ (st.top.function ≡ terminating) → ⊥
+        none (inl less) = omega (arith, less, ap length frames)
+        none (inr there) = live there
+
+pub forced_selects : (code : Code) (k : ℤ) (w : World) → GoesByCalls code (forced_by_table code) (λ fs. forced_above code k fs w) → SelectsInts code (λ fs. forced_above code k fs w)
+forced_selects code k w steps a fs st q chain word n u goes frames live cover pad ints =
+    by (has_cleanup (sense code a.function) chain) (sym (ap (λ c. forced_at code c k a.function a.frame fs w rest) cover) ∙ goes)
+  where
+    rest : Next
+    rest = forced_above code k fs w
+
+    by : (b : Bool) → forced_by code b q k a.function a.frame fs w rest ≡ goes_to st → IsInt n
+    by true g =
+        let same : pos 0 ≡ n = one_selector (fetch code a.function q) (unwinding k) word (pos 0) n a.function q a.frame fs w u st g pad in
+        cc same
+    by false g = absurd (none (fewer code (forced_by_table code) (λ xs. forced_above code k xs w) fs st steps (λ h. absurd (cc h)) g))
       where
         none : (length st.frames < length fs) ⊎ (st.top.function ≡ terminating) → ⊥
         none (inl less) = omega (arith, less, ap length frames)

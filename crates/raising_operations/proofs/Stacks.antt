@@ -1,5 +1,5 @@
 -- The stack of a state that matches.
-use Rattle.std.proofs.Common.{refl, ap, arith, ℕ, ◌+◌, List, ◌∷◌}
+use Rattle.std.proofs.Common.{◌≡◌, refl, ap, arith, ℕ, ◌+◌, List, ◌∷◌, ◌++◌, length, Option}
 use Rattle.table_forms.specs.Verdict.{Thrown, forced}
 use Rattle.rv64_isa.specs.State.{State}
 use Rattle.rv64_isa.specs.Step.{x}
@@ -11,7 +11,8 @@ use Rattle.linear_forms.specs.UnitRun.{code_of}
 use Rattle.emission_forms.specs.Registers.{sp}
 use Rattle.image_tables.specs.Functions.{frame_of, operation_at}
 use Rattle.raise_simulation.specs.Tables.{said}
-use Rattle.raise_simulation.specs.Opens.{Open, Judge, StackStands}
+use Rattle.image_forms.specs.Linkable.{BaseIsThere}
+use Rattle.raise_simulation.specs.Opens.{Open, activations, Judge, StackStands}
 use Rattle.operation_simulation.specs.Plan.{Plan, shape}
 use Rattle.raising_operations.specs.Stacks.{IsRunning, InCall, StackFound, StacksStand}
 use Rattle.raising_operations.proofs.Saying.{SaysAll, raises_say, forced_says}
@@ -39,14 +40,24 @@ module _ (p : Plan) (i : CleanImage) (n back : ℕ) (a : Activation) (fs : List 
       (waiting_stack p i judge thrown s fs v (x s sp + (shape p n).size) back a.frame.call running says h.memory.unit h.memory.waiting) in
       record { pointer = refl; registers = h.registers; stand = whole.stand; agree = whole.agree; ends = whole.ends }
 
-  pub stack_found : StackFound p i a fs s
+  pub stack_raised : (t : Option ℕ) → BaseIsThere (length p.unit.types) t → StackStands (code_of p.unit) (operation_at p.unit) (λ b. judged_by (code_of p.unit) b t) (program_of i).image.fdes (thrown_as (records_end p.unit) p.unit.types t) s
+      (x s sp) all_opens all_tail
+  stack_raised t known = stack_for (λ b. judged_by (code_of p.unit) b t) (thrown_as (records_end p.unit) p.unit.types t) (raises_say p i s t running known)
+
+  pub stack_unwound : StackStands (code_of p.unit) (operation_at p.unit) (forced_by_table (code_of p.unit)) (program_of i).image.fdes forced s (x s sp) all_opens all_tail
+  stack_unwound = stack_for (forced_by_table (code_of p.unit)) forced (forced_says p i s running)
+
+  pub opens_are : activations all_opens ++ all_tail ≡ a ∷ fs
   unfolding all_opens all_tail
+  opens_are = ap (λ xs. a ∷ xs) (all_are p fs v s.memory (x s sp + (shape p n).size) back a.frame.call h.memory.waiting)
+
+  pub stack_found : StackFound p i a fs s
   stack_found = record {
     opens = all_opens;
     tail = all_tail;
-    are = ap (λ xs. a ∷ xs) (all_are p fs v s.memory (x s sp + (shape p n).size) back a.frame.call h.memory.waiting);
-    raised = λ t known. stack_for (λ b. judged_by (code_of p.unit) b t) (thrown_as (records_end p.unit) p.unit.types t) (raises_say p i s t running known);
-    unwound = stack_for (forced_by_table (code_of p.unit)) forced (forced_says p i s running);
+    are = opens_are;
+    raised = stack_raised;
+    unwound = stack_unwound;
   }
 
 pub stacks_stand : StacksStand

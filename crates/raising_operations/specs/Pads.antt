@@ -7,11 +7,15 @@ use Rattle.region_forms.specs.World.{of_exception, Word, number_word, flying, un
 use Rattle.region_forms.specs.WellFormed.{is_variable}
 use Rattle.linear_forms.specs.Linear.{pad}
 use Rattle.linear_forms.specs.Stub.{compiled}
-use Rattle.linear_forms.specs.Activation.{Activation, State}
+use Rattle.linear_forms.specs.Tables.{padded}
+use Rattle.linear_forms.specs.Activation.{Activation, State, look}
+use Rattle.linear_forms.specs.UnitRun.{code_of}
+use Rattle.std.specs.List.{AllByRecursion}
 use Rattle.emission_forms.specs.Registers.{a0, a1, sp}
 use Rattle.emission_forms.specs.Routine.{op_word}
 use Rattle.code_simulation.specs.Numbers.{IsInt, extended}
 use Rattle.code_simulation.specs.Standing.{address}
+use Rattle.code_simulation.specs.Turning.{SameRuntime}
 use Rattle.operation_simulation.specs.Plan.{Plan, function, shape, slot_kinds, routine, first_word, setting}
 use Rattle.operation_simulation.specs.Matches.{RuntimeMatches, MemoryMatches, Matches}
 use Rattle.operation_simulation.specs.Operations.{Matched}
@@ -20,6 +24,14 @@ use Rattle.operation_simulation.specs.Operations.{Matched}
 pub record PlainSlot (p : Plan) (n s : ℕ) : Type 0 where
   pub inside : s < length (shape p n).slots
   pub plain : is_variable (slot_kinds p n s) ≡ false
+
+-- each pad's slots are no variables of its function
+abbrev pub PadsArePlain : Plan → Type 0
+PadsArePlain p = (m place object selector : ℕ) → slice_get (function p m).ops place ≡ Some (pad object selector) → PlainSlot p m object × PlainSlot p m selector
+
+-- the filters of each chain are ints
+abbrev pub FiltersAreInts : Plan → Type 0
+FiltersAreInts p = (m place q : ℕ) (chain : List ℤ) → look (code_of p.unit) (compiled m) place ≡ padded q chain → AllByRecursion IsInt chain
 
 -- what a pad gets in a0 for the word that linear code puts in its first slot: the address of the object of an exception that travels, or 0
 -- in a forced unwind
@@ -50,7 +62,7 @@ behind_pad place object selector a fs v word filter = record {
   world = v;
 }
 
--- The two words of a pad put into its slots what it gets, and the next operation begins.
+-- The two words of a pad put into its slots what it gets, and the next operation begins. What the runtime keeps stays.
 abbrev pub PadsRun : Type 0
 PadsRun = (image : Image) (p : Plan) (n place object selector back : ℕ) (a : Activation) (fs : List Activation) (v : World) (word : Word) (filter : ℤ) (w : abi.World) →
-    AtPad p n place object selector back a fs v word filter w → Matched image 2 w [] (λ u. Matches p (behind_pad place object selector a fs v word filter) u)
+    AtPad p n place object selector back a fs v word filter w → Matched image 2 w [] (λ u. Matches p (behind_pad place object selector a fs v word filter) u × SameRuntime w u)
