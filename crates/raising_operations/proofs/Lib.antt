@@ -11,3 +11,4 @@ pub mod Replaced
 pub mod Thrown
 pub mod Selectors
 pub mod Raised
+pub mod ThrowWords
