@@ -10,5 +10,6 @@ pub mod Targets
 pub mod Replaced
 pub mod Thrown
 pub mod Selectors
+pub mod Aiming
 pub mod Raised
 pub mod ThrowWords

@@ -1,3 +1,4 @@
 pub mod Stacks
+pub mod Targets
 pub mod Throws
 pub mod Pads
