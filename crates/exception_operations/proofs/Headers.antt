@@ -20,7 +20,7 @@ slot_below headers slot h there = live_below headers slot (ap is_some there)
 pub same_slot : (a b : ℕ) → object_of a ≡ object_of b → a ≡ b
 same_slot a b e = omega (arith, e)
 
-thrown_or : (b : Bool) → b ≡ true → b ≡ false → ⊥
+pub thrown_or : (b : Bool) → b ≡ true → b ≡ false → ⊥
 thrown_or b t f = let both : true ≡ false = sym t ∙ f in cc both
 
 -- ---- how many there are

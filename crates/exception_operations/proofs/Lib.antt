@@ -17,3 +17,5 @@ pub mod EndCatching
 pub mod CatchSteps
 pub mod ComingBack
 pub mod Leaves
+pub mod Cleaning
+pub mod LastLeft

@@ -1,11 +1,14 @@
 // Laws of operations on exceptions: calls of no effect, whose contracts state what holds of every program.
 ghost use Rattle.exception_operations.specs.Enters.{EntersRun};
 ghost use Rattle.exception_operations.specs.Frees.{FreesRun};
+ghost use Rattle.exception_operations.specs.Leaves.{LeavesRun};
 ghost use Rattle.exception_operations.specs.Makes.{MakesRun};
 ghost use Rattle.exception_operations.specs.Pads.{PadsRun};
 
 use code_simulation::laws::calls_are_turns;
-use stub_simulation::laws::calls_are_made;
+use stub_simulation::laws::{
+    calls_are_made, end_catch_comes_back, end_catch_frees, end_catch_runs,
+};
 
 /// An exception object that is being built is given back on the ABI machine as on the machine for linear code.
 pub fn frees_run()
@@ -35,3 +38,13 @@ pub fn makes_run()
 pub fn pads_run()
     ensures { PadsRun }
 {}
+
+/// A handler is left on the ABI machine as on the machine for linear code, where no destructor is called for its exception.
+pub fn leaves_run()
+    ensures { LeavesRun }
+{
+    end_catch_runs();
+    calls_are_made();
+    end_catch_comes_back();
+    end_catch_frees();
+}
