@@ -210,7 +210,7 @@ none_step p st e type kept there frame is =
     ap (λ (f : Frame). step (code_of p.unit) (in_catch st 1 f v)) is ∙ ap (λ o. goes_to (in_catch st 2 (with_slot 1 nothing (with_slot 0 (address_word (object_address e)) no_words)) (if is_bad o then empty_call fs v else v))) known
     ∙ ap (λ f. goes_to (in_catch st 2 f (if is_bad (Some type) then empty_call fs v else v))) (sym is)
 
-items_then : (v : World) (x : Entry) (xs : List Entry) (more : List Item) → v.caught ≡ x ∷ xs → (left v).items ++ more ≡ v.items ++ Leave x.number ∷ more
+pub items_then : (v : World) (x : Entry) (xs : List Entry) (more : List Item) → v.caught ≡ x ∷ xs → (left v).items ++ more ≡ v.items ++ Leave x.number ∷ more
 items_then v x xs more caught = ap (λ is. is ++ more) (leave_shown v x xs caught) ∙ append_assoc v.items (Leave x.number ∷ []) more
 
 pub leaves_run : EndCatchRuns → CallsAreMade → EndCatchComesBack → EndCatchFrees → LeavesRun

@@ -19,3 +19,5 @@ pub mod ComingBack
 pub mod Leaves
 pub mod Cleaning
 pub mod LastLeft
+pub mod Destroying
+pub mod DestructorsBegin

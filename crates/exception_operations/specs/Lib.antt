@@ -5,3 +5,4 @@ pub mod Picks
 pub mod Makes
 pub mod Pads
 pub mod Leaves
+pub mod Destroys

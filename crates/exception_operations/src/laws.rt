@@ -1,4 +1,5 @@
 // Laws of operations on exceptions: calls of no effect, whose contracts state what holds of every program.
+ghost use Rattle.exception_operations.specs.Destroys.{DestructorsBegin};
 ghost use Rattle.exception_operations.specs.Enters.{EntersRun};
 ghost use Rattle.exception_operations.specs.Frees.{FreesRun};
 ghost use Rattle.exception_operations.specs.Leaves.{LeavesRun};
@@ -7,7 +8,7 @@ ghost use Rattle.exception_operations.specs.Pads.{PadsRun};
 
 use code_simulation::laws::calls_are_turns;
 use stub_simulation::laws::{
-    calls_are_made, end_catch_comes_back, end_catch_frees, end_catch_runs,
+    calls_are_made, end_catch_comes_back, end_catch_destroys, end_catch_frees, end_catch_runs,
 };
 
 /// An exception object that is being built is given back on the ABI machine as on the machine for linear code.
@@ -47,4 +48,11 @@ pub fn leaves_run()
     calls_are_made();
     end_catch_comes_back();
     end_catch_frees();
+}
+
+/// Where a handler is left whose exception has a destructor, both machines come to the destructor.
+pub fn destructors_begin()
+    ensures { DestructorsBegin }
+{
+    end_catch_destroys();
 }

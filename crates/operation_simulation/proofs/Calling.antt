@@ -124,20 +124,30 @@ stack_at p n st w back h =
 pub same_next : (a b : LinearState) → goes_to a ≡ goes_to b → a ≡ b
 same_next a b e = cc e
 
-runtime_enters : (p : Plan) (n m low : ℕ) (a : Activation) (fs : List Activation) (given : List Word) (d : ℕ) (v : World) (w : abi.World) → a.function ≡ compiled n → RuntimeMatches p fs v w →
-    RuntimeMatches (opened p m v.calls low) (a ∷ fs) (new_world (slot_kinds p m) given d v) w
-runtime_enters p n m low a fs given d v w callee h =
+-- a call begins
+pub runtime_opened : (p : Plan) (m low : ℕ) (fs : List Activation) (given : List Word) (d : ℕ) (v : World) (w : abi.World) → RuntimeMatches p fs v w →
+    RuntimeMatches (opened p m v.calls low) fs (new_world (slot_kinds p m) given d v) w
+runtime_opened p m low fs given d v w h =
     let same = same_beside (slot_kinds p m) v.calls 0 given v in
-    let u : World = new_world (slot_kinds p m) given d v in
     record {
       input = h.input ∙ sym same.input;
       replies = h.replies ∙ sym same.replies;
       last_number = h.last_number ∙ ap (λ (e : LinearExceptions). e.last_number) (sym same.kept);
       terminating = h.terminating ∙ sym same.ending;
-      exceptions = subst (λ ds. ExceptionsMatch (addresses_of p) ds (exceptions_in u) (kept_by w)) (ap (λ ds. ds ++ destroyed fs) (sym (destroyed_nothing p n a callee)))
-          (subst (λ es. ExceptionsMatch (addresses_of p) (destroyed fs) es (kept_by w)) (sym same.kept) h.exceptions);
+      exceptions = subst (λ es. ExceptionsMatch (addresses_of p) (destroyed fs) es (kept_by w)) (sym same.kept) h.exceptions;
       plan = subst (PlanHas (opened p m v.calls low)) (ap (λ (e : LinearExceptions). e.live) (sym same.kept)) (record { live = h.plan.live; size = h.plan.size; ints = h.plan.ints });
     }
+
+-- a call of a compiled function waits
+pub runtime_pushed : (p : Plan) (n : ℕ) (a : Activation) (fs : List Activation) (v : World) (w : abi.World) → a.function ≡ compiled n → RuntimeMatches p fs v w → RuntimeMatches p (a ∷ fs) v w
+runtime_pushed p n a fs v w callee h = record {
+  input = h.input;
+  replies = h.replies;
+  last_number = h.last_number;
+  terminating = h.terminating;
+  exceptions = subst (λ ds. ExceptionsMatch (addresses_of p) ds (exceptions_in v) (kept_by w)) (ap (λ ds. ds ++ destroyed fs) (sym (destroyed_nothing p n a callee))) h.exceptions;
+  plan = h.plan;
+}
 
 -- where the new call is
 abbrev pub enters_to : Plan → ℕ → List Word → LinearState → LinearState
@@ -252,7 +262,7 @@ call_runs addresses image p n st next w o c given back h there is given_is fits 
         let there_u = call_arrives p n st w o c given back next h there is fits code room (record { passes = passes; enters = enters }) (sym next_is) (address (setting p n).ground (here + 2)) refl below in
         let low : ℕ = x w.hart sp - (shape p c.number).size in
         let runtime = subst (λ (y : LinearState). RuntimeMatches (opened p c.number st.world.calls low) y.frames y.world w) next_is
-        (runtime_enters p n c.number low st.top st.frames given (depth_of (st.top ∷ st.frames) + 1) st.world w h.runs h.runtime) in
+        (runtime_opened p c.number low (st.top ∷ st.frames) given (depth_of (st.top ∷ st.frames) + 1) st.world w (runtime_pushed p n st.top st.frames st.world w h.runs h.runtime)) in
         subst (λ a. Matched image (length (linear_code (shape p n) o) + 4) w [] (λ v. Matches (opened p c.number st.world.calls a) next v)) low_is
         (matched image (opened p c.number st.world.calls (x w.hart sp - (shape p c.number).size)) c.number next w (address (setting p n).ground (here + 2)) (length (linear_code (shape p n) o) + 4) (passes.steps + 6) enters.after
         (omega (arith, passes.most, total)) (λ some. omega arith) (steps_then passes.steps 6 w.hart m1 enters.after passes.runs enters.runs) there_u runtime)

@@ -107,7 +107,7 @@ word_opened p m c stack n k memory a (flying e target) old h = h
 word_opened p m c stack n k memory a (unwinding e) old h = tt
 
 -- bytes from a place above the new frame on are apart from what is live, if they were
-frame_apart : (p : Plan) (m c low stack size : ℕ) (b : Base) → FrameIs (function p m) → low + (shape p m).size ≤ stack → ((d : Base) → p.live d ≡ true → Apart (p.at d) (p.size d) stack size) →
+pub frame_apart : (p : Plan) (m c low stack size : ℕ) (b : Base) → FrameIs (function p m) → low + (shape p m).size ≤ stack → ((d : Base) → p.live d ≡ true → Apart (p.at d) (p.size d) stack size) →
     (opened p m c low).live b ≡ true → SlotOrNot c (many p m) b → Apart ((opened p m c low).at b) ((opened p m c low).size b) stack size
 frame_apart p m c low stack size b is room alone live (inl own) i j hi hj e =
     let new = new_slot p m c low own.0 own.2 in
