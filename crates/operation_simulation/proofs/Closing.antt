@@ -3,7 +3,7 @@ use Rattle.std.proofs.Common.{◌≡◌, ◌∙◌, refl, ap, ap₂, subst, arit
 use Rattle.std.specs.Prelude.{◌&&◌, not, Bool, true, false}
 use Rattle.std.proofs.lemmas.Bool.Decides.{nat_tests}
 use Rattle.rv64_isa.specs.State.{Part}
-use Rattle.region_forms.specs.World.{Base, of_global, of_variable, of_exception, Word, nothing, number_word, address_word, flying, unwinding, Frame, World}
+use Rattle.region_forms.specs.World.{Base, of_global, of_variable, of_exception, Word, nothing, number_word, address_word, flying, unwinding, Frame, Live, World}
 use Rattle.cxa_runtime.specs.World as abi
 use Rattle.linear_forms.specs.Stub.{compiled}
 use Rattle.linear_forms.specs.Activation.{Activation}
@@ -12,7 +12,7 @@ use Rattle.stub_simulation.specs.Stretches.{frame_size}
 use Rattle.operation_simulation.specs.Plan.{Plan, shape, narrowed, setting}
 use Rattle.operation_simulation.specs.Extents.{newer, StandApart}
 use Rattle.operation_simulation.specs.Calls.{HeldBy, CallStands, CallsWait}
-use Rattle.operation_simulation.specs.Exceptions.{addresses_of, exceptions_in, kept_by, destroyed_by, destroyed, ExceptionsMatch}
+use Rattle.operation_simulation.specs.Exceptions.{addresses_of, exceptions_in, kept_by, destroyed_by, destroyed, ExceptionsMatch, PlanHas}
 use Rattle.operation_simulation.specs.Matches.{UnitStands, RuntimeMatches, ObjectsStand, MemoryMatches}
 use Rattle.operation_simulation.specs.Returns.{closed}
 use Rattle.operation_simulation.proofs.StubKeeping.{stub_same, stub_stays}
@@ -138,18 +138,17 @@ matches_narrowed p over n frame fs v memory stack back narrows h =
       unit = unit_narrowed p over c narrows memory h.unit;
     }
 
--- the call that waits is the newest again
-pub popped : (p : Plan) (n m : ℕ) (frame : Frame) (a : Activation) (fs : List Activation) (v : World) (memory : List Part) (stack back outer : ℕ) → MemoryMatches p n frame (a ∷ fs) v memory stack back →
-    a.frame.call < frame.call → CallStands p m a.frame v memory (stack + (shape p n).size) outer → CallsWait p fs v memory (stack + (shape p n).size + (shape p m).size) outer a.frame.call →
-    MemoryMatches (closed p a.frame.call) m a.frame fs v memory (stack + (shape p n).size) outer
-popped p n m frame a fs v memory stack back outer h less stands waiting =
+-- a call that waits, somewhere above, is the newest again
+pub popped_to : (p : Plan) (n m : ℕ) (frame : Frame) (gs : List Activation) (a : Activation) (fs : List Activation) (v : World) (memory : List Part) (stack back high outer : ℕ) → MemoryMatches p n frame gs v memory stack back →
+    a.frame.call < frame.call → CallStands p m a.frame v memory high outer → CallsWait p fs v memory (high + (shape p m).size) outer a.frame.call → MemoryMatches (closed p a.frame.call) m a.frame fs v memory high outer
+popped_to p n m frame gs a fs v memory stack back high outer h less stands waiting =
     let c : ℕ = a.frame.call in
     let over : Base → Bool = newer c in
     let narrows = newer_over c in
     record {
-      top = call_narrowed p over c narrows m a.frame v memory (stack + (shape p n).size) outer (omega arith) stands;
+      top = call_narrowed p over c narrows m a.frame v memory high outer (omega arith) stands;
       newest = omega (arith, less, h.newest);
-      waiting = waits_narrowed p over c narrows fs v memory (stack + (shape p n).size + (shape p m).size) outer c (omega arith) waiting;
+      waiting = waits_narrowed p over c narrows fs v memory (high + (shape p m).size) outer c (omega arith) waiting;
       apart = apart_narrowed p over c narrows memory h.apart;
       inside = λ b z live there. h.inside b z (live_before p over b.base live).0 there;
       may = h.may;
@@ -170,6 +169,13 @@ still_live : (b : Bool) → (b && not false) ≡ b
 still_live true = refl
 still_live false = refl
 
+pub plan_popped : (p : Plan) (c : ℕ) (lives : List Live) → PlanHas p lives → PlanHas (closed p c) lives
+plan_popped p c lives h = record {
+  live = λ e. still_live (p.live (of_exception e)) ∙ h.live e;
+  size = λ e live. h.size e (live_before p (newer c) (of_exception e) live).0;
+  ints = λ e live. h.ints e (live_before p (newer c) (of_exception e) live).0;
+}
+
 pub runtime_popped : (p : Plan) (c : ℕ) (a : Activation) (fs : List Activation) (v : World) (w : abi.World) → RuntimeMatches p (a ∷ fs) v w → destroyed_by a.function a.frame ≡ [] → RuntimeMatches (closed p c) fs v w
 runtime_popped p c a fs v w h none = record {
   input = h.input;
@@ -177,9 +183,5 @@ runtime_popped p c a fs v w h none = record {
   last_number = h.last_number;
   terminating = h.terminating;
   exceptions = subst (λ ds. ExceptionsMatch (addresses_of p) ds (exceptions_in v) (kept_by w)) (ap (λ ds. ds ++ destroyed fs) none) h.exceptions;
-  plan = record {
-    live = λ e. still_live (p.live (of_exception e)) ∙ h.plan.live e;
-    size = λ e live. h.plan.size e (live_before p (newer c) (of_exception e) live).0;
-    ints = λ e live. h.plan.ints e (live_before p (newer c) (of_exception e) live).0;
-  };
+  plan = plan_popped p c v.live h.plan;
 }

@@ -45,7 +45,7 @@ use Rattle.operation_simulation.proofs.Matching.{Stands, stands_by, ready_here, 
 use Rattle.operation_simulation.proofs.Quiet.{step_is, runtime_stored}
 use Rattle.operation_simulation.proofs.Asked.{wanted_stands}
 use Rattle.operation_simulation.specs.Asked.{WantedAsked}
-use Rattle.operation_simulation.proofs.Closing.{popped, destroyed_nothing, runtime_popped}
+use Rattle.operation_simulation.proofs.Closing.{popped_to, destroyed_nothing, runtime_popped}
 
 -- ---- a value that a place wants
 
@@ -248,7 +248,7 @@ return_runs places image p n m st next w a fs r o back outer h there frames wait
     let stack_t : x t sp ≡ x s sp + f.size = second.stack ∙ ap (λ b. b + f.size) stack1 in
     let value_t : x t (register 0) ≡ extended went.value = second.kept a0 (λ e. absurd (omega (arith, e))) (λ e. absurd (omega (arith, e))) ∙ value.computes.is in
     let matches : MemoryMatches p n st.top.frame (a ∷ fs) st.world s.memory (x s sp) back = subst (λ gs. MemoryMatches p n st.top.frame gs st.world s.memory (x s sp) back) frames h.memory in
-    let again = popped p n m st.top.frame a fs st.world s.memory (x s sp) back outer matches less waiting.stands rest in
+    let again = popped_to p n m st.top.frame (a ∷ fs) a fs st.world s.memory (x s sp) back (x s sp + f.size) outer matches less waiting.stands rest in
     let at_t : MemoryMatches q m a.frame fs st.world t.memory (x t sp) outer
     = subst (λ ps. MemoryMatches q m a.frame fs st.world ps (x t sp) outer) (sym memory_t) (subst (λ b. MemoryMatches q m a.frame fs st.world s.memory b outer) (sym stack_t) again) in
     let behind_t : PiecesAt t.memory (setting q m).ground (word_m + length front_m) behind = subst (λ ps. PiecesAt ps (setting p m).ground (word_m + length front_m) behind) (sym memory_t) parts_m.1 in
