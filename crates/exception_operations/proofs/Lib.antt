@@ -21,3 +21,5 @@ pub mod Cleaning
 pub mod LastLeft
 pub mod Destroying
 pub mod DestructorsBegin
+pub mod GivingBack
+pub mod DestructorsEnd

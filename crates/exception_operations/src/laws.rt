@@ -1,5 +1,5 @@
 // Laws of operations on exceptions: calls of no effect, whose contracts state what holds of every program.
-ghost use Rattle.exception_operations.specs.Destroys.{DestructorsBegin};
+ghost use Rattle.exception_operations.specs.Destroys.{DestructorsBegin, DestructorsEnd};
 ghost use Rattle.exception_operations.specs.Enters.{EntersRun};
 ghost use Rattle.exception_operations.specs.Frees.{FreesRun};
 ghost use Rattle.exception_operations.specs.Leaves.{LeavesRun};
@@ -53,6 +53,13 @@ pub fn leaves_run()
 /// Where a handler is left whose exception has a destructor, both machines come to the destructor.
 pub fn destructors_begin()
     ensures { DestructorsBegin }
+{
+    end_catch_destroys();
+}
+
+/// Where a destructor of an exception's object returns, both machines free the object and come to behind the handler that was left.
+pub fn destructors_end()
+    ensures { DestructorsEnd }
 {
     end_catch_destroys();
 }
