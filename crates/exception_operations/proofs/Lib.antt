@@ -11,7 +11,6 @@ pub mod Putting
 pub mod Made
 pub mod Making
 pub mod Makes
-pub mod Pads
 pub mod Left
 pub mod EndCatching
 pub mod CatchSteps
@@ -23,3 +22,4 @@ pub mod Destroying
 pub mod DestructorsBegin
 pub mod GivingBack
 pub mod DestructorsEnd
+pub mod Filters

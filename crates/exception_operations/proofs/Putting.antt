@@ -1,29 +1,26 @@
 -- A register is written to a slot of the frame.
-use Rattle.std.proofs.Common.{◌≡◌, ◌∙◌, refl, sym, ap, subst, arith, ℕ, ◌+◌, ◌%◌, ◌^◌, ◌<◌, List, Some}
+use Rattle.std.proofs.Common.{◌≡◌, ◌∙◌, refl, ap, arith, ℕ, ◌+◌, ◌%◌, List}
 use Rattle.std.proofs.lemmas.Bool.{eq-eqb}
 use Rattle.rv64_isa.specs.declared.step.Step.TheVariants.{Done}
 use Rattle.rv64_isa.specs.declared.instr.Instr.TheVariants.{Sd}
 use Rattle.rv64_isa.specs.Arithmetic.{add}
-use Rattle.rv64_isa.specs.State.{State, Part, state, reg_of, with_value}
+use Rattle.rv64_isa.specs.State.{State, state, with_value}
 use Rattle.rv64_isa.specs.Step.{step_of, next, stores, x, imm12, done}
-use Rattle.region_forms.specs.World.{Address, Word, address_in, Frame, World, with_slot}
+use Rattle.region_forms.specs.World.{Frame, World}
 use Rattle.linear_forms.specs.Activation.{Activation}
 use Rattle.emission_forms.specs.Registers.{sp}
 use Rattle.emission_forms.specs.Shape.{slot_offset}
 use Rattle.emission_forms.specs.PlaceCode.{within, slot_stored}
 use Rattle.code_simulation.specs.Executes.{Executes}
-use Rattle.code_simulation.specs.Memory.{MayWrite, Written}
-use Rattle.code_simulation.specs.Frames.{WordHolds}
 use Rattle.code_simulation.specs.Standing.{address, PieceAt}
-use Rattle.code_simulation.proofs.Storing.{stores_done, value_written}
+use Rattle.code_simulation.proofs.Storing.{stores_done}
 use Rattle.code_simulation.proofs.Fetching.{piece_done}
 use Rattle.code_simulation.proofs.Stepping.{one_step}
 use Rattle.code_simulation.proofs.Going.{next_is}
 use Rattle.code_simulation.proofs.Places.{near_address}
 use Rattle.operation_simulation.specs.Plan.{Plan, shape, setting}
-use Rattle.operation_simulation.specs.Calls.{HeldBy}
 use Rattle.operation_simulation.specs.Matches.{MemoryMatches}
-use Rattle.operation_simulation.proofs.Holding.{slot_may, slot_place, slot_matches}
+use Rattle.operation_simulation.proofs.Holding.{slot_may, slot_place}
 use Rattle.exception_operations.specs.Makes.{IsWordSlot}
 
 sd_done : (base value imm : ℕ) (s : State) → done (Sd base value imm) s ≡ stores s 8 (add (x s base) (imm12 imm)) (x s value)
@@ -52,35 +49,3 @@ slot_put p n frame fs v back here r slot value m h ok code at is =
     = piece_done (setting p n).ground here (slot_stored (shape p n) r slot) m code at ∙ sd_done sp r (within (shape p n) slot 0) m ∙ ap (λ a. stores m 8 a (x m r)) target ∙ ap (stores m 8 place) is
     ∙ stores_done m 8 place value (eq-eqb (place % 8) 0 even) may in
     record { after = u; runs = one_step m u step; pc = next_is (setting p n).ground here (slot_stored (shape p n) r slot) m code at; regs = refl; memory = refl }
-
--- and memory matches with a word in the slot
-pub record WordPut (p : Plan) (n : ℕ) (frame : Frame) (fs : List Activation) (v : World) (back here slot : ℕ) (word : Word) (m : State) : Type 0 where
-  pub after : State
-  pub runs : Executes 1 m after
-  pub pc : after.pc ≡ address (setting p n).ground (here + 1)
-  pub regs : after.regs ≡ m.regs
-  pub memory : MemoryMatches p n (with_slot slot word frame) fs v after.memory (x after sp) back
-  pub written : Written m.memory after.memory
-
-pub word_put : (p : Plan) (n : ℕ) (frame : Frame) (fs : List Activation) (v : World) (back here r slot value : ℕ) (word : Word) (m : State) → MemoryMatches p n frame fs v m.memory (x m sp) back → IsWordSlot p n slot →
-    PieceAt m.memory (setting p n).ground here (slot_stored (shape p n) r slot) → m.pc ≡ address (setting p n).ground here → x m r ≡ value →
-    ((a : ℕ) → a % 8 ≡ 0 → a < 2 ^ 64 → MayWrite m.memory a 4 → MayWrite m.memory a 8 → WordHolds (setting p n) (with_value m.memory a 8 value) a word) →
-    ((b : Address) → address_in word ≡ Some b → HeldBy p v frame.call b.base) → WordPut p n frame fs v back here slot word m
-word_put p n frame fs v back here r slot value word m h ok code at is holds held =
-    let put = slot_put p n frame fs v back here r slot value m h ok code at is in
-    let place : ℕ = x m sp + slot_offset (shape p n) slot in
-    let new : List Part = with_value m.memory place 8 value in
-    let bounds = slot_place p n frame fs v m.memory (x m sp) back slot h ok.inside ok.plain in
-    let may4 = slot_may p n frame fs v m.memory (x m sp) back slot 4 h ok.inside ok.plain (omega arith) in
-    let may8 = slot_may p n frame fs v m.memory (x m sp) back slot 8 h ok.inside ok.plain (omega arith) in
-    let even : place % 8 ≡ 0 = omega (arith, h.top.holds.variables slot ok.inside, h.top.slots.aligned slot ok.inside ok.plain) in
-    let all = slot_matches p n frame fs v m.memory (x m sp) back slot 8 value word h ok.inside ok.plain (omega arith) (holds place even (omega (arith, bounds.1)) may4 may8) held in
-    let stack : x m sp ≡ x put.after sp = ap (λ rs. reg_of rs sp) (sym put.regs) in
-    record {
-      after = put.after;
-      runs = put.runs;
-      pc = put.pc;
-      regs = put.regs;
-      memory = subst (λ ps. MemoryMatches p n (with_slot slot word frame) fs v ps (x put.after sp) back) (sym put.memory) (subst (λ a. MemoryMatches p n (with_slot slot word frame) fs v new a back) stack all);
-      written = subst (Written m.memory) (sym put.memory) (value_written m.memory place 8 value may8);
-    }

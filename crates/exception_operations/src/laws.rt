@@ -1,10 +1,10 @@
 // Laws of operations on exceptions: calls of no effect, whose contracts state what holds of every program.
 ghost use Rattle.exception_operations.specs.Destroys.{DestructorsBegin, DestructorsEnd};
 ghost use Rattle.exception_operations.specs.Enters.{EntersRun};
+ghost use Rattle.exception_operations.specs.Filters.{FiltersRun};
 ghost use Rattle.exception_operations.specs.Frees.{FreesRun};
 ghost use Rattle.exception_operations.specs.Leaves.{LeavesRun};
 ghost use Rattle.exception_operations.specs.Makes.{MakesRun};
-ghost use Rattle.exception_operations.specs.Pads.{PadsRun};
 
 use code_simulation::laws::calls_are_turns;
 use stub_simulation::laws::{
@@ -35,11 +35,6 @@ pub fn makes_run()
     calls_are_made();
 }
 
-/// A landing pad that is entered keeps what is on its way and the selector in its slots.
-pub fn pads_run()
-    ensures { PadsRun }
-{}
-
 /// A handler is left on the ABI machine as on the machine for linear code, where no destructor is called for its exception.
 pub fn leaves_run()
     ensures { LeavesRun }
@@ -63,3 +58,8 @@ pub fn destructors_end()
 {
     end_catch_destroys();
 }
+
+/// A jump on a filter goes on the ABI machine where it goes on the machine for linear code.
+pub fn filters_run()
+    ensures { FiltersRun }
+{}
