@@ -23,3 +23,6 @@ pub mod DestructorsBegin
 pub mod GivingBack
 pub mod DestructorsEnd
 pub mod Filters
+pub mod Answering
+pub mod Builtins
+pub mod Targets

@@ -6,3 +6,4 @@ pub mod Makes
 pub mod Leaves
 pub mod Destroys
 pub mod Filters
+pub mod Answers

@@ -30,7 +30,7 @@ use Rattle.operation_simulation.proofs.Beneath.{beneath_call, Begins}
 
 -- ---- where the function is
 
-entry_reached : (p : Plan) (n m : ℕ) (memory : List Part) → UnitStands p memory → m < length p.unit.functions →
+pub entry_reached : (p : Plan) (n m : ℕ) (memory : List Part) → UnitStands p memory → m < length p.unit.functions →
     Reached (setting p n).ground (entry (compiled m)) (address (setting p m).ground (first_word p m))
 entry_reached p n m memory h known =
     let first = (h.functions m known).0 in
