@@ -1,6 +1,6 @@
 -- The state of a machine for linear code: calls that are open, and the world. What is said of a place is said alike of compiled functions
 -- and of the runtime's own.
-use Rattle.std.specs.Prelude.{ℕ, ◌+◌, ℤ, pos, ◌==◌, List, [], ◌∷◌, Option, Some, None, is_some, if◌then◌else◌}
+use Rattle.std.specs.Prelude.{ℕ, ◌+◌, ℤ, pos, ◌==◌, Bool, true, false, List, [], ◌∷◌, Option, Some, None, is_some, if◌then◌else◌}
 use Rattle.scope_rules.specs.Outcome.{End, aborted}
 use Rattle.region_forms.specs.Form.{Kinds, help_slot, TypeRow}
 use Rattle.region_forms.specs.World.{Word, nothing, number_word, Frame, World}
@@ -41,6 +41,11 @@ pub data Final : Type 0 where
 pub data Next : Type 0 where
   goes_to : State → Next
   finishes : Final → World → Next
+
+-- what is defined only where a test holds
+abbrev pub next_if : Bool → World → Next → Next
+next_if true w x = x
+next_if false w x = finishes not_defined w
 
 -- an operation of a compiled function
 abbrev pub compiled_op : Option LinearOp → Option CodeOp

@@ -4,11 +4,12 @@ use Rattle.scope_rules.specs.Arithmetic.{is_zero, int_equal}
 use Rattle.scope_rules.specs.Outcome.{exit}
 use Rattle.region_forms.specs.Form.{Place, store}
 use Rattle.region_forms.specs.World.{Word, nothing, number_word, flying, unwinding, World, exception_in_slot}
+use Rattle.region_forms.specs.Lives.{is_live, is_being_built}
 use Rattle.region_forms.specs.Evaluation.{value_in}
 use Rattle.region_forms.specs.Effect.{Effect, goes, calls, raises, terminates, ends, cancels, leaves_newest, meaningless, effect, finished, freed, result_in}
 use Rattle.linear_forms.specs.Linear.{LinearOp, plain, label, jump, jump_zero, pad, jump_filter, free, resume, unexpected, return}
 use Rattle.linear_forms.specs.Stub.{Function, compiled, end_catch, call_unexpected, CodeOp, linear}
-use Rattle.linear_forms.specs.Activation.{Code, Activation, Next, finishes, by_program, not_defined, fault, fetch, look, place_of, kinds, at, on, enters_function, stub_frame, function_word, terminated}
+use Rattle.linear_forms.specs.Activation.{Code, Activation, Next, finishes, by_program, not_defined, fault, next_if, fetch, look, place_of, kinds, at, on, enters_function, stub_frame, function_word, terminated}
 use Rattle.linear_forms.specs.Unwinding.{unwind, raise}
 use Rattle.linear_forms.specs.Forced.{force}
 
@@ -68,6 +69,11 @@ abbrev pub number_of : Function → Option ℕ
 number_of (compiled n) = Some n
 number_of _ = None
 
+-- a compiled function frees the object of an exception that is being built, and the runtime's own that of a live one
+abbrev pub may_free : Function → World → ℕ → Bool
+may_free (compiled n) w e = is_being_built w e
+may_free _ w e = is_live w e
+
 -- one operation of linear code
 abbrev pub act : Code → LinearOp → Activation → List Activation → World → Next
 act code (plain o) a fs w = performed code (effect (kinds code a.function) o a.frame w) a fs w
@@ -76,7 +82,8 @@ act code (jump l) a fs w = jumped code l a fs w
 act code (jump_zero v l) a fs w = jumped_zero code (value_in (kinds code a.function) a.frame w v) l a fs w
 act code (pad o s) a fs w = finishes fault w
 act code (jump_filter s n l) a fs w = if holds_number (a.frame.slots s) n then jumped code l a fs w else on a a.frame fs w
-act code (free s) a fs w = on a a.frame fs (freed (exception_in_slot a.frame s) w)
+act code (free s) a fs w =
+    next_if (may_free a.function w (exception_in_slot a.frame s)) w (on a a.frame fs (freed (exception_in_slot a.frame s) w))
 act code (resume s) a fs w = resumed code (a.frame.slots s) a fs w
 act code (unexpected o s) a fs w =
     at call_unexpected 0 (stub_frame (a.frame.slots o) (a.frame.slots s) (function_word (number_of a.function))) (a ∷ fs) w

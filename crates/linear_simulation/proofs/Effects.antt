@@ -8,14 +8,15 @@ use Rattle.eh_outer.specs.declared.module.Reply.{Reply}
 use Rattle.eh_outer.specs.declared.module.Reply.TheVariants.{Value as ValueReply, Raise}
 use Rattle.region_forms.specs.Form.{Kinds, Root, in_slot, through, in_global, Place, Callee, defined, builtin, Value, number, load, unary, binary, call_value, Op, evaluate, store, bind, call, construct, destroy, make, throw, rethrow, enter, leave}
 use Rattle.region_forms.specs.Caught.{Entry, holds_other}
-use Rattle.region_forms.specs.World.{Word, number_word, address_word, Frame, World, foreign, with_slot, with_item, address_in, exception_of, exception_in_slot, exception_at}
+use Rattle.region_forms.specs.World.{Word, number_word, address_word, Frame, World, foreign, with_slot, with_item, address_in, exception_of, exception_in_slot, exception_at, written}
 use Rattle.region_forms.specs.Evaluation.{Location, in_memory, in_frame, slot_location, location_behind, root_location, locate, value_in}
-use Rattle.region_forms.specs.Effect.{Effect, goes, calls, raises, terminates, if_some, stored_at, finished, is_full, with_new, number_at, handler_at, byte_of, bytes_after, answered, replied, module_called, called, some_travel, valued, kept, rethrown, is_foreign, entered, enters, effect}
+use Rattle.region_forms.specs.Effect.{Effect, goes, calls, raises, terminates, if_some, stored_at, finished, is_full, with_new, number_at, handler_at, byte_of, bytes_after, answered, replied, module_called, called, some_travel, valued, kept, rethrown, is_foreign, entered, enters, effect, only_where}
 use Rattle.region_forms.specs.Mentioned.{slots_of_root, slots_of_value, slots_of_arguments, slots_of_op}
 use Rattle.linear_forms.specs.Emission.{callee_raises, value_raises, may_raise}
 use Rattle.linear_forms.specs.CodeRuns.{SameBelow}
 use Rattle.linear_forms.proofs.Slots
 use Rattle.linear_simulation.specs.Alike.{Alike, InSlots, want_of, IsOther}
+use Rattle.region_forms.specs.Lives.{is_there, is_being_built, can_travel, may_enter}
 
 pub max_left : (a b n : ℕ) → max a b ≤ n → a ≤ n
 max_left a b n h = omega (arith, h)
@@ -33,9 +34,13 @@ module _ (n : ℕ) (k j : Kinds) (kinds : (s : ℕ) → s < n → j s ≡ k s) w
   root_same f g same (through s) o h = ap (λ x. location_behind o (address_in x)) (same.slots s (omega (arith, h)))
   root_same f g same (in_global m) o h = refl
 
+  where_same : (want : Option Place) (b z : Bool) (x y : Effect) → Alike n want b x y → Alike n want b (only_where z x) (only_where z y)
+  where_same want b true x y h = h
+  where_same want b false x y h = refl
+
   stored_same : (want : Option Place) (b : Bool) (l : Location) (v : ℤ) (f g : Frame) (w : World) → SameBelow n f g
       → Alike n want b (stored_at l v f w) (stored_at l v g w)
-  stored_same want b (in_memory a) v f g w same = (g, same, refl)
+  stored_same want b (in_memory a) v f g w same = where_same want b (is_there w a.base) (goes f (written a v w)) (goes g (written a v w)) (g, same, refl)
   stored_same want b (in_frame s) v f g w same = (with_slot s (number_word v) g, same_slot n s (number_word v) f g same, refl)
 
   pub finished_same : (want : Option Place) (b : Bool) (p : Option Place) (v : ℤ) (f g : Frame) (w : World) → InSlots n p → SameBelow n f g
@@ -117,13 +122,13 @@ module _ (n : ℕ) (k j : Kinds) (kinds : (s : ℕ) → s < n → j s ≡ k s) w
     rethrown_same [] w = refl
     rethrown_same (x ∷ xs) w = go x.again
       where
-        go : (b : Bool) → Alike n None true (if b then terminates w.installed.terminate_handler w else raises x.number w)
-            (if b then terminates w.installed.terminate_handler w else raises x.number w)
+        go : (b : Bool) → Alike n None true (if b then terminates w.installed.terminate_handler w else only_where (can_travel w x.number) (raises x.number w))
+            (if b then terminates w.installed.terminate_handler w else only_where (can_travel w x.number) (raises x.number w))
         go true = refl
-        go false = (refl, refl)
+        go false = where_same None true (can_travel w x.number) (raises x.number w) (raises x.number w) (refl, refl)
 
     entered_same : (e : ℕ) (w : World) → Alike n None false (enters e f w) (enters e g w)
-    entered_same e w = go (is_foreign (exception_at w e) && holds_other e w.caught)
+    entered_same e w = where_same None false (may_enter w e) _ _ (go (is_foreign (exception_at w e) && holds_other e w.caught))
       where
         go : (b : Bool) → Alike n None false (if b then terminates w.installed.terminate_handler w else goes f (entered e w))
             (if b then terminates w.installed.terminate_handler w else goes g (entered e w))
@@ -156,7 +161,10 @@ module _ (n : ℕ) (k j : Kinds) (kinds : (s : ℕ) → s < n → j s ≡ k s) w
         some_same None true _ _ (λ a. calls None m (address_word a ∷ [])) (λ a. calls None m (address_word a ∷ []))
         (Slots.address_same n k j kinds f g same w p h) (λ a. (refl, refl, refl))
     effect_same (make s) w i h = made_same s _ _ w (is_full w)
-    effect_same (throw s t d) w i h = (refl, ap (λ e. raises e (kept e t d w)) (exception_same s (omega (arith, h))))
+    effect_same (throw s t d) w i h =
+        let e = exception_in_slot f s in
+        subst (λ q. Alike n None true (only_where (is_being_built w e) (raises e (kept e t d w))) (only_where (is_being_built w q) (raises q (kept q t d w))))
+        (sym (exception_same s (omega (arith, h)))) (where_same None true (is_being_built w e) (raises e (kept e t d w)) (raises e (kept e t d w)) (refl, refl))
     effect_same rethrow w i h = rethrown_same w.caught w
     effect_same (enter s) w i h =
         subst (λ e. Alike n None false (enters (exception_in_slot f s) f w) (enters e g w)) (sym (exception_same s (omega (arith, h))))

@@ -11,16 +11,17 @@ use Rattle.scope_rules.specs.Class.{contains}
 use Rattle.scope_rules.specs.Outcome.{Stop, thrown, cancelled, ended, undefined, out_of_turns, deep, aborted}
 use Rattle.region_forms.specs.Caught.{Entry, holds_other, gives_back}
 use Rattle.region_forms.specs.Form.{Kinds, SlotKind, int_slot, address_slot, object_slot, help_slot, Place, Callee, defined, builtin, Value, number, load, unary, binary, call_value, Op, evaluate, store, bind, call, construct, destroy, make, throw, rethrow, enter, leave, Cleanup, destroy_scope, destroy_part, free_object, leave_handler, Region, seq, op, branch, loop, protect, catch, limit, barrier, leave_region, RegionList, no_regions, region_then, Clauses, no_clauses, clause_then, RegionFunction, Regions, kinds_of}
-use Rattle.region_forms.specs.World.{Word, nothing, with_item, number_word, address_word, flying, unwinding, with_slot, World, Frame, Exception, building, native, foreign, exception_in_slot, exception_at, type_at, object_address}
+use Rattle.region_forms.specs.World.{Word, nothing, with_item, number_word, address_word, flying, unwinding, with_slot, World, Frame, Exception, building, native, foreign, exception_in_slot, exception_at, type_at, object_address, written}
 use Rattle.region_forms.specs.Guard.{clauses, listed, everything, matches, allows, types_of, is_doomed}
 use Rattle.region_forms.specs.Evaluation.{Location, in_memory, in_frame, locate, address_of, words_in, value_in}
-use Rattle.region_forms.specs.Effect.{Effect, goes, calls, raises, terminates, ends, cancels, leaves_newest, meaningless, if_some, stored_at, finished, is_full, replied, module_called, called, number_at, valued, rethrown, is_foreign, enters, effect, newest_of, world_passed, int_passed_to, entered, left, result_in, flies, kept, byte_of, with_new, bytes_after, handler_at, some_travel}
-use Rattle.region_forms.specs.Outcome.{State, Context, Flow, normal, leaves, Result, done, stopped, Action, continued, pure, stop, some, change, guarded_by, ◌>>=◌, ◌>>◌}
-use Rattle.region_forms.specs.Ending.{Running, terminate_with, run_terminate_handler, terminate_because, enter_and_terminate, raise, after_barrier, behind_barrier, unwound, after_scope, after_part, after_destructor, spend, spend_turn, empty_call, call_destructor, give_back, leave_newest, settled, perform, bad_row, terminate}
-use Rattle.region_forms.specs.Unexpected.{kept_with, throw_bad, made}
-use Rattle.region_forms.specs.Meaning.{outwards, followed, operation, value_of, loop_of, after_building, after_try, with_object, after_call, called_state, function_result}
+use Rattle.region_forms.specs.Effect.{Effect, goes, calls, raises, terminates, ends, cancels, leaves_newest, meaningless, if_some, stored_at, finished, is_full, replied, module_called, called, number_at, valued, rethrown, is_foreign, enters, effect, newest_of, world_passed, int_passed_to, entered, left, result_in, flies, kept, byte_of, with_new, bytes_after, handler_at, some_travel, only_where, freed}
+use Rattle.region_forms.specs.Outcome.{State, Context, Flow, normal, leaves, Result, done, stopped, Action, continued, pure, stop, some, change, guarded_by, ◌>>=◌, ◌>>◌, only_if}
+use Rattle.region_forms.specs.Ending.{Running, terminate_with, run_terminate_handler, terminate_because, enter_and_terminate, raise, after_barrier, behind_barrier, unwound, after_scope, after_part, after_destructor, spend, spend_turn, empty_call, call_destructor, give_back, leave_newest, settled, perform, bad_row, terminate, free}
+use Rattle.region_forms.specs.Unexpected.{kept_with, throw_bad, made, keep_bad, enter_stopped}
+use Rattle.region_forms.specs.Meaning.{outwards, followed, operation, value_of, loop_of, after_building, after_try, with_object, after_call, called_state, function_result, give_up}
 use Rattle.linear_simulation.specs.Watched.{same_type, still, kept_type, kept_on, not_its_own, watched_leave, watched_operation, watched_cleaned, watched_handled, watched_pass, terminate_for, watched_after, watched_handler, watched_unexpected, watched_limit, watched, watched_all, watched_caught, watched_body, watched_function, watched_call, watched_call_of}
 use Rattle.linear_simulation.specs.Comes.{state_after}
+use Rattle.region_forms.specs.Lives.{is_live, is_there, is_native, is_being_built, can_travel, may_enter, may_leave}
 
 -- terminate runs behind a result, if it ran before
 abbrev pub Kept : {A : Type 0} → World → Result A → Type 0
@@ -51,8 +52,12 @@ module _ (k : Kinds) (f : Frame) (w : World) where
   some_keeps None next h = tt
   some_keeps (Some z) next h = h z
 
+  where_keeps : (b : Bool) (x : Effect) → EffectKeeps w x → EffectKeeps w (only_where b x)
+  where_keeps true x h = h
+  where_keeps false x h = tt
+
   stored_keeps : (l : Location) (v : ℤ) (w0 : World) → Follows w w0 → EffectKeeps w (stored_at l v f w0)
-  stored_keeps (in_memory a) v w0 e = e
+  stored_keeps (in_memory a) v w0 e = where_keeps (is_there w0 a.base) (goes f (written a v w0)) e
   stored_keeps (in_frame s) v w0 e = e
 
   pub finished_keeps : (p : Option Place) (v : ℤ) (w0 : World) → Follows w w0 → EffectKeeps w (finished k p v f w0)
@@ -99,10 +104,14 @@ module _ (k : Kinds) (f : Frame) (w : World) where
 
   rethrown_keeps : (caught : List Entry) → EffectKeeps w (rethrown caught w)
   rethrown_keeps [] = (refl, [], nothing_more w.items)
-  rethrown_keeps (x ∷ xs) = full_keeps x.again w.installed.terminate_handler w (raises x.number w) (refl, [], nothing_more w.items) (refl, [], nothing_more w.items)
+  rethrown_keeps (x ∷ xs) =
+      full_keeps x.again w.installed.terminate_handler w (only_where (can_travel w x.number) (raises x.number w)) (refl, [], nothing_more w.items)
+      (where_keeps (can_travel w x.number) (raises x.number w) (refl, [], nothing_more w.items))
 
   pub enters_keeps : (e : ℕ) → EffectKeeps w (enters e f w)
-  enters_keeps e = full_keeps (is_foreign (exception_at w e) && holds_other e w.caught) w.installed.terminate_handler w (goes f (entered e w)) (refl, [], nothing_more w.items) (refl, Enter e ∷ [], refl)
+  enters_keeps e =
+      where_keeps (may_enter w e) _ (full_keeps (is_foreign (exception_at w e) && holds_other e w.caught) w.installed.terminate_handler w (goes f (entered e w))
+      (refl, [], nothing_more w.items) (refl, Enter e ∷ [], refl))
 
   pub effect_keeps : (o : Op) → EffectKeeps w (effect k o f w)
   effect_keeps (evaluate v) = valued_keeps v None
@@ -117,7 +126,8 @@ module _ (k : Kinds) (f : Frame) (w : World) where
       full_keeps (is_full w) w.installed.terminate_handler w
       (goes (with_slot s (address_word (object_address (w.last_number + 1))) f) (with_item (Make (w.last_number + 1)) (with_new building w)))
       (refl, [], nothing_more w.items) (refl, Make (w.last_number + 1) ∷ [], refl)
-  effect_keeps (throw s t d) = (refl, [], nothing_more w.items)
+  effect_keeps (throw s t d) =
+      where_keeps (is_being_built w (exception_in_slot f s)) (raises (exception_in_slot f s) (kept (exception_in_slot f s) t d w)) (refl, [], nothing_more w.items)
   effect_keeps rethrow = rethrown_keeps w.caught
   effect_keeps (enter s) = enters_keeps (exception_in_slot f s)
   effect_keeps leave = tt
@@ -125,6 +135,10 @@ module _ (k : Kinds) (f : Frame) (w : World) where
 bind_kept : {A B : Type 0} (w : World) (r : Result A) (next : A → Action B) → Kept w r → ((a : A) (s : State) → Kept s.world (next a s)) → Kept w (continued r next)
 bind_kept w (done a s) next h n e = n a s (h e)
 bind_kept w (stopped x s) next h n e = h e
+
+if_kept : {A : Type 0} (w : World) (b : Bool) (act : Action A) (s : State) → (w.ending ≡ true → s.world.ending ≡ true) → Kept w (act s) → Kept w (only_if b act s)
+if_kept w true act s e h = h
+if_kept w false act s e h = e
 
 module _ (run : Running) (calls_keep : (g : ℕ) (words : List Word) (c : Context) (s : State) → Kept s.world (run.call g words c s)) where
   terminate_kept : (A : Type 0) (h : Option ℕ) (c : Context) (s : State) → Kept s.world (terminate_with {A = A} run h c s)
@@ -167,9 +181,9 @@ module _ (run : Running) (calls_keep : (g : ℕ) (words : List Word) (c : Contex
       go false = spent s.turns
 
   destructor_kept : (w : World) (x : ℕ) (r : Result (Unit {0})) → Kept w r → Kept w (after_destructor x r)
-  destructor_kept w x (done a s) h = λ e. h e
-  destructor_kept w x (stopped (thrown y) s) h = λ e. h e
-  destructor_kept w x (stopped (cancelled y) s) h = λ e. h e
+  destructor_kept w x (done a s) h = if_kept w (is_live s.world x) (change (freed x)) s h h
+  destructor_kept w x (stopped (thrown y) s) h = bind_kept w (free x s) (λ u. stop {A = Unit {0}} (thrown y)) (if_kept w (is_live s.world x) (change (freed x)) s h h) (λ u s2 e. e)
+  destructor_kept w x (stopped (cancelled y) s) h = bind_kept w (free x s) (λ u. stop {A = Unit {0}} (cancelled y)) (if_kept w (is_live s.world x) (change (freed x)) s h h) (λ u s2 e. e)
   destructor_kept w x (stopped (ended y) s) h = λ e. h e
   destructor_kept w x (stopped undefined s) h = λ e. h e
   destructor_kept w x (stopped out_of_turns s) h = λ e. h e
@@ -191,7 +205,7 @@ module _ (run : Running) (calls_keep : (g : ℕ) (words : List Word) (c : Contex
   give_kept x (foreign k t) c s = λ e. e
 
   newest_kept : (c : Context) (s : State) → Kept s.world (leave_newest run c s)
-  newest_kept c s = go (gives_back s.world.caught)
+  newest_kept c s = if_kept s.world (may_leave s.world s.world.caught) _ s (λ e. e) (go (gives_back s.world.caught))
     where
       go : (b : Bool) → Kept s.world ((if b then give_back run (newest_of s.world.caught) (exception_at s.world (newest_of s.world.caught)) c else pure tt) (record s { world = left s.world }))
       go true = give_kept (newest_of s.world.caught) (exception_at s.world (newest_of s.world.caught)) c (record s { world = left s.world })
@@ -272,8 +286,12 @@ module _ (run : Running) (calls_keep : (g : ℕ) (words : List Word) (c : Contex
 
   building_kept : {A : Type 0} (w : World) (x : ℕ) (r : Result A) → Kept w r → Kept w (after_building x r)
   building_kept w x (done a s) h = h
-  building_kept w x (stopped (thrown y) s) h = h
-  building_kept w x (stopped (cancelled y) s) h = h
+  building_kept {A} w x (stopped (thrown y) s) h =
+      let e = exception_in_slot s.frame x in
+      bind_kept w (give_up e s) (λ u. stop {A = A} (thrown y)) (if_kept w (is_being_built s.world e) (change (freed e)) s h h) (λ u s2 q. q)
+  building_kept {A} w x (stopped (cancelled y) s) h =
+      let e = exception_in_slot s.frame x in
+      bind_kept w (give_up e s) (λ u. stop {A = A} (cancelled y)) (if_kept w (is_being_built s.world e) (change (freed e)) s h h) (λ u s2 q. q)
   building_kept w x (stopped (ended y) s) h = h
   building_kept w x (stopped undefined s) h = h
   building_kept w x (stopped out_of_turns s) h = h
@@ -313,12 +331,13 @@ module _ (run : Running) (calls_keep : (g : ℕ) (words : List Word) (c : Contex
       e2 = s.world.last_number + 1
 
       after : Action A
-      after = change (kept e2 bad_row None) >> raise run e2 c
+      after = keep_bad e2 >> raise run e2 c
 
       go : (b : Bool) → Kept s.world ((if b then terminate {A = A} run c else (change made >> (empty_call run c >> after))) s)
       go true = terminate_kept A s.world.installed.terminate_handler c s
       go false = bind_kept s.world (empty_call run c (record s { world = made s.world })) (λ u. after) (empty_kept c (record s { world = made s.world }))
-          (λ u s2. raise_kept A e2 c (record s2 { world = kept e2 bad_row None s2.world }))
+          (λ u s2. bind_kept s2.world (keep_bad e2 s2) (λ v. raise {A = A} run e2 c) (if_kept s2.world (is_being_built s2.world e2) (change (kept e2 bad_row None)) s2 (λ e. e) (λ e. e))
+          (λ v s3. raise_kept A e2 c s3))
 
   for_kept : (A : Type 0) (x : ℕ) (h : Option ℕ) (c : Context) (s : State) → Kept s.world (terminate_for {A = A} run x h c s)
   for_kept A x h c s = go (same_type h (kept_with (exception_at s.world x)).terminate_handler)
@@ -360,8 +379,10 @@ module _ (run : Running) (calls_keep : (g : ℕ) (words : List Word) (c : Contex
 
       go : (b : Bool) → Kept w ((if b then stop (thrown y) else watched_unexpected {A = Flow} run types y c) s)
       go true = h
-      go false = λ e. handled_kept c (watched_handler {A = Flow} run types y (kept_with (exception_at s.world y)).terminate_handler (kept_with (exception_at s.world y)).unexpected_handler c) s1
-          (handler_kept Flow types y (kept_with (exception_at s.world y)).terminate_handler (kept_with (exception_at s.world y)).unexpected_handler c s1) (h e)
+      go false = λ e. bind_kept s.world (enter_stopped y s) _
+          (if_kept s.world (is_native (exception_at s.world y) && may_enter s.world y) (change (entered y)) s (λ q. q) (λ q. q))
+          (λ u s2. handled_kept c (watched_handler {A = Flow} run types y (kept_with (exception_at s.world y)).terminate_handler (kept_with (exception_at s.world y)).unexpected_handler c) s2
+          (handler_kept Flow types y (kept_with (exception_at s.world y)).terminate_handler (kept_with (exception_at s.world y)).unexpected_handler c s2)) (h e)
   limit_kept w types c (stopped (cancelled y) s) h = h
   limit_kept w types c (stopped (ended y) s) h = h
   limit_kept w types c (stopped undefined s) h = h

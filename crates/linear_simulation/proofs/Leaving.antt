@@ -4,14 +4,14 @@ use Rattle.std.specs.Prelude.{ℤ, pos, not, ◌==◌, max, nat_le, if◌then◌
 use Rattle.std.proofs.lemmas.Bool.Decides.{nat_tests}
 use Rattle.run_items.specs.declared.item.Item.TheVariants.{Destroy}
 use Rattle.scope_rules.specs.Outcome.{thrown, cancelled, ended, undefined, out_of_turns, deep}
-use Rattle.region_forms.specs.World.{Word, nothing, number_word, address_word, flying, Frame, World, Live, Exception, building, native, foreign, object_address, with_slot, with_item, exception_in, exception_at, exception_type, type_at}
+use Rattle.region_forms.specs.World.{Word, nothing, number_word, address_word, flying, Frame, World, Live, Exception, building, native, foreign, object_address, with_slot, with_item, exception_in, exception_at, exception_type, type_at, unwinding}
 use Rattle.region_forms.specs.Guard.{Guard}
 use Rattle.region_forms.specs.Caught.{gives_back}
 use Rattle.region_forms.specs.Effect.{freed, left, newest_of, cleaned_up, finished}
-use Rattle.region_forms.specs.Outcome.{State as RegionState, Result, done, stopped, Action, stop, change, pure, continued}
+use Rattle.region_forms.specs.Outcome.{State as RegionState, Result, done, stopped, Action, stop, change, pure, continued, only_if, ◌>>◌}
 use Rattle.region_forms.specs.Ending.{Running, after_destructor, empty_call, give_back, spend, spend_turn, bad_row}
 use Rattle.linear_forms.specs.Stub.{end_catch}
-use Rattle.linear_forms.specs.Activation.{Code, Activation, State, goes_to, look, fetch, kinds, on, at, stub_frame, depth_of}
+use Rattle.linear_forms.specs.Activation.{Code, Activation, State, goes_to, look, fetch, kinds, on, at, stub_frame, depth_of, next_if, Next, finishes, not_defined}
 use Rattle.linear_forms.specs.Operation.{wanted_by, returned, settled}
 use Rattle.linear_forms.specs.StubOperation.{is_bad, given_back}
 use Rattle.linear_forms.specs.StubOperation
@@ -26,6 +26,7 @@ use Rattle.linear_simulation.specs.Watched.{still, not_its_own, watched_leave}
 use Rattle.linear_simulation.specs.Comes.{Comes, comes_back, goes_on, BackOrEnd, CallsRun, state_after}
 use Rattle.linear_simulation.proofs.Coming.{none_more}
 use Rattle.linear_simulation.proofs.Coming
+use Rattle.region_forms.specs.Lives.{is_live, may_leave}
 
 -- an exception that is freed changes no other
 other_freed : (f e : ℕ) → (f == e) ≡ false → (xs : List Live) → exception_in (filter (λ x. not (x.number == e)) xs) f ≡ exception_in xs f
@@ -95,9 +96,14 @@ module _ (code : Code) (most fuel : ℕ) (run : Running) (calls : CallsRun code 
     abbrev held : Word → ℕ → Frame
     held d e = with_slot 1 d (with_slot 0 (address_word (object_address e)) (stub_frame nothing nothing nothing))
 
-    freed_at : {m : State} {t u c : ℕ} (d : Word) (e : ℕ) (w : World) → Reaches code most m t (at end_catch 2 (held d e) (a ∷ fs) w) u c
+    -- what frees a live exception, or is not defined
+    abbrev frees : ℕ → Frame → World → ℕ → Bool → Next
+    frees p x w e b = next_if b w (at end_catch p x (a ∷ fs) (freed e w))
+
+    freed_at : {m : State} {t u c : ℕ} (d : Word) (e : ℕ) (w : World) → is_live w e ≡ true → Reaches code most m t (at end_catch 2 (held d e) (a ∷ fs) w) u c
         → Reaches code most m t (on a a.frame fs (freed e w)) u (c + 2)
-    freed_at {c = c} d e w r = Running.slower code most 0 (c + 2) (omega arith) (ended_at (held d e) (freed e w) (Coming.on_step code most r refl))
+    freed_at {c = c} d e w live r =
+        Running.slower code most 0 (c + 2) (omega arith) (ended_at (held d e) (freed e w) (Coming.on_step code most r (ap (frees 3 (held d e) w e) live)))
 
     abbrev destroying : Word → ℕ → Activation
     destroying d e = record { function = end_catch; place = 1; frame = held d e }
@@ -106,12 +112,23 @@ module _ (code : Code) (most fuel : ℕ) (run : Running) (calls : CallsRun code 
     destroyed_comes : {x0 : Frame} {m : State} {t c : ℕ} (d : Word) (e : ℕ) (r : Result (Unit {0}))
         → Comes code most x0 (destroying d e) (a ∷ fs) (goes_on x0 (destroying d e) (a ∷ fs)) m t r c
         → Comes code most x0 a fs (goes_on x0 a fs) m t (not_its_own e (after_destructor e r)) (c + 4)
-    destroyed_comes {c = c} d e (done v s) k = record {
-      next = on a a.frame fs (freed e s.world);
-      reaches = Running.slower code most 0 (c + 4) (omega arith) (freed_at d e s.world (Running.reaches_to code most 0 k.comes.1 k.reaches));
-      comes = (k.comes.0, refl);
-    }
-    destroyed_comes {x0} {m} {t} {c} d e (stopped (thrown f) s) k = go (f == e) refl
+    destroyed_comes {x0} {m} {t} {c} d e (done v s) k = go (is_live s.world e) refl
+      where
+        r2 : Reaches code most m t (at end_catch 2 (held d e) (a ∷ fs) s.world) s.turns c
+        r2 = Running.reaches_to code most 0 k.comes.1 k.reaches
+
+        go : (b : Bool) → is_live s.world e ≡ b → Comes code most x0 a fs (goes_on x0 a fs) m t (not_its_own e (only_if b (change (freed e)) s)) (c + 4)
+        go true live = record {
+          next = on a a.frame fs (freed e s.world);
+          reaches = Running.slower code most 0 (c + 4) (omega arith) (freed_at d e s.world live r2);
+          comes = (k.comes.0, refl);
+        }
+        go false live = record {
+          next = finishes not_defined s.world;
+          reaches = Running.slower code most 0 (c + 4) (omega arith) (Coming.on_step code most r2 (ap (frees 3 (held d e) s.world e) live));
+          comes = refl;
+        }
+    destroyed_comes {x0} {m} {t} {c} d e (stopped (thrown f) s) k = either (is_live s.world e) refl
       where
         tg : ℕ
         tg = k.comes.0
@@ -119,26 +136,42 @@ module _ (code : Code) (most fuel : ℕ) (run : Running) (calls : CallsRun code 
         x : Frame
         x = with_slot 3 (number_word (pos 0)) (with_slot 2 (flying f tg) (held d e))
 
-        r6 : Reaches code most m t (at end_catch 6 x (a ∷ fs) (freed e s.world)) s.turns (c + 1)
-        r6 = Coming.on_step code most (Running.reaches_to code most 0 k.comes.3 k.reaches) refl
+        r6 : (b : Bool) → is_live s.world e ≡ b → Reaches code most m t (frees 6 x s.world e b) s.turns (c + 1)
+        r6 b live = Coming.on_step code most (Running.reaches_to code most 0 k.comes.3 k.reaches) (ap (frees 6 x s.world e) live)
 
-        go : (b : Bool) → (f == e) ≡ b → Comes code most x0 a fs (goes_on x0 a fs) m t (still (not b) f (record s { world = freed e s.world })) (c + 4)
-        go true q = record {
+        go : Reaches code most m t (at end_catch 6 x (a ∷ fs) (freed e s.world)) s.turns (c + 1) → (b : Bool) → (f == e) ≡ b
+            → Comes code most x0 a fs (goes_on x0 a fs) m t (still (not b) f (record s { world = freed e s.world })) (c + 4)
+        go r6 true q = record {
           next = at end_catch 6 x (a ∷ fs) (freed e s.world);
           reaches = Running.slower code most 0 (c + 4) (omega arith) r6;
           comes = (_, refl, refl);
         }
-        go false q = record {
+        go r6 false q = record {
           next = unwind code (look code a.function a.place) tg f a.function a.frame fs (freed e s.world);
           reaches = Running.slower code most 0 (c + 4) (omega arith) (Coming.on_step code most r6 refl);
           comes = (tg, ap (λ y. found code a.function (look code a.function a.place) y fs) (type_freed f e s.world q) ∙ k.comes.1, k.comes.2, refl);
         }
-    destroyed_comes {m} {t} {c} d e (stopped (cancelled z) s) k = record {
-      next = force code (look code a.function a.place) z a.function a.frame fs (freed e s.world);
-      reaches = Running.slower code most 0 (c + 4) (omega arith)
-          (Coming.on_step code most (Coming.on_step code most (Running.reaches_to code most 0 k.comes.1 k.reaches) refl) refl);
-      comes = (k.comes.0, refl);
-    }
+
+        either : (b : Bool) → is_live s.world e ≡ b
+            → Comes code most x0 a fs (goes_on x0 a fs) m t (not_its_own {A = Unit {0}} e (continued (only_if b (change (freed e)) s) (λ u. stop (thrown f)))) (c + 4)
+        either true live = go (r6 true live) (f == e) refl
+        either false live = record { next = finishes not_defined s.world; reaches = Running.slower code most 0 (c + 4) (omega arith) (r6 false live); comes = refl }
+    destroyed_comes {x0} {m} {t} {c} d e (stopped (cancelled z) s) k = go (is_live s.world e) refl
+      where
+        x : Frame
+        x = with_slot 3 (number_word (pos 0)) (with_slot 2 (unwinding z) (held d e))
+
+        r6 : (b : Bool) → is_live s.world e ≡ b → Reaches code most m t (frees 6 x s.world e b) s.turns (c + 1)
+        r6 b live = Coming.on_step code most (Running.reaches_to code most 0 k.comes.1 k.reaches) (ap (frees 6 x s.world e) live)
+
+        go : (b : Bool) → is_live s.world e ≡ b
+            → Comes code most x0 a fs (goes_on x0 a fs) m t (not_its_own {A = Unit {0}} e (continued (only_if b (change (freed e)) s) (λ u. stop (cancelled z)))) (c + 4)
+        go true live = record {
+          next = force code (look code a.function a.place) z a.function a.frame fs (freed e s.world);
+          reaches = Running.slower code most 0 (c + 4) (omega arith) (Coming.on_step code most (r6 true live) refl);
+          comes = (k.comes.0, refl);
+        }
+        go false live = record { next = finishes not_defined s.world; reaches = Running.slower code most 0 (c + 4) (omega arith) (r6 false live); comes = refl }
     destroyed_comes {c = c} d e (stopped (ended x) s) k = record { next = k.next; reaches = Running.slower code most 0 (c + 4) (omega arith) k.reaches; comes = k.comes }
     destroyed_comes {c = c} d e (stopped undefined s) k = record { next = k.next; reaches = Running.slower code most 0 (c + 4) (omega arith) k.reaches; comes = k.comes }
     destroyed_comes {c = c} d e (stopped out_of_turns s) k = record { next = k.next; reaches = Running.slower code most 0 (c + 4) (omega arith) k.reaches; comes = k.comes }
@@ -194,7 +227,7 @@ module _ (code : Code) (most fuel : ℕ) (run : Running) (calls : CallsRun code 
     pub leave_comes : {m : State} {t c : ℕ} (st : RegionState) → st.turns < fuel
         → Reaches code most m t (at end_catch 0 (stub_frame nothing nothing nothing) (a ∷ fs) st.world) st.turns c
         → Comes code most st.frame a fs (goes_on st.frame a fs) m t (watched_leave run (context_of gs a fs) st) (c + 7)
-    leave_comes {m} {t} {c} st lt r = go (gives_back st.world.caught) (Coming.on_step code most r refl)
+    leave_comes {m} {t} {c} st lt r = either (may_leave st.world st.world.caught) (Coming.on_step code most r refl)
       where
         e : ℕ
         e = newest_of st.world.caught
@@ -211,3 +244,10 @@ module _ (code : Code) (most fuel : ℕ) (run : Running) (calls : CallsRun code 
           reaches = Running.slower code most 0 (c + 7) (omega arith) (ended_at (stub_frame nothing nothing nothing) (left st.world) k);
           comes = (refl, refl);
         }
+
+        either : (b : Bool) → Reaches code most m t (next_if b st.world (if gives_back st.world.caught then given_back (exception_at st.world e) e 0 1 3 leaving (a ∷ fs) (left st.world)
+            else at end_catch 3 (stub_frame nothing nothing nothing) (a ∷ fs) (left st.world))) st.turns (c + 1)
+            → Comes code most st.frame a fs (goes_on st.frame a fs) m t (not_its_own e (only_if b
+            (change left >> (if gives_back st.world.caught then give_back run e (exception_at st.world e) (context_of gs a fs) else pure tt)) st)) (c + 7)
+        either true k = go (gives_back st.world.caught) k
+        either false k = record { next = finishes not_defined st.world; reaches = Running.slower code most 0 (c + 7) (omega arith) k; comes = refl }

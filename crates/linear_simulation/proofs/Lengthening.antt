@@ -1,12 +1,12 @@
 -- A step of the machine adds items and takes none away.
 use Rattle.std.proofs.Common.{◌≡◌, ℕ, zero, suc, ◌+◌, Bool, true, false, List, [], ◌∷◌, ◌++◌, length, Option, Some, None, refl, ap, ◌∙◌, subst, append_assoc, arith, is_some}
-use Rattle.std.specs.Prelude.{ℤ, pos, negsuc, ◌==◌, if◌then◌else◌}
+use Rattle.std.specs.Prelude.{ℤ, pos, negsuc, ◌==◌, if◌then◌else◌, ◌&&◌}
 use Rattle.run_items.specs.declared.item.Item.{Item}
 use Rattle.run_items.specs.declared.item.Item.TheVariants.{Free, Leave, Destroy, Clean, Enter}
 use Rattle.region_forms.specs.Caught.{gives_back}
-use Rattle.region_forms.specs.World.{Word, nothing, number_word, address_word, flying, unwinding, Frame, World, Exception, building, native, foreign, exception_in_slot, exception_at, type_at, exception_of, address_in}
+use Rattle.region_forms.specs.World.{Word, nothing, number_word, address_word, flying, unwinding, Frame, World, Exception, building, native, foreign, exception_in_slot, exception_at, type_at, exception_of, address_in, with_slot}
 use Rattle.region_forms.specs.Evaluation.{value_in}
-use Rattle.region_forms.specs.Effect.{Effect, goes, calls, raises, terminates, ends, cancels, leaves_newest, meaningless, effect, entered_doomed, left, newest_of, result_in, finished, flies}
+use Rattle.region_forms.specs.Effect.{Effect, goes, calls, raises, terminates, ends, cancels, leaves_newest, meaningless, effect, entered_doomed, left, newest_of, result_in, finished, flies, freed, entered}
 use Rattle.region_forms.specs.Unexpected.{kept_with}
 use Rattle.scope_rules.specs.Arithmetic.{is_zero}
 use Rattle.scope_rules.specs.Outcome.{aborted}
@@ -14,8 +14,8 @@ use Rattle.linear_forms.specs.Linear.{LinearOp, plain, label, jump, jump_zero, p
 use Rattle.linear_forms.specs.Tables.{Cover, bare, unpadded, padded}
 use Rattle.linear_forms.specs.Verdict.{Verdict, target, no_way, clean, nothing_here, pad_verdict, has_cleanup}
 use Rattle.linear_forms.specs.Stub.{Function, CodeOp, linear, runtime, StubOp, leave_newest, destroy_held, call_held, begin_unexpected, check_unexpected, construct_bad, terminate_for, abort, terminating}
-use Rattle.linear_forms.specs.Activation.{Code, Activation, State, Next, goes_to, finishes, by_program, fetch, look, sense, kinds, at, on, stub_frame, function_word, terminated, enters_function, Final, fault}
-use Rattle.linear_forms.specs.Operation.{performed, wanted_by, returned, returned_with, jumped_zero, holds_number, resumed, act}
+use Rattle.linear_forms.specs.Activation.{Code, Activation, State, Next, goes_to, finishes, by_program, fetch, look, sense, kinds, at, on, stub_frame, function_word, terminated, enters_function, Final, fault, next_if}
+use Rattle.linear_forms.specs.Operation.{performed, wanted_by, returned, returned_with, jumped_zero, holds_number, resumed, act, may_free}
 use Rattle.linear_forms.specs.Operation
 use Rattle.linear_forms.specs.StubOperation.{given_back, newest_left, is_bad, called_held, destroyed, act_stub}
 use Rattle.linear_forms.specs.StubOperation
@@ -25,6 +25,7 @@ use Rattle.linear_forms.specs.Forced.{forced_by, forced_at, forced_above, force}
 use Rattle.linear_forms.specs.Machine.{act_on, step, over, exec, go_on}
 use Rattle.linear_simulation.specs.ProgramRuns.{items_of, BeginsWith}
 use Rattle.linear_simulation.proofs.Endings.{nothing_more, given_untouched, EffectKeeps, effect_keeps, finished_keeps}
+use Rattle.region_forms.specs.Lives.{is_native, may_enter, may_leave}
 
 pub longer_same : (xs : List Item) → BeginsWith xs xs
 longer_same xs = ([], nothing_more xs)
@@ -44,6 +45,11 @@ lengthens_on w v (finishes e u) a b = longer_on w.items v.items u.items a b
 either : (b : Bool) (w : World) (x y : Next) → Lengthens w x → Lengthens w y → Lengthens w (if b then x else y)
 either true w x y a c = a
 either false w x y a c = c
+
+-- what is not defined adds nothing
+so_adds : (b : Bool) (w : World) (x : Next) → Lengthens w x → Lengthens w (next_if b w x)
+so_adds true w x h = h
+so_adds false w x h = longer_same w.items
 
 terminated_adds : (h : Option ℕ) (fs : List Activation) (w : World) → Lengthens w (terminated h fs w)
 terminated_adds h fs w =
@@ -169,7 +175,8 @@ module _ (code : Code) where
   act_adds (jump_zero v l) a fs w = zero_adds (value_in (kinds code a.function) a.frame w v) l a fs w
   act_adds (pad o s) a fs w = longer_same w.items
   act_adds (jump_filter s n l) a fs w = either (holds_number (a.frame.slots s) n) w _ (on a a.frame fs w) (longer_same w.items) (longer_same w.items)
-  act_adds (free s) a fs w = (Free (exception_in_slot a.frame s) ∷ [], refl)
+  act_adds (free s) a fs w =
+      let e = exception_in_slot a.frame s in so_adds (may_free a.function w e) w (on a a.frame fs (freed e w)) (Free e ∷ [], refl)
   act_adds (resume s) a fs w = resumed_adds (a.frame.slots s) a fs w
   act_adds (unexpected o s) a fs w = longer_same w.items
   act_adds (return r) a fs w = with_adds (result_in r a.frame w (kinds code a.function)) fs w
@@ -181,9 +188,9 @@ module _ (code : Code) where
 
   newest_adds : (o s l : ℕ) (a : Activation) (fs : List Activation) (w : World) → Lengthens w (newest_left o s l a fs w)
   newest_adds o s l a fs w =
-      either (gives_back w.caught) w _ (at a.function l a.frame fs (left w))
+      so_adds (may_leave w w.caught) w _ (either (gives_back w.caught) w _ (at a.function l a.frame fs (left w))
       (lengthens_on w (left w) _ (Leave (newest_of w.caught) ∷ [], refl) (given_adds (exception_at w (newest_of w.caught)) (newest_of w.caught) o s l a fs (left w)))
-      (Leave (newest_of w.caught) ∷ [], refl)
+      (Leave (newest_of w.caught) ∷ [], refl))
 
   empty_adds : (b : Bool) (ds : List Activation) (w : World) → BeginsWith w.items (if b then StubOperation.empty_call ds w else w).items
   empty_adds true ds w = longer_same w.items
@@ -209,7 +216,10 @@ module _ (code : Code) where
   stub_adds (leave_newest o s l) a fs w = newest_adds o s l a fs w
   stub_adds (destroy_held s o) a fs w = destroyed_adds (a.frame.slots s) (a.frame.slots o) a fs w
   stub_adds (call_held s) a fs w = held_adds (a.frame.slots s) a fs w
-  stub_adds (begin_unexpected o s) a fs w = (Enter (exception_in_slot a.frame o) ∷ [], refl)
+  stub_adds (begin_unexpected o s) a fs w =
+      let e = exception_in_slot a.frame o in
+      so_adds (is_native (exception_at w e) && may_enter w e) w
+      (on a (with_slot s (function_word (kept_with (exception_at w e)).unexpected_handler) a.frame) fs (entered e w)) (Enter e ∷ [], refl)
   stub_adds (check_unexpected s f o x) a fs w = longer_same w.items
   stub_adds construct_bad a fs w = longer_same w.items
   stub_adds (terminate_for o) a fs w = terminated_adds (kept_with (exception_at w (exception_in_slot a.frame o))).terminate_handler (a ∷ fs) w

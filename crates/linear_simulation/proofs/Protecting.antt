@@ -1,20 +1,20 @@
 -- A region that is protected by a cleanup.
-use Rattle.std.proofs.Common.{◌≡◌, ℕ, zero, suc, ◌+◌, ◌<◌, ◌≤◌, inl, inr, true, List, [], ◌∷◌, ◌++◌, length, Some, None, refl, sym, ap, ◌∙◌, subst, arith, length-append}
+use Rattle.std.proofs.Common.{◌≡◌, ℕ, zero, suc, ◌+◌, ◌<◌, ◌≤◌, inl, inr, true, List, [], ◌∷◌, ◌++◌, length, Some, None, refl, sym, ap, ◌∙◌, subst, arith, length-append, Bool, false}
 use Rattle.std.specs.Prelude.{ℤ, pos}
 use Rattle.scope_rules.specs.Class.{contains}
 use Rattle.scope_rules.specs.Outcome.{Stop, thrown, cancelled, ended, undefined, out_of_turns, deep}
 use Rattle.region_forms.specs.Form.{Place, Op, destroy, leave, Cleanup, destroy_scope, destroy_part, free_object, leave_handler}
-use Rattle.region_forms.specs.World.{flying, unwinding, address_in, exception_of, exception_in_slot, Frame, type_at}
+use Rattle.region_forms.specs.World.{flying, unwinding, address_in, exception_of, exception_in_slot, Frame, type_at, World}
 use Rattle.region_forms.specs.Guard.{everything}
 use Rattle.region_forms.specs.Effect.{freed}
 use Rattle.region_forms.specs.Mentioned.{slots_of_cleanup}
-use Rattle.region_forms.specs.Outcome.{State as RegionState, Context, Flow, normal, leaves, Result, done, stopped, Action, continued, pure, stop, change, guarded_by}
+use Rattle.region_forms.specs.Outcome.{State as RegionState, Context, Flow, normal, leaves, Result, done, stopped, Action, continued, pure, stop, change, guarded_by, only_if}
 use Rattle.region_forms.specs.Ending.{Running, behind_barrier}
-use Rattle.region_forms.specs.Meaning.{operation, outwards}
+use Rattle.region_forms.specs.Meaning.{operation, outwards, give_up}
 use Rattle.linear_forms.specs.Linear.{plain, label, pad, free, resume}
 use Rattle.linear_forms.specs.Tables.{bare, cleanup}
 use Rattle.linear_forms.specs.Stub.{compiled}
-use Rattle.linear_forms.specs.Activation.{Code, Activation, State, goes_to, at}
+use Rattle.linear_forms.specs.Activation.{Code, Activation, State, goes_to, at, next_if, Next, finishes, not_defined}
 use Rattle.linear_forms.specs.Search.{found}
 use Rattle.linear_forms.specs.Unwinding.{unwind}
 use Rattle.linear_forms.specs.Forced.{force}
@@ -37,6 +37,7 @@ use Rattle.linear_simulation.proofs.Padding
 use Rattle.linear_simulation.proofs.Resuming
 use Rattle.linear_simulation.proofs.Passing
 use Rattle.linear_simulation.proofs.Exiting
+use Rattle.region_forms.specs.Lives.{is_being_built}
 
 -- what is protected, then the cleanup of exceptional exits alone
 abbrev part_after : Action (Unit {0}) → Result Flow → Result Flow
@@ -79,7 +80,7 @@ module _ (run : Running) (c : Context) where
   part_is q d (stopped out_of_turns st) = refl
   part_is q d (stopped deep st) = refl
 
-  free_is : (y : ℕ) (r : Result Flow) → part_after (λ st. change (freed (exception_in_slot st.frame y)) st) r ≡ watched_protect run (free_object y) c r
+  free_is : (y : ℕ) (r : Result Flow) → part_after (λ st. give_up (exception_in_slot st.frame y) st) r ≡ watched_protect run (free_object y) c r
   free_is y (done a st) = refl
   free_is y (stopped (thrown e) st) = refl
   free_is y (stopped (cancelled k) st) = refl
@@ -109,16 +110,26 @@ module _ (code : Code) (most fuel n : ℕ) (run : Running) (calls_run : CallsRun
         (subst (λ z. Agrees code (compiled s.func) (everything ∷ s.guards) z s.frames) (sym cov) (record { same = λ t. refl })) op);
   }
 
-  pub free_pad : (y : ℕ) → y < n → code.op_at s.func (p + 1 + 1) ≡ Some (free y) → PadRuns (λ st. change (freed (exception_in_slot st.frame y)) st)
-  free_pad y lt op = record {
-    runs = λ x st lt2 same. inl (
-      record st { world = freed (exception_in_slot st.frame y) st.world },
-      refl,
-      refl,
-      Running.slower code most n 10 (omega arith) (Running.free_step code most n st.turns (Running.step_at code most n s (p + 1 + 1) x st.world (free y) op ∙
-          ap (λ z. at (compiled s.func) (p + 1 + 1 + 1) x s.frames (freed (exception_of (address_in z)) st.world)) (same.slots y lt))),
-    );
-  }
+  pub free_pad : (y : ℕ) → y < n → code.op_at s.func (p + 1 + 1) ≡ Some (free y) → PadRuns (λ st. give_up (exception_in_slot st.frame y) st)
+  free_pad y lt op = record { runs = λ x st lt2 same. go x st same (is_being_built st.world (exception_in_slot st.frame y)) refl }
+    where
+      -- the object is freed, or nothing is defined
+      frees : Frame → World → ℕ → Bool → Next
+      frees x w e b = next_if b w (at (compiled s.func) (p + 1 + 1 + 1) x s.frames (freed e w))
+
+      reaches : (x : Frame) (st : RegionState) → SameBelow n st.frame x → (b : Bool) → is_being_built st.world (exception_in_slot st.frame y) ≡ b
+          → Reaches code most (record { top = act_of code most n s (p + 1 + 1) x; frames = s.frames; world = st.world }) st.turns (frees x st.world (exception_in_slot st.frame y) b) st.turns 10
+      reaches x st same b is =
+          Running.slower code most n 10 (omega arith) (Running.free_step code most n st.turns (Running.step_at code most n s (p + 1 + 1) x st.world (free y) op ∙
+          ap (λ z. frees x st.world (exception_of (address_in z)) (is_being_built st.world (exception_of (address_in z)))) (same.slots y lt) ∙
+          ap (frees x st.world (exception_in_slot st.frame y)) is))
+
+      go : (x : Frame) (st : RegionState) → SameBelow n st.frame x → (b : Bool) → is_being_built st.world (exception_in_slot st.frame y) ≡ b
+          → BackOrEnd code most st.frame (act_of code most n s (p + 1 + 1) x) s.frames (here s (p + 1 + 1) x st.world) st.turns
+          (only_if b (change (freed (exception_in_slot st.frame y))) st) 10
+      go x st same true is = inl (record st { world = freed (exception_in_slot st.frame y) st.world }, refl, refl, reaches x st same true is)
+      go x st same false is =
+          inr (record { why = undefined; state = st; is = refl; next = finishes not_defined st.world; reaches = reaches x st same false is; ends = refl })
 
   module _ (act : Action (Unit {0})) (pads : PadRuns act) (pad_op : code.op_at s.func (p + 1) ≡ Some (pad em.object em.selector))
       (resume_op : code.op_at s.func (p + 1 + 1 + 1) ≡ Some (resume em.object)) (resume_cover : code.cover_at s.func (p + 1 + 1 + 1) ≡ s.cover) where
@@ -310,7 +321,7 @@ module _ (code : Code) (most fuel n : ℕ) (run : Running) (calls_run : CallsRun
         part_closed (destroy_part q d) (behind_barrier run (context_at s) (operation run (destroy q d)))
         (clean_pad (destroy q d) (operation run (destroy q d)) cleans has.3.3.0 has.3.3.1) has refl (part_is run (context_at s) q d r) a
     protect_runs (free_object y) le has a =
-        part_closed (free_object y) (λ st. change (freed (exception_in_slot st.frame y)) st) (free_pad y (omega (arith, le)) has.3.3.0) has refl (free_is run (context_at s) y r) a
+        part_closed (free_object y) (λ st. give_up (exception_in_slot st.frame y) st) (free_pad y (omega (arith, le)) has.3.3.0) has refl (free_is run (context_at s) y r) a
     protect_runs leave_handler le has a =
         let cleans = Operations.leave_cleans code most n fuel run calls_run s fits.kinds in
         scope_closed leave_handler leave (watched_leave run) cleans (clean_pad leave (watched_leave run) cleans has.3.3.0 has.3.3.1)

@@ -7,15 +7,15 @@ use Rattle.scope_rules.specs.Outcome.{Stop, thrown, cancelled, ended, undefined,
 use Rattle.region_forms.specs.Caught.{Entry, entered_on, counted, holds_other}
 use Rattle.region_forms.specs.World.{Word, nothing, number_word, address_word, object_address, flying, unwinding, Frame, World, with_slot, type_at, exception_at}
 use Rattle.region_forms.specs.Guard.{Guard, clauses, everything, allows, is_doomed}
-use Rattle.region_forms.specs.Effect.{goes, raises, terminates, rethrown, entered, enters, is_foreign, is_full, kept}
-use Rattle.region_forms.specs.Outcome.{State as RegionState, Context, Result, done, stopped, Action, continued, stop, change, ◌>>◌}
+use Rattle.region_forms.specs.Effect.{goes, raises, terminates, rethrown, entered, enters, is_foreign, is_full, kept, only_where}
+use Rattle.region_forms.specs.Outcome.{State as RegionState, Context, Result, done, stopped, Action, continued, stop, change, ◌>>◌, only_if}
 use Rattle.region_forms.specs.Ending.{Running, after_scope, after_barrier, behind_barrier, terminate_with, terminate, raise, perform, empty_call, bad_row}
-use Rattle.region_forms.specs.Unexpected.{kept_with, made, throw_bad}
+use Rattle.region_forms.specs.Unexpected.{kept_with, made, throw_bad, keep_bad}
 use Rattle.linear_forms.specs.Linear.{plain}
 use Rattle.region_forms.specs.Form.{leave}
 use Rattle.linear_forms.specs.Tables.{bare, padded, list_of}
 use Rattle.linear_forms.specs.Stub.{linear, call_unexpected}
-use Rattle.linear_forms.specs.Activation.{Code, Activation, State, Next, finishes, fault, fetch, look, at, stub_frame, function_word, depth_of, terminated}
+use Rattle.linear_forms.specs.Activation.{Code, Activation, State, Next, finishes, fault, fetch, look, at, stub_frame, function_word, depth_of, terminated, next_if, not_defined}
 use Rattle.linear_forms.specs.Search.{found}
 use Rattle.linear_forms.specs.Unwinding.{unwind, pad_entered}
 use Rattle.linear_forms.specs.Unwinding.{raise as raise_at}
@@ -32,6 +32,7 @@ use Rattle.linear_simulation.proofs.Coming.{none_more}
 use Rattle.linear_simulation.proofs.Coming
 use Rattle.linear_simulation.proofs.Leaving
 use Rattle.linear_simulation.proofs.Resuming
+use Rattle.region_forms.specs.Lives.{is_native, is_being_built, can_travel, may_enter}
 
 -- nothing is answered
 abbrev pub NoAnswer : {A : Type 0} → Answered A
@@ -233,13 +234,13 @@ module _ (code : Code) (most fuel : ℕ) (run : Running) (calls_run : CallsRun c
       (Coming.raise_comes code most fuel run calls_run (NoAnswer {A = A}) e b frames gs st (omega (arith, r.falls, lt)) (in_pad q lo) r)))
 
   -- the newest handled exception, just entered, is thrown again
-  rethrown_top : (f : ℕ) (xs : List Entry) (w : World) → rethrown (entered_on f xs) w ≡ raises f w
-  rethrown_top f [] w = refl
-  rethrown_top f (x ∷ xs) w = go (x.number == f)
+  rethrown_top : (f : ℕ) (xs : List Entry) (w : World) → can_travel w f ≡ true → rethrown (entered_on f xs) w ≡ raises f w
+  rethrown_top f [] w can = ap (λ b. only_where b (raises f w)) can
+  rethrown_top f (x ∷ xs) w can = go (x.number == f)
     where
       go : (b : Bool) → rethrown (counted b f false x xs) w ≡ raises f w
-      go true = refl
-      go false = refl
+      go true = ap (λ b. only_where b (raises f w)) can
+      go false = ap (λ b. only_where b (raises f w)) can
 
   module _ (e tg g : ℕ) (k : ℤ) (types : List ℕ) (means : code.sense_at g k ≡ list_of types) (th : Option ℕ) where
     -- the frame of the runtime's function, with the handler, then with what came out of it, then with the answer
@@ -271,15 +272,21 @@ module _ (code : Code) (most fuel : ℕ) (run : Running) (calls_run : CallsRun c
         st2 = record st { world = made st.world }
 
         after : Action A
-        after = change (kept e2 bad_row None) >> raise run e2 ctx
+        after = keep_bad e2 >> raise run e2 ctx
 
         b12 : Activation
         b12 = record { function = call_unexpected; place = 12; frame = y }
 
+        either : (s : RegionState) → s.frame ≡ f0 → (b : Bool)
+            → Reaches code most m t (performed code (only_where b (raises e2 (kept e2 bad_row None s.world))) (record { function = call_unexpected; place = 13; frame = y }) frames s.world) s.turns (c + 1 + 1)
+            → ComesAt {A = A} m t 15 (continued (only_if b (change (kept e2 bad_row None)) s) (λ u. raise run e2 ctx)) (c + 4)
+        either s fr true k = at_slower (c + 4) (omega arith) (raises_at e2 13 y (record s { world = kept e2 bad_row None s.world }) fr refl lt k)
+        either s fr false k = at_slower (c + 4) (omega arith) (end_at undefined s (finishes not_defined s.world) k refl)
+
         thrown_bad : (r : Result (Unit {0})) → BackOrEnd code most st2.frame b12 frames m t r (c + 1) → ComesAt {A = A} m t 15 (continued r (λ u. after)) (c + 6)
         thrown_bad r (inl (s, is, fr2, re)) =
             subst (λ z. ComesAt {A = A} m t 15 (continued z (λ u. after)) (c + 6)) (sym is)
-            (at_slower (c + 6) (omega arith) (raises_at e2 13 y (record s { world = kept e2 bad_row None s.world }) (fr2 ∙ fr) refl lt (Coming.on_step code most re refl)))
+            (at_slower (c + 6) (omega arith) (either s (fr2 ∙ fr) (is_being_built s.world e2) (Coming.on_step code most re refl)))
         thrown_bad r (inr e) = subst (λ z. ComesAt {A = A} m t 15 (continued z (λ u. after)) (c + 6)) (sym e.is)
             (at_slower (c + 6) (omega arith) (end_at e.why e.state e.next e.reaches e.ends))
 
@@ -325,7 +332,7 @@ module _ (code : Code) (most fuel : ℕ) (run : Running) (calls_run : CallsRun c
     thrown_at : {A : Type 0} {m : State} {t c : ℕ} (h : Word) (f tf : ℕ) (s : RegionState) → s.frame ≡ f0 → t < fuel
         → Reaches code most m t (at call_unexpected 5 (with_thrown h f tf) frames s.world) s.turns c
         → ComesAt {A = A} m t 16 (continued {A = Unit {0}} (perform run (enters f s.frame s.world) ctx s) (λ u. watched_handled run ctx (watched_pass run types e th f ctx))) (c + 21)
-    thrown_at {A} {m} {t} {c} h f tf s fr lt r = go (is_foreign (exception_at s.world f) && holds_other f s.world.caught) (Coming.on_step code most r refl)
+    thrown_at {A} {m} {t} {c} h f tf s fr lt r = either (may_enter s.world f) refl (Coming.on_step code most r refl)
       where
         y : Frame
         y = with_thrown h f tf
@@ -339,14 +346,27 @@ module _ (code : Code) (most fuel : ℕ) (run : Running) (calls_run : CallsRun c
         s2 : RegionState
         s2 = record s { world = entered f s.world }
 
-        go : (b : Bool) → Reaches code most m t (performed code (if b then terminates s.world.installed.terminate_handler s.world else goes y (entered f s.world)) b5 frames s.world) s.turns (c + 1)
+        first : (b d : Bool) → (b && d) ≡ true → b ≡ true
+        first true d h = refl
+        first false d h = absurd (cc h)
+
+        go : may_enter s.world f ≡ true → (b : Bool)
+            → Reaches code most m t (performed code (if b then terminates s.world.installed.terminate_handler s.world else goes y (entered f s.world)) b5 frames s.world) s.turns (c + 1)
             → ComesAt {A = A} m t 16 (continued {A = Unit {0}} (perform run (if b then terminates s.world.installed.terminate_handler s.world else goes s.frame (entered f s.world)) ctx s) (λ u. next)) (c + 21)
-        go true k =
+        go can true k =
             subst (λ d. ComesAt {A = A} m t 16 (continued {A = Unit {0}} (terminate_with run s.world.installed.terminate_handler (record { guards = gs; depth = d }) s) (λ u. next)) (c + 21)) (none_more (depth_of frames))
             (at_slower (c + 21) (omega arith) (end_then _ next (Coming.terminate_ends code most fuel run calls_run s.world.installed.terminate_handler b5 frames gs s (omega (arith, k.falls, lt)) k)))
-        go false k =
-            let p = passed_on {A = A} h f tf s2 fr lt (rethrown_top f s.world.caught (entered f s.world)) k in
+        go can false k =
+            let p = passed_on {A = A} h f tf s2 fr lt (rethrown_top f s.world.caught (entered f s.world) (first (can_travel s.world f) _ can)) k in
             at_slower (c + 21) (omega arith) (left_from 15 (watched_pass run types e th f ctx s2) refl refl lt p)
+
+        either : (b : Bool) → may_enter s.world f ≡ b
+            → Reaches code most m t (performed code (only_where b (if is_foreign (exception_at s.world f) && holds_other f s.world.caught then terminates s.world.installed.terminate_handler s.world
+            else goes y (entered f s.world))) b5 frames s.world) s.turns (c + 1)
+            → ComesAt {A = A} m t 16 (continued {A = Unit {0}} (perform run (only_where b (if is_foreign (exception_at s.world f) && holds_other f s.world.caught
+            then terminates s.world.installed.terminate_handler s.world else goes s.frame (entered f s.world))) ctx s) (λ u. next)) (c + 21)
+        either true can k = go can (is_foreign (exception_at s.world f) && holds_other f s.world.caught) k
+        either false can k = at_slower (c + 21) (omega arith) (end_at undefined s (finishes not_defined s.world) k refl)
 
     -- what comes out of the handler
     handler_at : {A : Type 0} {m : State} {t c : ℕ} (h : Word) (r : Result ℤ) → t < fuel
@@ -405,5 +425,13 @@ module _ (code : Code) (most fuel : ℕ) (run : Running) (calls_run : CallsRun c
       let h = (kept_with (exception_at st.world e)).unexpected_handler in
       let th = (kept_with (exception_at st.world e)).terminate_handler in
       let s1 : RegionState = record st { world = entered e st.world } in
-      let k2 = called_at e tg g k types means th {A = A} h s1 fr lt (Coming.on_step code most r refl) in
-      Coming.comes_slower code most (c + 36) (omega arith) (resumed_from _ (left_from 16 (watched_handler run types e th h ctx s1) refl refl lt k2))
+      either th h s1 (is_native (exception_at st.world e) && may_enter st.world e) (Coming.on_step code most r refl)
+    where
+      either : (th h : Option ℕ) (s1 : RegionState) (b : Bool)
+          → Reaches code most m t (next_if b st.world (at call_unexpected 1 (with_handler e tg g k types means th (function_word h)) frames (entered e st.world))) st.turns (c + 1)
+          → Comes {A = A} code most f0 a fs NoAnswer m t (continued (only_if b (change (entered e)) st) (λ u. watched_handled run ctx (watched_handler run types e th h ctx))) (c + 36)
+      either th h s1 true k0 =
+          let s1 : RegionState = record st { world = entered e st.world } in
+          let k2 = called_at e tg g k types means th {A = A} h s1 fr lt k0 in
+          Coming.comes_slower code most (c + 36) (omega arith) (resumed_from _ (left_from 16 (watched_handler run types e th h ctx s1) refl refl lt k2))
+      either th h s1 false k0 = record { next = finishes not_defined st.world; reaches = Running.slower code most 0 (c + 36) (omega arith) k0; comes = refl }

@@ -11,14 +11,15 @@ use Rattle.region_forms.specs.World.{Word, address_word, object_address, Frame, 
 use Rattle.region_forms.specs.Guard.{clauses, listed, everything, matches, allows, types_of, is_doomed}
 use Rattle.scope_rules.specs.World.{Installed}
 use Rattle.region_forms.specs.Evaluation.{value_in}
-use Rattle.region_forms.specs.Effect.{Effect, goes, calls, raises, terminates, ends, cancels, leaves_newest, meaningless, effect, finished, newest_of, left, entered, enters, flies, is_full, kept}
-use Rattle.region_forms.specs.Outcome.{State, Context, Flow, normal, leaves, Result, done, stopped, Action, continued, pure, stop, some, change, guarded_by, ◌>>=◌, ◌>>◌}
+use Rattle.region_forms.specs.Effect.{Effect, goes, calls, raises, terminates, ends, cancels, leaves_newest, meaningless, effect, finished, newest_of, left, enters, flies, is_full}
+use Rattle.region_forms.specs.Outcome.{State, Context, Flow, normal, leaves, Result, done, stopped, Action, continued, pure, stop, some, change, guarded_by, ◌>>=◌, ◌>>◌, only_if}
 use Rattle.region_forms.specs.Ending.{Running, terminate_with, terminate, run_terminate_handler, after_terminate_handler, terminate_because, enter_and_terminate, raise, after_barrier, behind_barrier, unwound, after_scope, after_part, after_destructor, spend, empty_call, open_call, call_destructor, give_back, leave_newest, settled, perform, bad_row}
-use Rattle.region_forms.specs.Unexpected.{kept_with, throw_bad, pass_on, made, while_handled, after_unexpected, run_unexpected_handler, unexpected, after_limit}
+use Rattle.region_forms.specs.Unexpected.{kept_with, throw_bad, pass_on, made, while_handled, after_unexpected, run_unexpected_handler, unexpected, after_limit, keep_bad, enter_stopped}
 use Rattle.region_forms.specs.Meaning.{outwards, followed, operation, value_of, loop_of, cleaned, after_try, with_object, region, regions, caught, after_call, called_state, function_result, run_function, call_with, no_frame, first_world, after_main}
 use Rattle.scope_rules.specs.Meaning.{stopped_by}
 use Rattle.linear_simulation.specs.ProgramRuns.{WatchedIsMeant}
 use Rattle.linear_simulation.specs.Watched.{same_type, still, kept_type, kept_on, not_its_own, watched_leave, watched_operation, watched_cleaned, watched_handled, watched_pass, terminate_for, watched_after, watched_handler, watched_unexpected, watched_limit, watched_protect, watched, watched_all, watched_caught, watched_function, watched_call, watched_call_of}
+use Rattle.region_forms.specs.Lives.{may_leave}
 
 -- the first result is the second, or stops as deep
 abbrev pub Watches : {A : Type 0} → Result A → Result A → Type 0
@@ -127,8 +128,12 @@ module _ (v r : Running) (types : v.types ≡ r.types) (kinds : v.kinds ≡ r.ki
       through (call_destructor v t d e c s2) (call_destructor r t d e c s2) (after_destructor e) (after_destructor e) (destructor_watches t d e c s2) (λ s3. refl) (λ z. inl refl)
   give_watches e (foreign k t) c s = inl refl
 
+  only_watches : {A : Type 0} (b : Bool) (f g : Action A) (s : State) → Watches (f s) (g s) → Watches (only_if b f s) (only_if b g s)
+  only_watches true f g s h = h
+  only_watches false f g s h = inl refl
+
   newest_watches : (c : Context) (s : State) → Watches (leave_newest v c s) (leave_newest r c s)
-  newest_watches c s = go (gives_back s.world.caught)
+  newest_watches c s = only_watches (may_leave s.world s.world.caught) _ _ s (go (gives_back s.world.caught))
     where
       e : ℕ
       e = newest_of s.world.caught
@@ -235,13 +240,14 @@ module _ (v r : Running) (types : v.types ≡ r.types) (kinds : v.kinds ≡ r.ki
       e = s.world.last_number + 1
 
       f : Running → Action A
-      f q = change (kept e bad_row None) >> raise q e c
+      f q = keep_bad e >> raise q e c
 
       go : (b : Bool) → Watches ((if b then terminate {A = A} v c else (change made >> (empty_call v c >> f v))) s) ((if b then terminate r c else (change made >> (empty_call r c >> f r))) s)
       go true = terminate_watches {A = A} s.world.installed.terminate_handler c s
       go false =
           let s1 : State = record s { world = made s.world } in
-          bind_watches (empty_call v c s1) (empty_call r c s1) (λ u. f v) (λ u. f r) (empty_watches c s1) (λ u s2. raise_watches {A = A} e c (record s2 { world = kept e bad_row None s2.world }))
+          bind_watches (empty_call v c s1) (empty_call r c s1) (λ u. f v) (λ u. f r) (empty_watches c s1) 
+          (λ u s2. bind_watches (keep_bad e s2) (keep_bad e s2) (λ x. raise v e c) (λ x. raise r e c) (inl refl) (λ x s3. raise_watches {A = A} e c s3))
 
   for_watches : {A : Type 0} (e : ℕ) (h : Option ℕ) (c : Context) (s : State) → Watches (terminate_for {A = A} v e h c s) (terminate_with r h c s)
   for_watches {A} e h c s = go (same_type h (kept_with (exception_at s.world e)).terminate_handler)
@@ -287,9 +293,9 @@ module _ (v r : Running) (types : v.types ≡ r.types) (kinds : v.kinds ≡ r.ki
       either e s true = inl refl
       either e s false =
           let k = kept_with (exception_at s.world e) in
-          let s1 : State = record s { world = entered e s.world } in
-          handled_watches c (watched_handler {A = Flow} v ts e k.terminate_handler k.unexpected_handler c) (run_unexpected_handler r ts k k.unexpected_handler c) s1
-          (called_watches {A = Flow} ts e k k.unexpected_handler c s1)
+          bind_watches (enter_stopped e s) (enter_stopped e s) _ _ (inl refl)
+          (λ u s1. handled_watches c (watched_handler {A = Flow} v ts e k.terminate_handler k.unexpected_handler c) (run_unexpected_handler r ts k k.unexpected_handler c) s1
+          (called_watches {A = Flow} ts e k k.unexpected_handler c s1))
 
       each : (z : Result Flow) → Watches (watched_limit v ts c z) (after_limit r ts c z)
       each (done a s) = inl refl

@@ -8,9 +8,9 @@ use Rattle.cxx_ast.specs.declared.types.Ty.TheVariants.{Int, Void, Object, Objec
 use Rattle.cxx_ast.specs.declared.declaration.FuncKind.TheVariants.{Plain, Constructor, Destructor}
 use Rattle.cxx_ast.specs.Plain.{Class as ClassTree, Checked, Expression, number, path, call, std_call, Expressions, no_expressions, expression_then, Statement, return, throw, try, assign, evaluate, local_object, Statements, no_statements, statement_then, no_handlers, handler_then}
 use Rattle.eh_bytes.specs.Spelling.{uleb_spelling, uleb_spelling_within}
-use Rattle.scope_rules.specs.Outcome.{deep}
+use Rattle.scope_rules.specs.Outcome.{undefined}
 use Rattle.scope_rules.specs.Meaning.{stopped_by}
-use Rattle.scope_rules.specs.declared.ending.MeanEnd.TheVariants.{Aborted}
+use Rattle.scope_rules.specs.declared.ending.MeanEnd.TheVariants.{Undefined}
 use Rattle.scope_rules.proofs.Trees.{nm, pa, fn, cl, ck}
 use Rattle.region_forms.specs.Form.{help_slot, Slot, through, make, throw as throw_op, destroy_scope, op, protect, catch, no_clauses, clause_then, in_order, TypeRow, Regions}
 use Rattle.region_forms.specs.Layout.{layout_of}
@@ -18,7 +18,7 @@ use Rattle.region_forms.specs.LowerProgram.{regions_of}
 use Rattle.region_forms.specs.Meaning.{regions_meaning}
 use Rattle.region_forms.specs.WellFormed.{is_well_formed}
 use Rattle.linear_forms.specs.Unit.{unit_of}
-use Rattle.linear_forms.specs.UnitRun.{unit_run, faulty, seen_run}
+use Rattle.linear_forms.specs.UnitRun.{unit_run, seen_run, seen_of}
 use Rattle.linear_simulation.specs.Watched.{watched_meaning}
 use Rattle.linear_simulation.specs.FunctionsRun.{catches_have_clauses}
 
@@ -94,7 +94,7 @@ unfolding bad_exception_thrown
 bad_exception_thrown-watched = (refl, refl, refl)
 
 -- Function 1 throws an exception of type 0 that type 0 is to catch. On the way the cleanup calls function 0 with the exception's own object,
--- and there that is thrown once more, as type 1, and caught.
+-- and there that is to be thrown once more, as type 1. Only an exception that is being built can be, so nothing more is defined.
 abbrev help : Slot
 help = record { kind = help_slot; size = 8 }
 
@@ -119,8 +119,9 @@ changes_a_type = record {
   main = 1;
 }
 
-changes_a_type-differs :
-    (is_well_formed changes_a_type ≡ true) × ((regions_meaning changes_a_type [] [] 100 128).end ≡ Aborted) ×
-    (seen_run (unit_run (unit_of changes_a_type) [] [] 1000) ≡ faulty) × ((watched_meaning changes_a_type [] [] 100 128).main ≡ stopped_by deep)
+changes_a_type-undefined :
+    (is_well_formed changes_a_type ≡ true) × ((regions_meaning changes_a_type [] [] 100 128).end ≡ Undefined) ×
+    (seen_run (unit_run (unit_of changes_a_type) [] [] 1000) ≡ seen_of (regions_meaning changes_a_type [] [] 100 128)) ×
+    ((watched_meaning changes_a_type [] [] 100 128).main ≡ stopped_by undefined)
 unfolding changes_a_type uleb_spelling uleb_spelling_within
-changes_a_type-differs = (refl, refl, refl, refl)
+changes_a_type-undefined = (refl, refl, refl, refl)

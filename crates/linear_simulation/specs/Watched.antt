@@ -11,10 +11,10 @@ use Rattle.scope_rules.specs.Meaning.{Meaning}
 use Rattle.region_forms.specs.Form.{Op, destroy, leave, Cleanup, destroy_scope, destroy_part, free_object, leave_handler, Region, seq, op, branch, loop, protect, catch, limit, barrier, leave_region, RegionList, no_regions, region_then, Clauses, no_clauses, clause_then, RegionFunction, Regions, kinds_of}
 use Rattle.region_forms.specs.World.{Word, type_at, exception_at}
 use Rattle.region_forms.specs.Guard.{clauses, listed, matches, allows, types_of}
-use Rattle.region_forms.specs.Effect.{entered, enters, newest_of}
-use Rattle.region_forms.specs.Outcome.{Context, Flow, normal, leaves, Result, done, stopped, Action, pure, stop, change, guarded_by, ◌>>=◌, ◌>>◌}
+use Rattle.region_forms.specs.Effect.{enters, newest_of}
+use Rattle.region_forms.specs.Outcome.{Context, Flow, normal, leaves, Result, done, stopped, Action, pure, stop, guarded_by, ◌>>=◌, ◌>>◌}
 use Rattle.region_forms.specs.Ending.{Running, terminate_with, after_scope, after_part, leave_newest, perform, behind_barrier, open_call, raise, bad_row}
-use Rattle.region_forms.specs.Unexpected.{kept_with, throw_bad}
+use Rattle.region_forms.specs.Unexpected.{kept_with, throw_bad, enter_stopped}
 use Rattle.region_forms.specs.Meaning.{bounded, followed, operation, value_of, loop_of, after_building, after_try, with_object, after_call, called_state, function_result, no_frame, first_world, after_main}
 
 -- the same type, or none on both sides
@@ -88,7 +88,7 @@ watched_handler r types e h (Some u) c = λ s. watched_after r types e h c (r.ca
 -- an exception that a specification stops
 abbrev pub watched_unexpected : {A : Type 0} → Running → List ℕ → ℕ → Context → Action A
 watched_unexpected r types e c s =
-    (change (entered e) >> watched_handled r c (watched_handler r types e (kept_with (exception_at s.world e)).terminate_handler
+    (enter_stopped e >> watched_handled r c (watched_handler r types e (kept_with (exception_at s.world e)).terminate_handler
     (kept_with (exception_at s.world e)).unexpected_handler c)) s
 
 -- what a list does not allow is unexpected

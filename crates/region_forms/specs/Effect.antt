@@ -11,6 +11,7 @@ use Rattle.eh_outer.specs.declared.module.Reply.TheVariants.{Value as ValueReply
 use Rattle.region_forms.specs.Form.{Kinds, SlotKind, int_slot, in_slot, Place, Callee, defined, builtin, Value, load, call_value, Op, evaluate, store, bind, call, construct, destroy, make, throw, rethrow, enter, leave}
 use Rattle.region_forms.specs.Caught.{Entry, entered_on, left_of, flown, holds_other}
 use Rattle.region_forms.specs.World.{Word, nothing, number_word, address_word, Frame, World, Exception, building, native, foreign, of_variable, written, with_slot, object_address, exception_in_slot, with_item, exception_at, with_exception, without_exception}
+use Rattle.region_forms.specs.Lives.{is_there, is_being_built, can_travel, may_enter}
 use Rattle.region_forms.specs.Evaluation.{Location, in_memory, in_frame, locate, value_in, address_of, words_in}
 
 -- An operation is done; or it calls a function and stores the value in a place, if one is given; raises an exception; calls
@@ -30,9 +31,14 @@ abbrev pub if_some : {A : Type 0} → Option A → (A → Effect) → Effect
 if_some None next = meaningless
 if_some (Some a) next = next a
 
--- an int is written to a location
+-- what is defined only where a test holds
+abbrev pub only_where : Bool → Effect → Effect
+only_where true x = x
+only_where false x = meaningless
+
+-- an int is written to a location; the object of an exception that is no longer live is nowhere
 abbrev pub stored_at : Location → ℤ → Frame → World → Effect
-stored_at (in_memory a) v f w = goes f (written a v w)
+stored_at (in_memory a) v f w = only_where (is_there w a.base) (goes f (written a v w))
 stored_at (in_frame s) v f w = goes (with_slot s (number_word v) f) w
 
 -- a value is stored in a place, or dropped
@@ -144,12 +150,13 @@ kept e t d w = with_exception e (native t d w.installed) w
 -- the newest handled exception travels again; with none, or while it travels, terminate is called
 abbrev pub rethrown : List Entry → World → Effect
 rethrown [] w = terminates w.installed.terminate_handler w
-rethrown (x ∷ xs) w = if x.again then terminates w.installed.terminate_handler w else raises x.number w
+rethrown (x ∷ xs) w = if x.again then terminates w.installed.terminate_handler w else only_where (can_travel w x.number) (raises x.number w)
 
 -- an exception is entered, but entering a foreign one while another is handled calls terminate
 abbrev pub enters : ℕ → Frame → World → Effect
 enters e f w =
-    if is_foreign (exception_at w e) && holds_other e w.caught then terminates w.installed.terminate_handler w else goes f (entered e w)
+    only_where (may_enter w e)
+    (if is_foreign (exception_at w e) && holds_other e w.caught then terminates w.installed.terminate_handler w else goes f (entered e w))
 
 -- what an operation does in a frame
 abbrev pub effect : Kinds → Op → Frame → World → Effect
@@ -163,7 +170,8 @@ effect kinds (destroy p n) f w = if_some (address_of kinds f p) (λ a. calls Non
 effect kinds (make s) f w =
     if is_full w then terminates w.installed.terminate_handler w else
     goes (with_slot s (address_word (object_address (w.last_number + 1))) f) (with_item (Make (w.last_number + 1)) (with_new building w))
-effect kinds (throw s t d) f w = raises (exception_in_slot f s) (kept (exception_in_slot f s) t d w)
+effect kinds (throw s t d) f w =
+    only_where (is_being_built w (exception_in_slot f s)) (raises (exception_in_slot f s) (kept (exception_in_slot f s) t d w))
 effect kinds rethrow f w = rethrown w.caught w
 effect kinds (enter s) f w = enters (exception_in_slot f s) f w
 effect kinds leave f w = leaves_newest

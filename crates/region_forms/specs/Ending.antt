@@ -5,10 +5,11 @@ use Rattle.scope_rules.specs.Outcome.{Stop, thrown, cancelled, ended, undefined,
 use Rattle.region_forms.specs.Form.{TypeRow}
 use Rattle.region_forms.specs.World.{Word, address_word, Exception, building, native, foreign, object_address, with_item, exception_at, type_at}
 use Rattle.region_forms.specs.Caught.{gives_back}
+use Rattle.region_forms.specs.Lives.{is_live, may_leave}
 use Rattle.region_forms.specs.Guard.{everything, is_doomed}
 use Rattle.region_forms.specs.Form.{Kinds}
 use Rattle.region_forms.specs.Effect.{Effect, goes, calls, raises, terminates, ends, cancels, leaves_newest, meaningless, finished, entered_doomed, flies, freed, left, newest_of, cleaned_up}
-use Rattle.region_forms.specs.Outcome.{Context, Result, done, stopped, Action, pure, stop, change, set_world, guarded_by, ◌>>=◌, ◌>>◌}
+use Rattle.region_forms.specs.Outcome.{Context, Result, done, stopped, Action, pure, stop, change, set_world, only_if, guarded_by, ◌>>=◌, ◌>>◌}
 
 -- the types, the kinds of the slots of the function that runs, the limit of open calls, and what a call does
 pub record Running : Type 0 where
@@ -81,11 +82,15 @@ abbrev pub after_part : {A : Type 0} → Running → Context → (Context → Ac
 after_part r c cleanup (done a s) = done a s
 after_part r c cleanup (stopped x s) = unwound r c cleanup x s
 
+-- the object of a live exception is freed
+abbrev pub free : ℕ → Action (Unit {0})
+free e s = only_if (is_live s.world e) (change (freed e)) s
+
 -- an exception object is freed after its destructor, also where that gave an exception or a forced unwind
 abbrev pub after_destructor : ℕ → Result (Unit {0}) → Result (Unit {0})
-after_destructor e (done a s) = change (freed e) s
-after_destructor e (stopped (thrown f) s) = (change (freed e) >> stop (thrown f)) s
-after_destructor e (stopped (cancelled n) s) = (change (freed e) >> stop (cancelled n)) s
+after_destructor e (done a s) = free e s
+after_destructor e (stopped (thrown f) s) = (free e >> stop (thrown f)) s
+after_destructor e (stopped (cancelled n) s) = (free e >> stop (cancelled n)) s
 after_destructor e (stopped x s) = stopped x s
 
 -- a turn is spent, if one is left
@@ -127,7 +132,7 @@ give_back r e (foreign k t) c = change (cleaned_up e k t)
 -- the newest handler is left, and its exception is given back unless it goes on
 abbrev pub leave_newest : Running → Context → Action (Unit {0})
 leave_newest r c s =
-    (change left >> (if gives_back s.world.caught
+    only_if (may_leave s.world s.world.caught) (change left >> (if gives_back s.world.caught
     then give_back r (newest_of s.world.caught) (exception_at s.world (newest_of s.world.caught)) c
     else pure tt)) s
 

@@ -7,6 +7,7 @@ pub mod LowerStatement
 pub mod LowerProgram
 pub mod Caught
 pub mod World
+pub mod Lives
 pub mod Guard
 pub mod Evaluation
 pub mod Effect

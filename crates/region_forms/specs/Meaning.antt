@@ -6,10 +6,11 @@ use Rattle.eh_outer.specs.declared.module.Reply.{Reply}
 use Rattle.scope_rules.specs.Meaning.{Meaning as ProgramMeaning, MainOutcome, returned, stopped_by, end_of}
 use Rattle.region_forms.specs.Form.{Value, Op, destroy, leave, Cleanup, destroy_scope, destroy_part, free_object, leave_handler, Region, seq, op, branch, loop, protect, catch, limit, barrier, leave_region, RegionList, no_regions, region_then, Clauses, no_clauses, clause_then, RegionFunction, Regions, Kinds, kinds_of, function_at}
 use Rattle.region_forms.specs.World.{Base, of_global, Word, nothing, address_word, Frame, World, object_address, with_slot, exception_in_slot, type_at}
+use Rattle.region_forms.specs.Lives.{is_being_built}
 use Rattle.region_forms.specs.Guard.{clauses, listed, matches, types_of}
 use Rattle.region_forms.specs.Evaluation.{value_in}
 use Rattle.region_forms.specs.Effect.{effect, freed, new_frame, new_world, result_in}
-use Rattle.region_forms.specs.Outcome.{State, Context, Flow, normal, leaves, Result, done, stopped, Action, pure, stop, change, some, guarded_by, ◌>>=◌, ◌>>◌}
+use Rattle.region_forms.specs.Outcome.{State, Context, Flow, normal, leaves, Result, done, stopped, Action, pure, stop, change, some, only_if, guarded_by, ◌>>=◌, ◌>>◌}
 use Rattle.region_forms.specs.Ending.{Running, perform, behind_barrier, after_scope, after_part, spend_turn, open_call}
 use Rattle.region_forms.specs.Unexpected.{after_limit}
 
@@ -45,10 +46,14 @@ loop_of (suc n) test body = do
   v ← test
   if is_zero v then pure normal else (body >>= followed (loop_of n test body))
 
--- the object of a slot is freed at an exit by an exception or a forced unwind
+-- the object of an exception that is being built is freed
+abbrev pub give_up : ℕ → Action (Unit {0})
+give_up e s = only_if (is_being_built s.world e) (change (freed e)) s
+
+-- so is the object of a slot at an exit by an exception or a forced unwind
 abbrev pub after_building : {A : Type 0} → ℕ → Result A → Result A
-after_building x (stopped (thrown f) s) = (change (freed (exception_in_slot s.frame x)) >> stop (thrown f)) s
-after_building x (stopped (cancelled n) s) = (change (freed (exception_in_slot s.frame x)) >> stop (cancelled n)) s
+after_building x (stopped (thrown f) s) = (give_up (exception_in_slot s.frame x) >> stop (thrown f)) s
+after_building x (stopped (cancelled n) s) = (give_up (exception_in_slot s.frame x) >> stop (cancelled n)) s
 after_building x result = result
 
 -- a cleanup after what it protects

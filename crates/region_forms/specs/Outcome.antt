@@ -1,5 +1,5 @@
 -- How a region comes out, and how computations follow one another.
-use Rattle.std.specs.Prelude.{ℕ, Option, Some, None}
+use Rattle.std.specs.Prelude.{ℕ, Option, Some, None, Bool, true, false}
 use Rattle.scope_rules.specs.Outcome.{Stop, undefined}
 use Rattle.region_forms.specs.World.{Frame, World}
 use Rattle.region_forms.specs.Guard.{Guard}
@@ -68,6 +68,11 @@ set_world w s = done tt (record s { world = w })
 abbrev pub some : {A : Type 0} → Option A → Action A
 some None = stop undefined
 some (Some a) = pure a
+
+-- what is defined only where a test holds
+abbrev pub only_if : {A : Type 0} → Bool → Action A → Action A
+only_if true act = act
+only_if false act = stop undefined
 
 -- inside a guard
 abbrev pub guarded_by : Guard → Context → Context

@@ -1,5 +1,5 @@
 -- Assignments.
-use Rattle.std.proofs.Common.{◌≡◌, ℤ, List, [], ◌∷◌, Some, refl, sym, ap, ◌∙◌, subst, arith}
+use Rattle.std.proofs.Common.{◌≡◌, ℤ, List, [], ◌∷◌, Some, refl, sym, ap, ◌∙◌, subst, arith, true}
 use Rattle.cxx_ast.specs.declared.name.Name.{Name}
 use Rattle.scope_rules.specs.Class.{int_type}
 use Rattle.scope_rules.specs.World.{object_at, written as source_written}
@@ -9,7 +9,7 @@ use Rattle.scope_rules.specs.Outcome.{Action as SourceAction, write}
 use Rattle.region_forms.specs.Form.{Value, op, store, regions_from}
 use Rattle.region_forms.specs.World.{Address, written}
 use Rattle.region_forms.specs.Evaluation.{in_memory, locate, value_in}
-use Rattle.region_forms.specs.Effect.{if_some, stored_at}
+use Rattle.region_forms.specs.Effect.{if_some, stored_at, only_where, goes}
 use Rattle.region_forms.specs.Outcome.{State, Context, Flow, normal, done, continued, pure}
 use Rattle.region_forms.specs.Ending.{Running, perform}
 use Rattle.region_forms.specs.Meaning.{followed, operation}
@@ -24,17 +24,20 @@ use Rattle.region_simulation.proofs.Joining.{joined}
 use Rattle.region_simulation.proofs.Storing.{valued_as}
 use Rattle.region_simulation.proofs.Naming.{names_placed}
 use Rattle.region_simulation.proofs.Writing.{set_length, stands_written}
+use Rattle.region_forms.specs.Lives.{is_there}
+use Rattle.region_simulation.proofs.There.{refers_there}
 
 pub writes_stand : WritesStand
 writes_stand = stands_written
 
 -- a value is stored in memory
 stores_at : (l : Lowering) (b : Running) (names : List Name) (y : Value) (n : ℤ) (a : Address) (d : Context) (s : State) → value_in b.kinds s.frame s.world y ≡ Some n
-    → locate b.kinds s.frame (place_of l names) ≡ Some (in_memory a)
+    → locate b.kinds s.frame (place_of l names) ≡ Some (in_memory a) → is_there s.world a.base ≡ true
     → operation b (store (place_of l names) y) d s ≡ done tt (record s { world = written a n s.world })
-stores_at l b names y n a d s e located =
+stores_at l b names y n a d s e located there =
     ap (λ z. perform b z d s) (valued_as b.kinds y (Some (place_of l names)) s.frame s.world n e) ∙
-    ap (λ z. perform b (if_some z (λ q. stored_at q n s.frame s.world)) d s) located
+    ap (λ z. perform b (if_some z (λ q. stored_at q n s.frame s.world)) d s) located ∙
+    ap (λ z. perform b (only_where z (goes s.frame (written a n s.world))) d s) there
 
 pub assignments_store : AssignmentsStore
 assignments_store l own b v c fit apart k act x names le named first at w s stands reach =
@@ -62,6 +65,7 @@ assignments_store l own b v c fit apart k act x names le named first at w s stan
       normal,
       s3,
       ap (λ z. followed after z s2) same.0 ∙
-          ap (λ z. continued (continued z (λ u. pure normal)) (followed (pure normal))) (stores_at l b names x.value n a ctx s2 same.1 located),
+          ap (λ z. continued (continued z (λ u. pure normal)) (followed (pure normal))) (stores_at l b names x.value n a ctx s2 same.1 located
+          (refers_there l.layout l.program h.places c w2 s2 h.stands r int_type a refers)),
       (g, refl),
     )))

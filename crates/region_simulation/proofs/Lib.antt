@@ -3,6 +3,7 @@ pub mod Members
 pub mod Naming
 pub mod Values
 pub mod Following
+pub mod There
 pub mod Joining
 pub mod Storing
 pub mod Evaluating

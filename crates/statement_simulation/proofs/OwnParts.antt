@@ -15,7 +15,7 @@ use Rattle.region_forms.specs.Form.{Kinds, Place, arguments_from, op, store, con
 use Rattle.region_forms.specs.Layout.{Layout, laid_part}
 use Rattle.region_forms.specs.World.{Address, address_word, address_in, behind, Frame, written}
 use Rattle.region_forms.specs.Evaluation.{in_memory, location_behind, location_address, with_some, locate, words_in}
-use Rattle.region_forms.specs.Effect.{if_some, calls, stored_at, finished}
+use Rattle.region_forms.specs.Effect.{if_some, calls, stored_at, finished, only_where, goes}
 use Rattle.region_forms.specs.Numbering.{number_of}
 use Rattle.region_forms.specs.Outcome.{State, Flow, normal, Result, continued, pure}
 use Rattle.region_forms.specs.Ending.{Running, perform, settled}
@@ -39,6 +39,7 @@ use Rattle.region_simulation.proofs.Storing.{valued_as}
 use Rattle.region_simulation.proofs.Writing.{set_length, stands_written}
 use Rattle.statement_simulation.specs.Sequences.{GoesOn}
 use Rattle.statement_simulation.specs.Statements.{SourceCalls}
+use Rattle.region_simulation.proofs.There.{refers_there}
 
 -- something of type t stands where a place leads, as long as the frame's slots below the k-th are kept
 pub record Leads (l : Layout) (p : Checked) (at : Places) (k : ℕ) (kinds : Kinds) (f : Frame) (place : Place) (r : Reference) (t : ObjectType) : Type 0 where
@@ -103,7 +104,8 @@ module _ (l : Lowering) (own : Option ℕ) (b : Running) (v : SourceFrame) (c : 
         ap (λ q. followed (regions b (regions_from (last ∷ [])) ctx) q s2) same.0 ∙
             ap (λ q. continued (continued (perform b q ctx s2) (λ u. pure normal)) (followed (pure normal)))
             (valued_as b.kinds x.value (Some place) s2.frame s2.world z same.1 ∙
-            ap (λ q. if_some q (λ m. stored_at m z s2.frame s2.world)) (to.located s2.frame (keeps_all k s2.frame))),
+            ap (λ q. if_some q (λ m. stored_at m z s2.frame s2.world)) (to.located s2.frame (keeps_all k s2.frame)) ∙
+            ap (λ q. only_where q (goes s2.frame (written to.address z s2.world))) (refers_there l.layout l.program h.places c w2 s2 h.stands r int_type to.address to.refers)),
         (g, refl),
       )))
 

@@ -16,9 +16,9 @@ use Rattle.region_forms.specs.Laws.{CaughtListFollows}
 use Rattle.region_forms.specs.Layout.{Layout}
 use Rattle.region_forms.specs.World.{of_exception, building, with_item}
 use Rattle.region_forms.specs.Effect.{with_new, kept}
-use Rattle.region_forms.specs.Outcome.{State, Context, Result, done, stopped, change, continued, stop}
+use Rattle.region_forms.specs.Outcome.{State, Context, Result, done, stopped, change, continued, stop, only_if}
 use Rattle.region_forms.specs.Ending.{Running, bad_row, spend, spend_turn, empty_call, terminate, raise}
-use Rattle.region_forms.specs.Unexpected.{throw_bad}
+use Rattle.region_forms.specs.Unexpected.{throw_bad, keep_bad}
 use Rattle.region_simulation.specs.Places.{Places, Stood}
 use Rattle.region_simulation.specs.Stands.{IsMade, Stands, context_of}
 use Rattle.region_simulation.specs.Alike.{Follows, Alike}
@@ -31,11 +31,14 @@ use Rattle.throw_simulation.specs.Extents.{EmptyConstructor, BadExceptionsAlike}
 use Rattle.throw_simulation.proofs.Standing.{follows_changed}
 use Rattle.throw_simulation.proofs.Ends.{ends_out, terminates as terminates_out}
 use Rattle.throw_simulation.proofs.Raises.{raises as raises_out}
-use Rattle.throw_simulation.proofs.New.{newly, new_number, full_same, new_on}
+use Rattle.throw_simulation.proofs.New.{newly, new_number, full_same, new_on, new_unbuilt}
 use Rattle.throw_simulation.proofs.Caught.{front_unhandled}
 use Rattle.throw_simulation.proofs.Unset.{unset_is_shaped, unset_is_not_set}
 use Rattle.throw_simulation.proofs.Kept.{after_keeping, kept_on, kept_thrown}
 use Rattle.throw_simulation.proofs.Lives.{live_new}
+use Rattle.throw_simulation.proofs.Asked.{being_built}
+use Rattle.throw_simulation.specs.Fares.{CallsFare, Fares}
+use Rattle.throw_simulation.proofs.Faring.{orderly_sound}
 
 -- an empty call is done, or stops for want of turns or of room
 abbrev IsBrief : Result (Unit {0}) → Type 0
@@ -55,7 +58,7 @@ empty_is_brief b c s = go (nat_le b.limit c.depth)
     go true = tt
     go false = turns s.turns
 
-module _ (laws : CaughtListFollows) (l : Layout) (a : SourceRunning) (b : Running) (same : RunAlike l a b) (makes : EmptyConstructor l a b) {A B : Type 0} (agree : Agreement A B)
+module _ (laws : CaughtListFollows) (l : Layout) (a : SourceRunning) (b : Running) (same : RunAlike l a b) (makes : EmptyConstructor l a b) (fare : CallsFare a) {A B : Type 0} (agree : Agreement A B)
     (at : Places) (k : ℕ) (c : SourceContext) (w : SourceWorld) (s : State) (stands : Stands l a.program at c w s) where
   abbrev ctx : Context
   ctx = context_of w.open_calls c
@@ -92,13 +95,13 @@ module _ (laws : CaughtListFollows) (l : Layout) (a : SourceRunning) (b : Runnin
       (unset_is_shaped a.program same.ordered 0 same.ordered.some) (λ q other. refl) (λ path n is. absurd (unset_is_not_set a.program (class_type 0) path n is)) k
 
   abbrev rest : ℕ → Result (Unit {0}) → Result B
-  rest n y = continued y (λ u t. continued (change (kept (n + 1) bad_row None) t) (λ z. raise b (n + 1) ctx))
+  rest n y = continued y (λ u t. continued (keep_bad (n + 1) t) (λ z. raise b (n + 1) ctx))
 
   abbrev built : SourceResult ℤ → SourceResult A
   built x = source_continued (source_after_building e (source_continued (source_continued x (λ v. source_pure (tt {0}))) (λ u. source_pure o))) (λ q. keep e q >> raise_exception a e c)
 
-  called : (x : SourceResult ℤ) (y : Result (Unit {0})) → IsBrief y → Alike l a.program (with_place at o stood) k c w2 s1 Any x y → Alike l a.program (with_place at o stood) k c w2 s1 agree (built x) (rest w.last_number y)
-  called (source_done v w3) y brief (u, s3, is, (h, any)) =
+  called : (x : SourceResult ℤ) (y : Result (Unit {0})) → IsBrief y → Fares a.program 0 c w2 x → Alike l a.program (with_place at o stood) k c w2 s1 Any x y → Alike l a.program (with_place at o stood) k c w2 s1 agree (built x) (rest w.last_number y)
+  called (source_done v w3) y brief fares (u, s3, is, (h, any)) =
       let more = one_more (unset a.program (class_type 0)) w1 in
       let placed = h.stay o (omega (arith, more)) ∙ placed_new at o stood in
       let stands4 = kept_on l a.program h.places c w3 s3 h.stands e o (class_type 0) placed same.ordered.some in
@@ -110,17 +113,19 @@ module _ (laws : CaughtListFollows) (l : Layout) (a : SourceRunning) (b : Runnin
         front = front_unhandled e c.handled (new_number w.last_number c.handled stands.sound.handled);
       } in
       let g = follows_changed l a.program h.places k c w3 w4 s3 s4.world refl refl refl stands4 in
-      subst (λ z. Alike l a.program (with_place at o stood) k c w2 s1 agree (built (source_done v w3)) z) (sym (ap (rest w.last_number) is))
+      subst (λ z. Alike l a.program (with_place at o stood) k c w2 s1 agree (built (source_done v w3)) z)
+      (sym (ap (rest w.last_number) is ∙ ap (λ z. continued (only_if z (change (kept e bad_row None)) s3) (λ q. raise b e ctx))
+      (being_built l a.program h.places c w3 s3 h.stands e (fares.unbuilt e (omega arith) (new_unbuilt w (Make e) stands.sound.live)))))
       (alike_on l a.program agree (with_place at o stood) k c c w2 s1 w4 s4 (follows_on l a.program (with_place at o stood) k w2 s1 c w3 s3 c w4 s4 h g)
       (raise_exception a e c w4) (raise b e ctx s4)
       (subst (λ n. Alike l a.program h.places k c w4 s4 agree (raise_exception a e c w4) (raise b e (context_of n c) s4)) h.open_calls
       (raises_out l a b same laws A B h.places c w4 s4 stands4 e can (kept_thrown l a.program h.places c w3 s3 h.stands e o (class_type 0) placed) agree k)))
-  called (source_stopped (thrown f) w3) y brief (s3, is, h) = absurd (subst IsBrief is brief)
-  called (source_stopped (cancelled v) w3) y brief (s3, is, h) = absurd (subst IsBrief is brief)
-  called (source_stopped undefined w3) y brief h = tt
-  called (source_stopped (ended x) w3) y brief (s3, is, h) = absurd (subst IsBrief is brief)
-  called (source_stopped out_of_turns w3) y brief (s3, is, h) = (s3, ap (rest w.last_number) is, h)
-  called (source_stopped deep w3) y brief (s3, is, h) = (s3, ap (rest w.last_number) is, h)
+  called (source_stopped (thrown f) w3) y brief fares (s3, is, h) = absurd (subst IsBrief is brief)
+  called (source_stopped (cancelled v) w3) y brief fares (s3, is, h) = absurd (subst IsBrief is brief)
+  called (source_stopped undefined w3) y brief fares h = tt
+  called (source_stopped (ended x) w3) y brief fares (s3, is, h) = absurd (subst IsBrief is brief)
+  called (source_stopped out_of_turns w3) y brief fares (s3, is, h) = (s3, ap (rest w.last_number) is, h)
+  called (source_stopped deep w3) y brief fares (s3, is, h) = (s3, ap (rest w.last_number) is, h)
 
   abbrev thrown_bad : ℕ → Result B
   thrown_bad n = rest n (empty_call b ctx (made_state n))
@@ -136,7 +141,8 @@ module _ (laws : CaughtListFollows) (l : Layout) (a : SourceRunning) (b : Runnin
       let y = empty_call b ctx s1 in
       alike_on l a.program agree at k c c w s w1 s1 h1 (built x) (rest w.last_number y)
       (alike_on l a.program agree at k c c w1 s1 w2 s1 h2 (built x) (rest w.last_number y)
-      (called x y (empty_is_brief b ctx s1) (makes (whole o) (with_place at o stood) k c w2 s1 h2.stands)))
+      (called x y (empty_is_brief b ctx s1)
+      (fare (constructor 0 (constructor_for a.program 0 0)) (whole o) [] c 0 w2 (omega arith) (orderly_sound c w2 h2.stands.sound)) (makes (whole o) (with_place at o stood) k c w2 s1 h2.stands)))
 
   pub bad_out : Alike l a.program at k c w s agree (throw_new a c (new_bad_exception a c) w) (throw_bad b ctx s)
   bad_out =
@@ -152,4 +158,4 @@ module _ (laws : CaughtListFollows) (l : Layout) (a : SourceRunning) (b : Runnin
           (sym (ap (λ y. y.last_number) stands.world)) built_bad
 
 pub bad_exceptions_alike : CaughtListFollows → BadExceptionsAlike
-bad_exceptions_alike laws l a b same makes at k c w s stands = bad_out laws l a b same makes Never at k c w s stands
+bad_exceptions_alike laws l a b same makes fare at k c w s stands = bad_out laws l a b same makes fare Never at k c w s stands

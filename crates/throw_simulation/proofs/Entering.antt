@@ -14,7 +14,7 @@ use Rattle.scope_rules.specs.Handler.{is_foreign as source_is_foreign, enter as 
 use Rattle.region_forms.specs.Caught.{entered_on, holds_other, caught_of, only_front}
 use Rattle.region_forms.specs.Layout.{Layout}
 use Rattle.region_forms.specs.World.{World, exception_at}
-use Rattle.region_forms.specs.Effect.{is_foreign, terminates, goes, entered, enters}
+use Rattle.region_forms.specs.Effect.{is_foreign, terminates, goes, entered, enters, only_where}
 use Rattle.region_forms.specs.Outcome.{State}
 use Rattle.region_forms.specs.Ending.{Running, perform, terminate}
 use Rattle.region_forms.specs.Laws.{CaughtListFollows}
@@ -30,6 +30,7 @@ use Rattle.throw_simulation.proofs.Caught.{holds_is}
 use Rattle.throw_simulation.proofs.Standing.{sound_handled, sound_resting, all_old, stands_on, follows_changed}
 use Rattle.throw_simulation.proofs.Ends.{ends_out, terminates as terminates_out}
 use Rattle.throw_simulation.proofs.Raises.{exception_same}
+use Rattle.throw_simulation.proofs.Asked.{enterable}
 
 foreign_same : (p : Checked) (x : SourceException) → is_foreign (exception_of p x) ≡ source_is_foreign x
 foreign_same p source_building = refl
@@ -96,7 +97,10 @@ module _ (l : Layout) (a : SourceRunning) (b : Running) (same : RunAlike l a b) 
       Alike l a.program at k (handling e c) w s Any (source_enter a e c w) (perform b (enters e s.frame s.world) (context_of w.open_calls c) s)
   enters_out =
       let x = source_is_foreign (source_exception_at w e) && some_of (λ f. not (f == e)) c.handled in
-      subst (Entry x) (sym (tested l a.program at c w s e stands rests front laws)) (entry x)
+      subst (λ z. StaysInside (source_enter a e c w) × Alike l a.program at k (handling e c) w s Any (source_enter a e c w)
+      (perform b (only_where z (if is_foreign (exception_at s.world e) && holds_other e s.world.caught then terminates s.world.installed.terminate_handler s.world
+      else goes s.frame (entered e s.world))) (context_of w.open_calls c) s)) (sym (enterable l a.program at c w s e stands front))
+      (subst (Entry x) (sym (tested l a.program at c w s e stands rests front laws)) (entry x))
 
 pub enters_alike : CaughtListFollows → EntersAlike
 enters_alike laws l a b same at k c w s e slot stands fresh is =

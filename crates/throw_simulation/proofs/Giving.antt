@@ -1,5 +1,5 @@
 -- Exceptions are given back alike.
-use Rattle.std.proofs.Common.{◌≡◌, ℕ, zero, suc, false, [], ◌∷◌, ◌++◌, Some, refl, ap, ◌∙◌, arith, ◌<◌, length}
+use Rattle.std.proofs.Common.{◌≡◌, ℕ, zero, suc, false, [], ◌∷◌, ◌++◌, Some, refl, ap, ◌∙◌, arith, ◌<◌, length, true}
 use Rattle.std.specs.Prelude.{slice_get, ◌||◌}
 use Rattle.cxx_ast.specs.Plain.{Checked}
 use Rattle.run_items.specs.declared.item.Item.TheVariants.{Destroy, Free, Clean}
@@ -14,11 +14,11 @@ use Rattle.region_forms.specs.Layout.{Layout}
 use Rattle.region_forms.specs.Numbering.{type_number, destructor_of}
 use Rattle.region_forms.specs.World.{of_exception, object_address, with_item}
 use Rattle.region_forms.specs.Effect.{freed, cleaned_up}
-use Rattle.region_forms.specs.Outcome.{State, Context, Result}
+use Rattle.region_forms.specs.Outcome.{State, Context, Result, only_if, change, continued, stop}
 use Rattle.region_forms.specs.Ending.{Running, empty_call, after_destructor, call_destructor, give_back}
-use Rattle.region_simulation.specs.Places.{Places, Refers, Stood}
+use Rattle.region_simulation.specs.Places.{Places, Refers}
 use Rattle.region_simulation.specs.Stands.{exception_of, IsOfProgram, IsSound, Stands, context_of}
-use Rattle.region_simulation.specs.Alike.{Alike}
+use Rattle.region_simulation.specs.Alike.{Alike, Follows}
 use Rattle.region_simulation.proofs.Following.{follows_now}
 use Rattle.region_simulation.proofs.Evaluating.{alike_map}
 use Rattle.throw_simulation.specs.Same.{RunAlike}
@@ -29,9 +29,11 @@ use Rattle.throw_simulation.proofs.Standing.{all_old, stands_on, follows_changed
 use Rattle.throw_simulation.proofs.Raises.{native_in}
 use Rattle.throw_simulation.proofs.Protecting.{destruction_barred, destructor_called}
 use Rattle.throw_simulation.specs.Left.{CanBeLeft}
-use Rattle.throw_simulation.proofs.Since.{follows_older, alike_older, alike_since}
-use Rattle.throw_simulation.proofs.Freeing.{follows_without}
+use Rattle.throw_simulation.proofs.Since.{follows_older, alike_since}
+use Rattle.throw_simulation.proofs.Freeing.{follows_without, without}
 use Rattle.throw_simulation.proofs.Keeping.{IsOther}
+use Rattle.region_simulation.proofs.There.{live_alike}
+use Rattle.region_forms.specs.Lives.{is_live}
 
 -- what comes out of a destructor is other than the exception where what comes out behind the freeing is
 other_inside : (e : ℕ) (x : SourceResult (Unit {0})) → IsOther e (source_after_destructor e x) → IsOther e x
@@ -43,19 +45,40 @@ other_inside e (source_stopped (ended x) w2) h = tt
 other_inside e (source_stopped out_of_turns w2) h = tt
 other_inside e (source_stopped deep w2) h = tt
 
-module _ (l : Layout) (p : Checked) (at : Places) (m : ℕ) (c : SourceContext) (w : SourceWorld) (s : State) (e : ℕ) (rests : contains c.travelling e ≡ false)
-    (unhandled : contains c.handled e ≡ false) (new : (o : ℕ) (x : Stood) → o < length w.objects → at o ≡ Some x → x.base ≡ of_exception e → ⊥) where
+module _ (l : Layout) (p : Checked) (at : Places) (m : ℕ) (c : SourceContext) (w0 w : SourceWorld) (s : State) (e o : ℕ) (t : ObjectType) (rests : contains c.travelling e ≡ false)
+    (unhandled : contains c.handled e ≡ false) (can : CanBeLeft (contains c.handled e) e at w0 w) (there : o < length w.objects)
+    (placed : at o ≡ Some (record { base = of_exception e; type = t })) where
+  -- its object stands there still, so it is live
+  still_live : (d : SourceContext) (w2 : SourceWorld) (s2 : State) → Follows l p at m w s d w2 s2 → is_live s2.world e ≡ true
+  still_live d w2 s2 h =
+      live_alike l p h.places d w2 s2 h.stands e ∙ (h.stands.made o (record { base = of_exception e; type = t }) (h.stay o there ∙ placed)).1
+
+  freed_since : (d : SourceContext) (w2 : SourceWorld) (s2 : State) → contains d.travelling e ≡ false → contains d.handled e ≡ false → Follows l p at m w s d w2 s2
+      → Follows l p at m w0 s d (without l p at e (Free e) w2) (record s2 { world = freed e s2.world })
+  freed_since d w2 s2 resting left_out h =
+      follows_without l p h.places e (Free e) at m w0 s d w2 s2 resting left_out (can.new unhandled) (follows_older l p at m w0 w s d w2 s2 can.objects can.open_calls h) refl
+
   -- an exception object is freed after its destructor
   freed_after : (x : SourceResult (Unit {0})) (y : Result (Unit {0})) → IsOther e x → Alike l p at m c w s Any x y
-      → Alike l p at m c w s Any (source_after_destructor e x) (after_destructor e y)
-  freed_after (source_done u w2) y other (v, s2, is, (h, any)) =
-      (tt, record s2 { world = freed e s2.world }, ap (after_destructor e) is, (follows_without l p h.places e (Free e) at m w s c w2 s2 rests unhandled new h refl, tt))
+      → Alike l p at m c w0 s Any (source_after_destructor e x) (after_destructor e y)
+  freed_after (source_done u w2) y other (v, s2, is, (h, any)) = (
+    tt,
+    record s2 { world = freed e s2.world },
+    ap (after_destructor e) is ∙ ap (λ b. only_if b (change (freed e)) s2) (still_live c w2 s2 h),
+    (freed_since c w2 s2 rests unhandled h, tt),
+  )
   freed_after (source_stopped (thrown f) w2) y other (s2, is, h) =
       let d = with_travelling f c in
-      let still : contains d.travelling e ≡ false = ap (λ z. z || contains c.travelling e) other ∙ rests in
-      (record s2 { world = freed e s2.world }, ap (after_destructor e) is, follows_without l p h.places e (Free e) at m w s d w2 s2 still unhandled new h refl)
-  freed_after (source_stopped (cancelled n) w2) y other (s2, is, h) =
-      (record s2 { world = freed e s2.world }, ap (after_destructor e) is, follows_without l p h.places e (Free e) at m w s c w2 s2 rests unhandled new h refl)
+      let still : contains d.travelling e ≡ false = ap (λ z. z || contains c.travelling e) other ∙ rests in (
+        record s2 { world = freed e s2.world },
+        ap (after_destructor e) is ∙ ap (λ b. continued {B = Unit {0}} (only_if b (change (freed e)) s2) (λ u. stop (thrown f))) (still_live d w2 s2 h),
+        freed_since d w2 s2 still unhandled h,
+      )
+  freed_after (source_stopped (cancelled n) w2) y other (s2, is, h) = (
+    record s2 { world = freed e s2.world },
+    ap (after_destructor e) is ∙ ap (λ b. continued {B = Unit {0}} (only_if b (change (freed e)) s2) (λ u. stop (cancelled n))) (still_live c w2 s2 h),
+    freed_since c w2 s2 rests unhandled h,
+  )
   freed_after (source_stopped undefined w2) y other h = tt
   freed_after (source_stopped (ended x) w2) y other (s2, is, h) = (s2, ap (after_destructor e) is, h)
   freed_after (source_stopped out_of_turns w2) y other (s2, is, h) = (s2, ap (after_destructor e) is, h)
@@ -105,9 +128,9 @@ module _ (l : Layout) (a : SourceRunning) (b : Running) (same : RunAlike l a b) 
       let x = source_destroy a t (whole o) c w2 in
       let y = call_destructor b (type_number t) (destructor_of a.program t) e (context_of w.open_calls c) s2 in
       alike_since l a.program Any at m c c w0 s w2 s2 h (source_after_destructor e x) (after_destructor e y)
-      (freed_after l a.program at m c w0 s2 e rests unhandled (can.new unhandled) x y (other_inside e x other)
-      (alike_older l a.program Any at m c w0 w2 s2 x y can.objects can.open_calls
-      (destroyed l a b same empty at m c w2 s2 stands2 e t o (stands.kept i e o t kept there).type (object_refers l a.program at c w2 s2 i e o t kept stands2 there))))
+      (freed_after l a.program at m c w0 w2 s2 e o t rests unhandled (record { objects = can.objects; open_calls = can.open_calls; new = can.new })
+      (stands2.memory.made o (record { base = of_exception e; type = t }) (stands2.exceptions i e o t kept there)) (stands2.exceptions i e o t kept there) x y (other_inside e x other)
+      (destroyed l a b same empty at m c w2 s2 stands2 e t o (stands.kept i e o t kept there).type (object_refers l a.program at c w2 s2 i e o t kept stands2 there)))
 
 -- behind a barrier no exception comes out where one is given back
 freed_barred : (e : ℕ) (x : SourceResult (Unit {0})) → NotThrown x → NotThrown (source_after_destructor e x)

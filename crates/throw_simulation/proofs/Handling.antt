@@ -11,8 +11,8 @@ use Rattle.scope_rules.specs.Terminate.{terminate as source_terminate}
 use Rattle.scope_rules.specs.Handler.{is_foreign as source_is_foreign, enter as source_enter, while_handled}
 use Rattle.region_forms.specs.Form.{Region, op, enter, protect, leave_handler, in_order, regions_from}
 use Rattle.region_forms.specs.Laws.{CaughtListFollows}
-use Rattle.region_forms.specs.World.{address_word, object_address, exception_of, exception_in_slot, address_in}
-use Rattle.region_forms.specs.Effect.{terminates, goes, entered, enters}
+use Rattle.region_forms.specs.World.{address_word, object_address, exception_of, exception_in_slot, address_in, exception_at}
+use Rattle.region_forms.specs.Effect.{terminates, goes, entered, enters, only_where, is_foreign}
 use Rattle.region_forms.specs.Outcome.{State, Context, normal, Result, continued, pure}
 use Rattle.region_forms.specs.Ending.{Running, perform, terminate}
 use Rattle.region_forms.specs.Meaning.{followed}
@@ -33,6 +33,8 @@ use Rattle.throw_simulation.proofs.Entering.{entered_stands, tested}
 use Rattle.throw_simulation.proofs.LettingGo.{handlers_end_alike}
 use Rattle.throw_simulation.specs.Left.{CanBeLeft}
 use Rattle.throw_simulation.proofs.Since.{follows_older, alike_since}
+use Rattle.throw_simulation.proofs.Asked.{enterable}
+use Rattle.region_forms.specs.Caught.{holds_other}
 
 module _ (laws : CaughtListFollows) (l : Lowering) (gives : Bool) (i d : ℕ) (lt : i < d) (a : SourceRunning) (b : Running) (same : RunAlike l.layout a b) (fare : CallsFare a)
     (empty : EmptyDestructor l.layout a b) (at : Places) (k : ℕ) (c : SourceContext) (w : SourceWorld) (s : State) (e : ℕ)
@@ -104,4 +106,7 @@ module _ (laws : CaughtListFollows) (l : Lowering) (gives : Bool) (i d : ℕ) (l
         let address : exception_in_slot s.frame (exception_slot l) ≡ e = ap (λ x. exception_of (address_in x)) slot in
         subst (λ m. Alike l.layout a.program at k c w0 s (FlowAgrees l gives i d) ((source_enter a e c >> while_handled a e c act) w)
         (continued (continued (perform b (enters m s.frame s.world) ctx s) (λ u. pure normal)) (followed (regions b (regions_from behind) ctx)))) (sym address)
-        (subst (Entered tests) (sym (tested l.layout a.program at c w s e stands fresh.rests fresh.front laws)) (entry tests))
+        (subst (λ z. Alike l.layout a.program at k c w0 s (FlowAgrees l gives i d) ((source_enter a e c >> while_handled a e c act) w)
+        (continued (continued (perform b (only_where z (if is_foreign (exception_at s.world e) && holds_other e s.world.caught then terminates s.world.installed.terminate_handler s.world
+        else goes s.frame (entered e s.world))) ctx s) (λ u. pure normal)) (followed (regions b (regions_from behind) ctx)))) (sym (enterable l.layout a.program at c w s e stands fresh.front))
+        (subst (Entered tests) (sym (tested l.layout a.program at c w s e stands fresh.rests fresh.front laws)) (entry tests)))

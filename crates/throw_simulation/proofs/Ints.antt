@@ -9,7 +9,7 @@ use Rattle.scope_rules.specs.Outcome.{Result as SourceResult, done as source_don
 use Rattle.region_forms.specs.Form.{op, store, regions_from}
 use Rattle.region_forms.specs.World.{of_exception, Address, address_word, object_address, address_in, same_base, same_address, written}
 use Rattle.region_forms.specs.Evaluation.{location_behind, value_in}
-use Rattle.region_forms.specs.Effect.{if_some, stored_at}
+use Rattle.region_forms.specs.Effect.{if_some, stored_at, only_where, goes}
 use Rattle.region_forms.specs.Outcome.{State, Context, Flow, normal, Result, done, continued, pure}
 use Rattle.region_forms.specs.Ending.{Running, perform}
 use Rattle.region_forms.specs.Meaning.{followed}
@@ -29,6 +29,8 @@ use Rattle.region_simulation.proofs.Standing.{with_object, placed_new, follows_n
 use Rattle.throw_simulation.specs.Throws.{IsBuilt, BuildsAlike}
 use Rattle.throw_simulation.specs.Operands.{LeavesUnbuilt}
 use Rattle.throw_simulation.proofs.Sparing.{spared_is, follows_sparing}
+use Rattle.region_simulation.proofs.There.{live_alike}
+use Rattle.region_forms.specs.Lives.{is_live}
 
 int_of : (m n : ℤ) → cell (Some m) ≡ cell (Some n) → Some m ≡ Some n
 int_of m n e = cc e
@@ -50,11 +52,12 @@ module _ (l : Lowering) (own : Option ℕ) (b : Running) (v : SourceFrame) (c : 
 
   -- the value is stored where the exception's object begins
   stores_there : (x : Lowered) (n : ℤ) (e : ℕ) (ctx : Context) (s : State) → value_in b.kinds s.frame s.world x.value ≡ Some n
-      → s.frame.slots (exception_slot l) ≡ address_word (object_address e)
+      → s.frame.slots (exception_slot l) ≡ address_word (object_address e) → is_live s.world e ≡ true
       → stored_last x ctx s ≡ done normal (record s { world = written (object_address e) n s.world })
-  stores_there x n e ctx s value slot =
+  stores_there x n e ctx s value slot live =
       ap (λ z. continued (continued (perform b z ctx s) (λ u. pure normal)) (followed (pure normal))) (valued_as b.kinds x.value (Some (thrown_place l)) s.frame s.world n value) ∙
-      ap (λ z. continued (continued (perform b (if_some (location_behind 0 (address_in z)) (λ q. stored_at q n s.frame s.world)) ctx s) (λ u. pure normal)) (followed (pure normal))) slot
+      ap (λ z. continued (continued (perform b (if_some (location_behind 0 (address_in z)) (λ q. stored_at q n s.frame s.world)) ctx s) (λ u. pure normal)) (followed (pure normal))) slot ∙
+      ap (λ z. continued (continued (perform b (only_where z (goes s.frame (written (object_address e) n s.world))) ctx s) (λ u. pure normal)) (followed (pure normal))) live
 
   pub int_built : (act : SourceAction ℤ) (x : Lowered) → Evaluates l own b v c (first_temporary l) act x → LeavesUnbuilt c act
       → BuildsAlike l own b v c int_type (act >>= (λ n. new_object (cell (Some n)))) (x.before ++ op (store (thrown_place l) x.value) ∷ [])
@@ -86,7 +89,7 @@ module _ (l : Lowering) (own : Option ℕ) (b : Running) (v : SourceFrame) (c : 
             normal,
             s3,
             ap (λ z. continued z (followed (stored_last x (context_of w.open_calls c)))) same ∙ ap (λ f. followed (stored_last x (context_of w.open_calls c)) f s2) fl ∙
-                stores_there x n e (context_of w.open_calls c) s2 value there,
+                stores_there x n e (context_of w.open_calls c) s2 value there (live_alike l.layout l.program h.places c w2 s2 h.stands e ∙ gone.0),
             (
               follows_on l.layout l.program at (first_temporary l) w s c w2 s2 c (with_object (cell (Some n)) w2) s3 g k,
               (refl, placed_new g.places o (record { base = of_exception e; type = int_type })),

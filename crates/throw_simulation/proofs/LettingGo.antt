@@ -15,7 +15,7 @@ use Rattle.region_forms.specs.Layout.{Layout}
 use Rattle.region_forms.specs.LowerExpression.{result_slot}
 use Rattle.region_forms.specs.World.{World, exception_at, of_exception}
 use Rattle.region_forms.specs.Effect.{left, newest_of}
-use Rattle.region_forms.specs.Outcome.{State, Context, Result, pure}
+use Rattle.region_forms.specs.Outcome.{State, Context, Result, pure, Action, change, ◌>>◌, only_if}
 use Rattle.region_forms.specs.Ending.{Running, after_scope, give_back, leave_newest}
 use Rattle.region_forms.specs.Meaning.{outwards}
 use Rattle.linear_simulation.specs.Watched.{kept_on, not_its_own, watched_leave, watched as region}
@@ -42,6 +42,7 @@ use Rattle.throw_simulation.proofs.Giving.{gives_back_alike, giving_barred}
 use Rattle.throw_simulation.proofs.Scopes.{IsSteady, flows_steady, thrown_out, cancelled_out, done_out}
 use Rattle.throw_simulation.specs.Left.{CanBeLeft}
 use Rattle.throw_simulation.proofs.Since.{follows_older, alike_older, alike_since}
+use Rattle.throw_simulation.proofs.Asked.{leavable}
 
 module _ (l : Layout) (a : SourceRunning) (b : Running) (same : RunAlike l a b) (empty : EmptyDestructor l a b) (laws : CaughtListFollows) where
   -- the newest handler is left, and its exception is given back or kept
@@ -101,13 +102,18 @@ module _ (l : Layout) (a : SourceRunning) (b : Running) (same : RunAlike l a b) 
     let_go_alike : (kept : Bool) → gives_back (caught_of c.travelling (e ∷ c.handled)) ≡ not kept → IsOther e (let_go a e kept c w)
         → Alike l a.program at m c w0 s Any (let_go a e kept c w) (leave_newest b ctx s)
     let_go_alike kept is other =
-        alike_since l a.program Any at m c c w0 s after_leaving state_after
+        subst (λ q. Alike l a.program at m c w0 s Any (let_go a e kept c w) (only_if q leaves s)) (sym (leavable l a.program at c w s e stands))
+        (alike_since l a.program Any at m c c w0 s after_leaving state_after
         (follows_older l a.program at m w0 w s c after_leaving state_after can.objects can.open_calls (follows_changed l a.program at m c w after_leaving s (left s.world) refl refl refl left_stands))
-        (let_go a e kept c w) (leave_newest b ctx s)
+        (let_go a e kept c w) (leaves s)
         (subst (λ z. Alike l a.program at m c w0 state_after Any (let_go a e kept c w)
         ((if z then give_back b (newest_of s.world.caught) (exception_at s.world (newest_of s.world.caught)) ctx else pure tt) state_after))
-        (sym (ap (λ y. gives_back y.caught) stands.world ∙ is)) (go kept other (gone kept is)))
+        (sym (ap (λ y. gives_back y.caught) stands.world ∙ is)) (go kept other (gone kept is))))
       where
+        leaves : Action (Unit {0})
+        leaves =
+            change left >> (if gives_back s.world.caught then give_back b (newest_of s.world.caught) (exception_at s.world (newest_of s.world.caught)) ctx else pure tt)
+
         go : (z : Bool) → IsOther e (let_go a e z c w) → (z ≡ false → (contains c.travelling e ≡ false) × (contains c.handled e ≡ false))
             → Alike l a.program at m c w0 state_after Any ((if z then source_pure tt else source_give_back a e (source_exception_at w e) c) after_leaving)
             ((if not z then give_back b (newest_of s.world.caught) (exception_at s.world (newest_of s.world.caught)) ctx else pure tt) state_after)

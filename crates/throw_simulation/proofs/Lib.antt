@@ -8,6 +8,7 @@ pub mod Since
 pub mod Freeing
 pub mod Ends
 pub mod Raises
+pub mod Asked
 pub mod New
 pub mod Modules
 pub mod Barriers

@@ -12,7 +12,7 @@ use Rattle.region_forms.specs.Caught.{Entry, counted, handled_on, caught_of, onl
 use Rattle.region_forms.specs.Form.{op, rethrow, regions_from}
 use Rattle.region_forms.specs.Laws.{CaughtListFollows}
 use Rattle.region_forms.specs.Layout.{Layout}
-use Rattle.region_forms.specs.Effect.{rethrown}
+use Rattle.region_forms.specs.Effect.{rethrown, only_where, raises}
 use Rattle.region_forms.specs.Outcome.{State, Context, Flow, normal, Result, continued, pure}
 use Rattle.region_forms.specs.Ending.{Running, perform, terminate, raise}
 use Rattle.region_forms.specs.Meaning.{followed}
@@ -30,6 +30,7 @@ use Rattle.throw_simulation.specs.Throws.{RethrowsAlike}
 use Rattle.throw_simulation.proofs.Ends.{ends_out, never_on, terminates as terminates_out}
 use Rattle.throw_simulation.proofs.Raises.{raises as raises_out}
 use Rattle.throw_simulation.proofs.Caught.{front_newest}
+use Rattle.throw_simulation.proofs.Asked.{travels}
 
 -- the newest entry: its exception, and whether it travels again
 record Newest (e : ℕ) (again : Bool) (xs : List Entry) : Type 0 where
@@ -66,13 +67,16 @@ module _ (l : Layout) (a : SourceRunning) (b : Running) (same : RunAlike l a b) 
       → Alike l a.program at k c w s agree ((if z then source_terminate a c else raise_exception a e c) w) (behind (record { number = e; more = m; again = z } ∷ xs))
   again e es is true travels m xs = terminated
   again e es is false rests m xs =
-      never_on l a b same agree at k c w s (raise_exception a e c w) (continued (raise {A = Unit {0}} b e ctx s) (λ u. pure normal)) (followed (pure normal))
+      let built = stands.sound.entered e (ap (λ hs. contains hs e) is ∙ itself e es) in
+      subst (λ z. Alike l a.program at k c w s agree (raise_exception a e c w)
+      (continued (continued (perform b (only_where z (raises e s.world)) ctx s) (λ u. pure normal)) (followed (pure normal)))) (sym (travels l a.program at c w s stands e built))
+      (never_on l a b same agree at k c w s (raise_exception a e c w) (continued (raise {A = Unit {0}} b e ctx s) (λ u. pure normal)) (followed (pure normal))
       (never_on l a b same Never at k c w s (raise_exception a e c w) (raise {A = Unit {0}} b e ctx s) (λ u. pure normal)
       (raises_out l a b same laws A (Unit {0}) at c w s stands e (record {
         made = stands.sound.handled e (ap (λ hs. contains hs e) is ∙ itself e es);
         rests = rests;
         front = subst (λ hs. only_front e hs ≡ true) (sym is) (front_newest e es (subst AreTogether is stands.sound.together).0);
-      }) (stands.sound.entered e (ap (λ hs. contains hs e) is ∙ itself e es)) Never k))
+      }) built Never k)))
 
   pub rethrown_out : Alike l a.program at k c w s agree (rethrow_newest a c.handled c w) (regions b (regions_from (op rethrow ∷ [])) ctx s)
   rethrown_out =

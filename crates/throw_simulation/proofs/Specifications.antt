@@ -1,5 +1,5 @@
 -- What a specification does with an exception that it does not allow comes out alike.
-use Rattle.std.proofs.Common.{◌≡◌, ℕ, zero, suc, ◌+◌, ℤ, Bool, true, false, List, [], ◌∷◌, ◌++◌, Option, Some, None, refl, sym, ap, ◌∙◌, subst, arith}
+use Rattle.std.proofs.Common.{◌≡◌, ℕ, zero, suc, ◌+◌, ℤ, Bool, true, false, List, [], ◌∷◌, ◌++◌, Option, Some, None, refl, sym, ap, ◌∙◌, subst, arith, ap₂}
 use Rattle.std.specs.Prelude.{◌==◌, ◌&&◌, ◌||◌, not, is_none, find, cond, map, if◌then◌else◌}
 use Rattle.std.proofs.lemmas.Bool.Decides.{nat_tests}
 use Rattle.cxx_ast.specs.Plain.{Checked}
@@ -20,9 +20,9 @@ use Rattle.region_forms.specs.Guard.{allows}
 use Rattle.region_forms.specs.Laws.{CaughtListFollows}
 use Rattle.region_forms.specs.Layout.{Layout}
 use Rattle.region_forms.specs.Numbering.{type_number, type_rows}
-use Rattle.region_forms.specs.World.{type_at}
+use Rattle.region_forms.specs.World.{type_at, exception_at}
 use Rattle.region_forms.specs.Effect.{enters, entered}
-use Rattle.region_forms.specs.Outcome.{State, Context, Result, stopped, stop}
+use Rattle.region_forms.specs.Outcome.{State, Context, Result, stopped, stop, continued, only_if, change}
 use Rattle.region_forms.specs.Ending.{Running, bad_row, terminate_with, raise, perform}
 use Rattle.linear_simulation.specs.Watched.{same_type, terminate_for, watched_handled, watched_pass, watched_after, watched_handler, watched_unexpected, watched_limit}
 use Rattle.region_forms.specs.Unexpected.{kept_with, throw_bad}
@@ -55,6 +55,8 @@ use Rattle.throw_simulation.proofs.BadExceptions.{bad_out}
 use Rattle.region_simulation.specs.Lives.{CanBeThrown}
 use Rattle.throw_simulation.specs.Left.{CanBeLeft}
 use Rattle.throw_simulation.proofs.Since.{follows_older, alike_older, alike_since, inside_since, left_on, left_newly}
+use Rattle.throw_simulation.proofs.Asked.{stays_native, enterable}
+use Rattle.region_forms.specs.Lives.{is_native, may_enter}
 
 -- bad_exception is listed by its row where it is by its class
 bad_listed : (types : List ObjectType) → contains (map type_number types) bad_row ≡ some_of is_bad_exception types
@@ -132,7 +134,7 @@ module _ (laws : CaughtListFollows) (l : Layout) (a : SourceRunning) (b : Runnin
           ((if y then raise {A = B} b f (context_of w.open_calls d) else
           if z then throw_bad b (context_of w.open_calls d) else terminate_for b e kept.terminate_handler (context_of w.open_calls d)) s)
       go true z = raises_out l a b same laws A B at d w s stands f can built agree k
-      go false true = bad_out laws l a b same makes agree at k d w s stands
+      go false true = bad_out laws l a b same makes fare agree at k d w s stands
       go false false =
           subst (Alike l a.program at k d w s agree (source_terminate_with a kept.terminate_handler d w)) (sym (for_same B at d w s e kept stands keeps (context_of w.open_calls d)))
           (ends_out l a b same agree at k d w s (source_terminate_with a kept.terminate_handler d w) (terminate_with b kept.terminate_handler (context_of w.open_calls d) s)
@@ -229,6 +231,8 @@ module _ (laws : CaughtListFollows) (l : Layout) (a : SourceRunning) (b : Runnin
         (source_continued ((if z && some_of (λ f. not (f == e)) c.handled then source_terminate a (with_travelling e c) else emit (Enter e)) w)
         (λ u w2. source_while_handled a e c (source_run_unexpected a types (source_kept_with (source_exception_at w2 e)) (source_kept_with (source_exception_at w2 e)).unexpected_handler) w2))
         (watched_unexpected b numbers e (context_of w.open_calls c) s)) (sym native)
+        (subst (λ z. Alike l a.program at k c w0 s agree handled (continued (only_if z (change (entered e)) s)
+        (λ u. watched_handled b ctx (watched_handler b numbers e (kept_with (exception_at s.world e)).terminate_handler (kept_with (exception_at s.world e)).unexpected_handler ctx)))) (sym may)
         (subst (λ q. Alike l a.program at k c w0 s agree handled (watched_handled b ctx (watched_handler b numbers e q.terminate_handler q.unexpected_handler ctx) s1))
         (sym (ap kept_with (exception_same l a.program at (with_travelling e c) w s stands e) ∙ kept_same a.program (source_exception_at w e)))
         (alike_since l a.program agree at k c (handling e c) w0 s w1 s1
@@ -240,10 +244,16 @@ module _ (laws : CaughtListFollows) (l : Layout) (a : SourceRunning) (b : Runnin
         (watched_handler b numbers e kept.terminate_handler kept.unexpected_handler (context_of w0.open_calls c) s1)
         (subst (λ n. Alike l a.program at k (handling e c) w0 s1 agree run (watched_handler b numbers e kept.terminate_handler kept.unexpected_handler (context_of n c) s1)) left.open_calls
         (alike_older l a.program agree at k (handling e c) w0 w1 s1 run (watched_handler b numbers e kept.terminate_handler kept.unexpected_handler ctx s1) left.objects left.open_calls
-        (run_out e kept handlers (handling e c) (contains_first e c.handled) at k w1 s1 stands1 refl kept.unexpected_handler handlers.1)))))))
+        (run_out e kept handlers (handling e c) (contains_first e c.handled) at k w1 s1 stands1 refl kept.unexpected_handler handlers.1))))))))
       where
         ctx : Context
         ctx = context_of w.open_calls c
+
+        may : (is_native (exception_at s.world e) && may_enter s.world e) ≡ true
+        may =
+            ap₂ (λ x y. x && y)
+            (stays_native l a.program at (with_travelling e c) w s stands e (stands.sound.thrown e (contains_first e c.travelling)) native)
+            (enterable l a.program at c w s e stands front)
 
         kept : Installed
         kept = source_kept_with (source_exception_at w e)

@@ -14,11 +14,11 @@ use Rattle.region_forms.specs.Form.{Region, op, throw as throw_op, protect, free
 use Rattle.region_forms.specs.Laws.{CaughtListFollows}
 use Rattle.region_forms.specs.Numbering.{type_number, destructor_of}
 use Rattle.region_forms.specs.World.{of_exception, type_at, address_word, object_address, exception_of, exception_in_slot, address_in, building, with_item, with_slot}
-use Rattle.region_forms.specs.Effect.{terminates, goes, with_new, freed, kept}
-use Rattle.region_forms.specs.Outcome.{State, Context, Flow, normal, Result, done, stopped, continued, pure}
+use Rattle.region_forms.specs.Effect.{terminates, goes, with_new, freed, kept, only_where, raises}
+use Rattle.region_forms.specs.Outcome.{State, Context, Flow, normal, Result, done, continued, pure, stop, only_if, change}
 use Rattle.region_forms.specs.Ending.{Running, perform, terminate, raise}
-use Rattle.region_forms.specs.Meaning.{outwards, followed, after_building}
-use Rattle.linear_simulation.specs.Watched.{kept_on as watched_kept_on, same_type, still, watched_all as regions}
+use Rattle.region_forms.specs.Meaning.{outwards, followed, after_building, give_up}
+use Rattle.linear_simulation.specs.Watched.{kept_on as watched_kept_on, same_type, still, watched_all as regions, kept_type}
 use Rattle.region_forms.specs.LowerExpression.{Lowering, result_slot, exception_slot, first_temporary}
 use Rattle.region_forms.specs.LowerStatement.{variable_slot, thrown_as}
 use Rattle.region_simulation.specs.Places.{Places, Stood}
@@ -45,6 +45,8 @@ use Rattle.throw_simulation.proofs.New.{newly, new_number, new_unbuilt, full_sam
 use Rattle.throw_simulation.proofs.Caught.{front_unhandled}
 use Rattle.throw_simulation.proofs.Kept.{after_keeping, kept_on, kept_thrown}
 use Rattle.throw_simulation.proofs.Freeing.{follows_without, unbuilt_rests, without}
+use Rattle.throw_simulation.proofs.Asked.{being_built}
+use Rattle.region_forms.specs.Lives.{is_being_built}
 
 -- what is done in the region that a freeing protects
 abbrev freeing : ℕ → Result Flow → Result Flow
@@ -56,14 +58,18 @@ module _ (l : Lowering) (call : Callee → Reference → List SourceArgument →
   abbrev a : SourceRunning
   a = source_running l call
 
+  -- the object is built, and the exception still is to be
+  abbrev IsBuiltYet : ℕ → ObjectType → ℕ → Flow → SourceWorld → Places → State → Type 0
+  IsBuiltYet e t o flow w at s = IsBuilt e t o flow w at s × IsUnbuilt e w
+
   -- where building exits, the object is freed
   built_or_freed : (t : ObjectType) (e : ℕ) (at : Places) (w : SourceWorld) (s : State) (x : SourceResult ℕ) (y : Result Flow)
       → s.frame.slots (exception_slot l) ≡ address_word (object_address e) → e ≤ w.last_number → IsUnbuilt e w
       → ((o : ℕ) (x : Stood) → at o ≡ Some x → x.base ≡ of_exception e → ⊥) → Fares l.program 0 c w x
       → Alike l.layout l.program at (first_temporary l) c w s (IsBuilt e t) x y
-      → Alike l.layout l.program at (first_temporary l) c w s (IsBuilt e t) (source_after_building e x) (freeing (exception_slot l) y)
+      → Alike l.layout l.program at (first_temporary l) c w s (IsBuiltYet e t) (source_after_building e x) (freeing (exception_slot l) y)
   built_or_freed t e at w s (source_done o w2) y slot le unbuilt empty fares (flow, s2, is, (h, (fl, placed))) =
-      (normal, s2, ap (freeing (exception_slot l)) is ∙ ap (λ f. done (outwards (outwards f)) s2) fl, (h, (refl, placed)))
+      (normal, s2, ap (freeing (exception_slot l)) is ∙ ap (λ f. done (outwards (outwards f)) s2) fl, (h, ((refl, placed), fares.unbuilt e le unbuilt)))
   built_or_freed t e at w s (source_stopped (thrown f) w2) y slot le unbuilt empty fares (s2, is, h) =
       let d = with_travelling f c in
       let yet = fares.0.unbuilt e le unbuilt in
@@ -76,7 +82,10 @@ module _ (l : Lowering) (call : Callee → Reference → List SourceArgument →
       ap numbered (removed_type w2 e f (Free e) yet)) ∙ same_itself (numbered (source_type_at w2 f)) in
       let address : exception_in_slot s2.frame (exception_slot l) ≡ e = ap (λ x. exception_of (address_in x)) (h.keeps.slots (exception_slot l) (omega arith) ∙ slot) in (
         record s2 { world = freed e s2.world },
-        ap (freeing (exception_slot l)) is ∙ ap (λ n. continued (still (same_type (type_at s2.world f) (type_at (freed n s2.world) f)) f (record s2 { world = freed n s2.world })) outwards_on) address ∙
+        ap (freeing (exception_slot l)) is ∙
+            ap (λ n. continued (kept_type (type_at s2.world f) (continued {B = Flow} (give_up n s2) (λ u. stop (thrown f)))) outwards_on) address ∙
+            ap (λ z. continued (kept_type (type_at s2.world f) (continued {B = Flow} (only_if z (change (freed e)) s2) (λ u. stop (thrown f)))) outwards_on)
+            (being_built l.layout l.program h.places d w2 s2 h.stands e yet) ∙
             ap (λ z. continued (still z f (record s2 { world = freed e s2.world })) outwards_on) same_kept,
         g,
       )
@@ -85,7 +94,10 @@ module _ (l : Lowering) (call : Callee → Reference → List SourceArgument →
       let g = follows_without l.layout l.program h.places e (Free e) at (first_temporary l) w s c w2 s2 resting.0 resting.1 (λ o z lt there base. empty o z there base) h refl in
       let address : exception_in_slot s2.frame (exception_slot l) ≡ e = ap (λ x. exception_of (address_in x)) (h.keeps.slots (exception_slot l) (omega arith) ∙ slot) in (
         record s2 { world = freed e s2.world },
-        ap (freeing (exception_slot l)) is ∙ ap (λ q. stopped (cancelled n) (record s2 { world = freed q s2.world })) address,
+        ap (freeing (exception_slot l)) is ∙
+            ap (λ q. continued {B = Flow} (continued {B = Flow} (give_up q s2) (λ u. stop (cancelled n))) (λ flow. pure (outwards flow))) address ∙
+            ap (λ z. continued {B = Flow} (continued {B = Flow} (only_if z (change (freed e)) s2) (λ u. stop (cancelled n))) (λ flow. pure (outwards flow)))
+            (being_built l.layout l.program h.places c w2 s2 h.stands e (fares.unbuilt e le unbuilt)),
         g,
       )
   built_or_freed t e at w s (source_stopped undefined w2) y slot le unbuilt empty fares h = tt
@@ -99,9 +111,9 @@ module _ (l : Lowering) (call : Callee → Reference → List SourceArgument →
 
   raised : {A : Type 0} (agree : Agreement A Flow) (t : ObjectType) (e o k : ℕ) (at : Places) (w : SourceWorld) (s : State) → Stands l.layout l.program at c w s
       → s.frame.slots (exception_slot l) ≡ address_word (object_address e) → at o ≡ Some (record { base = of_exception e; type = t }) → IsOfProgram l.program t
-      → contains c.travelling e ≡ false → contains c.handled e ≡ false
+      → contains c.travelling e ≡ false → contains c.handled e ≡ false → IsUnbuilt e w
       → Alike l.layout l.program at k c w s agree ((keep e o >> raise_exception a e c) w) (threw t (context_of w.open_calls c) s)
-  raised {A} agree t e o k at w s stands slot placed known rests unhandled =
+  raised {A} agree t e o k at w s stands slot placed known rests unhandled yet =
       let ctx = context_of w.open_calls c in
       let w2 = after_keeping l.layout l.program at c w s stands e o t placed in
       let after : ℕ → State = (λ n. record s { world = kept n (type_number t) (destructor_of l.program t) s.world }) in
@@ -110,12 +122,15 @@ module _ (l : Lowering) (call : Callee → Reference → List SourceArgument →
       let address : exception_in_slot s.frame (exception_slot l) ≡ e = ap (λ x. exception_of (address_in x)) slot in
       let h = follows_changed l.layout l.program at k c w w2 s (after e).world refl refl refl stands2 in
       subst (λ n. Alike l.layout l.program at k c w s agree (raise_exception {A = A} a e c w2)
-      (continued (continued (raise {A = Unit {0}} b n ctx (after n)) (λ u. pure normal)) (followed (pure normal)))) (sym address)
+      (continued (continued (perform b (only_where (is_being_built s.world n) (raises n (after n).world)) ctx s) (λ u. pure normal)) (followed (pure normal)))) (sym address)
+      (subst (λ z. Alike l.layout l.program at k c w s agree (raise_exception {A = A} a e c w2)
+      (continued (continued (perform b (only_where z (raises e (after e).world)) ctx s) (λ u. pure normal)) (followed (pure normal))))
+      (sym (being_built l.layout l.program at c w s stands e yet))
       (alike_on l.layout l.program agree at k c c w s w2 (after e) h (raise_exception {A = A} a e c w2)
       (continued (continued (raise {A = Unit {0}} b e ctx (after e)) (λ u. pure normal)) (followed (pure normal)))
       (never_on l.layout a b same agree at k c w2 (after e) (raise_exception {A = A} a e c w2) (continued (raise {A = Unit {0}} b e ctx (after e)) (λ u. pure normal)) (followed (pure normal))
       (never_on l.layout a b same Never at k c w2 (after e) (raise_exception {A = A} a e c w2) (raise {A = Unit {0}} b e ctx (after e)) (λ u. pure normal)
-      (raises_out l.layout a b same laws A (Unit {0}) at c w2 (after e) stands2 e can (kept_thrown l.layout l.program at c w s stands e o t placed) Never k))))
+      (raises_out l.layout a b same laws A (Unit {0}) at c w2 (after e) stands2 e can (kept_thrown l.layout l.program at c w s stands e o t placed) Never k)))))
 
   -- an exception object is made, then built, kept and raised
   module _ (own : Option ℕ) (v : SourceFrame) (t : ObjectType) (build : SourceAction ℕ) (rs : List Region) (known : IsOfProgram l.program t) (fares : FaresIn l.program c build) (builds : BuildsAlike l own b v c t build rs)
@@ -184,14 +199,14 @@ module _ (l : Lowering) (call : Callee → Reference → List SourceArgument →
     building_on =
         alike_less l.layout l.program agree at k (first_temporary l) c made s2
         (source_continued (source_after_building e (build made)) (λ o. keep e o >> raise_exception a e c)) (regions b (regions_from rest) ctx s2) (omega (arith, low))
-        (alike_then l.layout l.program (IsBuilt e t) agree at (first_temporary l) c made s2 (source_after_building e (build made))
+        (alike_then l.layout l.program (IsBuiltYet e t) agree at (first_temporary l) c made s2 (source_after_building e (build made))
         (freeing (exception_slot l) (regions b (regions_from rs) ctx s2)) (λ o. keep e o >> raise_exception a e c) (followed (threw t ctx))
         (built_or_freed t e at made s2 (build made) (regions b (regions_from rs) ctx s2) slot (omega arith) unbuilt nothing_there (fares 0 made (omega arith) (orderly_sound c made made_stands.sound)) built)
-        (λ o flow w3 s3 h (fl, placed).
+        (λ o flow w3 s3 h ((fl, placed), yet).
         subst (λ f. Alike l.layout l.program h.places (first_temporary l) c w3 s3 agree ((keep e o >> raise_exception a e c) w3) (followed (threw t ctx) f s3)) (sym fl)
         (subst (λ n. Alike l.layout l.program h.places (first_temporary l) c w3 s3 agree ((keep e o >> raise_exception a e c) w3) (threw t (context_of n c) s3)) h.open_calls
         (raised agree t e o (first_temporary l) h.places w3 s3 h.stands (h.keeps.slots (exception_slot l) (omega arith) ∙ slot) placed known
-        (new_number w.last_number c.travelling stands.sound.travelling) (new_number w.last_number c.handled stands.sound.handled)))))
+        (new_number w.last_number c.travelling stands.sound.travelling) (new_number w.last_number c.handled stands.sound.handled) yet))))
 
     abbrev thrown_regions : Bool → Result Flow
     thrown_regions z =

@@ -42,7 +42,7 @@ EmptyConstructor l a b =
 -- a bad_exception is thrown in place of an exception that a specification does not allow
 abbrev pub BadExceptionsAlike : Type 0
 BadExceptionsAlike =
-    (l : Layout) (a : SourceRunning) (b : Running) → RunAlike l a b → EmptyConstructor l a b → (at : Places) (k : ℕ) (c : SourceContext) (w : SourceWorld) (s : State)
+    (l : Layout) (a : SourceRunning) (b : Running) → RunAlike l a b → EmptyConstructor l a b → CallsFare a → (at : Places) (k : ℕ) (c : SourceContext) (w : SourceWorld) (s : State)
     → Stands l a.program at c w s
     → Alike l a.program at k c w s Never (throw_new {A = ℤ} a c (new_bad_exception a c) w) (throw_bad {A = ℤ} b (context_of w.open_calls c) s)
 
