@@ -8,6 +8,7 @@ use Rattle.cxx_ast.specs.declared.expression.BinaryOp.TheVariants.{Add, Subtract
 use Rattle.scope_rules.specs.Arithmetic.{fits_int, is_zero, truth, int_equal, decided}
 use Rattle.region_forms.specs.Form.{Kinds, SlotKind, int_slot, address_slot, object_slot, help_slot, Root, in_slot, through, in_global, Place, Value, number, load, unary, binary, call_value, Argument, int_argument, address_argument, handler_argument, Arguments, no_arguments, argument_then}
 use Rattle.region_forms.specs.World.{Address, of_global, of_variable, Word, number_word, address_word, Frame, World, behind, address_in, number_in}
+use Rattle.region_forms.specs.Lives.{is_there}
 
 -- where a place is: at an address, or in a slot that is no variable
 pub data Location : Type 0 where
@@ -41,9 +42,9 @@ abbrev pub with_some : {A B : Type 0} → Option A → (A → Option B) → Opti
 with_some None next = None
 with_some (Some a) next = next a
 
--- the int at a location
+-- the int at a location; the object of an exception that is no longer live is nowhere
 abbrev pub read_location : Frame → World → Location → Option ℤ
-read_location f w (in_memory a) = w.memory a
+read_location f w (in_memory a) = if is_there w a.base then w.memory a else None
 read_location f w (in_frame s) = number_in (f.slots s)
 
 -- the address that a location has

@@ -28,6 +28,7 @@ use Rattle.region_simulation.specs.Stands.{Stands}
 use Rattle.region_simulation.specs.Typing.{IsTyped}
 use Rattle.region_simulation.specs.Value.{IsValue, ValuesAreMeant}
 use Rattle.region_simulation.proofs.Naming.{names_placed}
+use Rattle.region_simulation.proofs.There.{refers_there}
 
 pub neither : (a b : Bool) → (a || b) ≡ false → (a ≡ false) × (b ≡ false)
 neither false false e = (refl, refl)
@@ -100,7 +101,9 @@ module _ (l : Lowering) (own : Option ℕ) (kinds : Kinds) (v : SourceFrame) (at
       go a refers located (cell None) is = tt
       go a refers located (cell (Some n)) is = (
         refl,
-        ap (λ x. with_some x (read_location s.frame s.world)) located ∙ ap s.world.memory refers.address ∙
+        ap (λ x. with_some x (read_location s.frame s.world)) located ∙
+            ap (λ z. if z then s.world.memory a else None) (refers_there l.layout l.program at d w s stands (lvalue l.program w v names) int_type a refers) ∙
+            ap s.world.memory refers.address ∙
             stands.memory.holds (lvalue l.program w v names).object refers.stood (lvalue l.program w v names).path n refers.stands is,
       )
 

@@ -43,6 +43,7 @@ use Rattle.statement_simulation.specs.Sequences.{GoesOn}
 use Rattle.statement_simulation.specs.Statements.{SourceCalls}
 use Rattle.statement_simulation.specs.Members.{CanDefault, CanCopyFrom}
 use Rattle.statement_simulation.proofs.OwnParts.{Leads, construct_here, AlwaysLeads, store_goes, construct_goes}
+use Rattle.region_simulation.proofs.There.{refers_there}
 
 shaped_type : (p : Checked) (t : ObjectType) (a : Part) → Shaped p t a → part_type a ≡ t
 shaped_type p int_type (cell v) h = refl
@@ -134,7 +135,9 @@ module _ (l : Lowering) (own : Option ℕ) (call : SourceCalls) (b : Running) (v
       go at w s stands x (cell None) is = tt
       go at w s stands x (cell (Some n)) is = (
         refl,
-        ap (λ q. with_some q (read_location s.frame s.world)) (x.located s.frame (keeps_all (first_temporary l) s.frame)) ∙ ap s.world.memory x.refers.address ∙
+        ap (λ q. with_some q (read_location s.frame s.world)) (x.located s.frame (keeps_all (first_temporary l) s.frame)) ∙
+            ap (λ z. if z then s.world.memory x.address else None) (refers_there l.layout l.program at c w s stands source int_type x.address x.refers) ∙
+            ap s.world.memory x.refers.address ∙
             stands.memory.holds source.object x.refers.stood source.path n x.refers.stands is,
       )
 

@@ -42,6 +42,7 @@ use Rattle.throw_simulation.proofs.Parameters.{Passed, parameter_then, body_alik
 use Rattle.throw_simulation.proofs.Catching.{CaughtAs, caught_int, variable_newly, scope_parameter}
 use Rattle.throw_simulation.proofs.Handlers.{last}
 use Rattle.throw_simulation.specs.Left.{CanBeLeft}
+use Rattle.region_simulation.proofs.There.{refers_there}
 
 int_of : (m n : ℤ) → cell (Some m) ≡ cell (Some n) → Some m ≡ Some n
 int_of m n e = cc e
@@ -80,9 +81,14 @@ module _ (laws : CaughtListFollows) (l : Lowering) (own : Option ℕ) (gives : B
   abbrev base : Base
   base = of_variable s.frame.call k
 
+  refers : Refers l.layout l.program at (whole y.object) int_type (object_address e)
+  refers = caught_int l.layout l.program at (with_travelling e c) w s stands e y
+
   -- the int is read in the exception's object
   loaded : (z : ℤ) → s.world.memory (object_address e) ≡ Some z → value_in b.kinds s.frame s.world (load (thrown_place l)) ≡ Some z
-  loaded z is = ap (λ q. with_some (location_behind 0 (address_in q)) (read_location s.frame s.world)) slot ∙ is
+  loaded z is = ap (λ q. with_some (location_behind 0 (address_in q)) (read_location s.frame s.world)) slot ∙
+      ap (λ b. if b then s.world.memory (object_address e) else None)
+      (refers_there l.layout l.program at (with_travelling e c) w s stands (whole y.object) int_type (object_address e) refers) ∙ is
 
   stored : (z : ℤ) → s.world.memory (object_address e) ≡ Some z → regions b (regions_from P) ctx s ≡ done normal (record s { world = written (slot_address s.frame.call k) z s.world })
   stored z is =
@@ -99,9 +105,6 @@ module _ (laws : CaughtListFollows) (l : Lowering) (own : Option ℕ) (gives : B
 
   abbrev read_then : Part → SourceResult Reference
   read_then q = source_continued (read_part q w) (λ z. new_object (cell (Some z)) >>= (λ o. source_pure (whole o)))
-
-  refers : Refers l.layout l.program at (whole y.object) int_type (object_address e)
-  refers = caught_int l.layout l.program at (with_travelling e c) w s stands e y
 
   parameter_read : (q : Part) → object_at w y.object ≡ q
       → StaysInside (read_then q) × Alike l.layout l.program at k (with_travelling e c) w s
