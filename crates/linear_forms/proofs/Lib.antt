@@ -17,3 +17,4 @@ pub mod Pads
 pub mod Growing
 pub mod Choosing
 pub mod Sizing
+pub mod Defined

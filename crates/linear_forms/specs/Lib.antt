@@ -25,4 +25,5 @@ pub mod Size
 pub mod CodeRuns
 pub mod Stands
 pub mod Laws
+pub mod Defined
 pub mod Cost

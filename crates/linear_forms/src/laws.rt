@@ -1,4 +1,5 @@
 // Laws of linear code: calls of no effect, whose contracts state what holds of every program.
+ghost use Rattle.linear_forms.specs.Defined.{DefinedWhereLive};
 ghost use Rattle.linear_forms.specs.Laws.{CleanupsAreSeen, CleanupsStandTwice, CodeIsShort, FiltersAreRight, FunctionsStand, HandlersAreChosen, LabelsAreDistinct, PadsStand, SearchAgrees, SitesAreRight};
 
 /// Joining neighbouring call sites changes no look-up, and the sites of code say of each place what covers it.
@@ -49,4 +50,10 @@ pub fn functions_stand()
 /// The search by tables finds no target exactly where the guards doom the exception.
 pub fn search_agrees_with_guards()
     ensures { SearchAgrees }
+{}
+
+/// A step that is about an exception is defined only where that is live, and being built or built, as the step needs it: an int of its object is
+/// read or written, it is thrown, thrown again, entered or left, or its object is freed.
+pub fn defined_where_live()
+    ensures { DefinedWhereLive }
 {}
