@@ -1,6 +1,6 @@
 -- Loads from places of a frame.
-use Rattle.std.proofs.Common.{◌≡◌, ◌∙◌, refl, sym, ap, subst, arith, ℕ, ◌+◌, ◌-◌, ◌%◌, ◌^◌, ◌<◌, ℤ, pos, negsuc, List, length, Option, Some, None}
-use Rattle.std.specs.Prelude.{◌+ℤ◌}
+use Rattle.std.proofs.Common.{◌≡◌, ◌∙◌, refl, sym, ap, subst, arith, ℕ, ◌+◌, ◌-◌, ◌%◌, ◌^◌, ◌<◌, ℤ, pos, negsuc, List, length, Option, Some, None, Bool, true, false}
+use Rattle.std.specs.Prelude.{◌+ℤ◌, if◌then◌else◌}
 use Rattle.std.proofs.lemmas.Bool.{eq-eqb}
 use Rattle.std.proofs.lemmas.Bool.Decides.{nat_tests}
 use Rattle.std.proofs.lemmas.Int.{ints}
@@ -23,6 +23,7 @@ use Rattle.code_simulation.specs.Frames.{Setting, byte_of, IntAt, AddressAt, Wor
 use Rattle.code_simulation.proofs.Storing.{loads_done}
 use Rattle.code_simulation.proofs.Numbers.{int_loaded}
 use Rattle.code_simulation.proofs.Going.{sets_value, computes_then}
+use Rattle.region_forms.specs.Lives.{is_there}
 
 -- ---- addresses in two parts
 
@@ -108,6 +109,11 @@ slot_there t f kinds frame w memory stack address_slot s n z h inside fits e = h
 slot_there t f kinds frame w memory stack object_slot s n z h inside fits e = variable_there t f kinds frame w memory stack object_slot s n z h inside e
 slot_there t f kinds frame w memory stack help_slot s n z h inside fits e = held_there t f kinds frame w memory stack s n z h inside fits e
 
+-- what is read was there
+read_there : (b : Bool) (v : Option ℤ) (z : ℤ) → (if b then v else None) ≡ Some z → v ≡ Some z
+read_there true v z e = e
+read_there false v z e = absurd (cc e)
+
 -- ---- a place is loaded
 
 pub through_address : (t : Setting) (f : Shape) (kinds : Kinds) (frame : Frame) (w : World) (k here slot : ℕ) (s : State) (b : Address) → Ready t f kinds frame w s → k < 15 →
@@ -139,7 +145,7 @@ through_loads t f kinds frame w k here slot n s z h small fits code at (Some b) 
     let rd : ℕ = register k in
     let g : Ground = t.ground in
     let first = through_address t f kinds frame w k here slot s b h small fits.0 fits.1 code.0 at o in
-    let there : IntAt s.memory (byte_of t b + n) z = subst (λ a. IntAt s.memory a z) (omega arith) (h.holds.ints (behind b n) z (fits.3 b o) e) in
+    let there : IntAt s.memory (byte_of t b + n) z = subst (λ a. IntAt s.memory a z) (omega arith) (h.holds.ints (behind b n) z (fits.3 b o) (read_there (is_there w b.base) (w.memory (behind b n)) z e)) in
     let m : State = first.goes.after in
     let base : x m rd ≡ byte_of t b = first.is in
     let place : add (x m rd) (imm12 (immediate (pos n))) ≡ byte_of t b + n = ap (λ a. add a (imm12 (immediate (pos n)))) base ∙ near_address (byte_of t b) n fits.2 there.below in

@@ -27,6 +27,7 @@ use Rattle.operation_simulation.specs.Matches.{UnitStands, StackMay, StillFresh,
 use Rattle.operation_simulation.specs.Laws.{StoresStayApart}
 use Rattle.operation_simulation.proofs.Bases.{true_is_not, address_is}
 use Rattle.operation_simulation.proofs.Keeping.{Store, place_of, after, StoreFits, store_written, IntsHold, ints_stay, int_store, ints_written, inside_written, apart_stays, slot_stays, address_stays, call_stays, other_by_ints, stub_kept, waits_stay}
+use Rattle.operation_simulation.proofs.Stored.{stored_there}
 
 -- ---- code and the stack
 
@@ -239,8 +240,7 @@ pub location_matches : (p : Plan) (n : ℕ) (frame new_frame : Frame) (fs : List
     MemoryMatches p n frame fs v memory stack back → IsInt z → LocationStands p (shape p n) (slot_kinds p n) l → stored_at l z frame v ≡ goes new_frame new_world →
     MemoryMatches p n new_frame fs new_world (with_value memory (location_byte (setting p n) (shape p n) stack l) 4 (extended z)) stack back
 location_matches p n frame new_frame fs v new_world memory stack back (in_memory a) z h int ok e =
-    let same_frame : frame ≡ new_frame = cc e in
-    let same_world : written a z v ≡ new_world = cc e in
+    let (there, same_frame, same_world) = stored_there a z frame new_frame v new_world e in
     let new : List Part = with_value memory (p.at a.base + a.offset) 4 (extended z) in
     subst (λ f. MemoryMatches p n f fs new_world new stack back) same_frame
     (subst (λ u. MemoryMatches p n frame fs u new stack back) same_world (int_matches p n frame fs v memory stack back a z h int ok.0 ok.1 ok.2 ok.3))

@@ -2,7 +2,7 @@
 use Rattle.std.proofs.Common.{◌≡◌, ◌∙◌, sym, ap, ℕ, suc, zero, ℤ, List, [], ◌++◌, append-nil, append_assoc, Option, Some, None, inl, inr}
 use Rattle.run_items.specs.declared.item.Item.{Item}
 use Rattle.region_forms.specs.Form.{Kinds, Place, evaluate, store, bind}
-use Rattle.region_forms.specs.World.{Frame, World, written}
+use Rattle.region_forms.specs.World.{Frame, World}
 use Rattle.region_forms.specs.Evaluation.{Location, in_memory, in_frame, locate}
 use Rattle.region_forms.specs.Effect.{goes, if_some, finished, stored_at, byte_of}
 use Rattle.linear_forms.specs.Linear.{LinearOp, plain, label, jump, jump_zero}
@@ -18,10 +18,11 @@ use Rattle.operation_simulation.proofs.Calling.{same_next, enters_to}
 use Rattle.operation_simulation.proofs.Returning.{return_step}
 use Rattle.operation_simulation.proofs.Reading.{taken, read_op, finished_step}
 use Rattle.linear_forms.specs.UnitRun.{code_of}
+use Rattle.operation_simulation.proofs.Stored.{stored_there}
 
 -- what is stored is no item
 stored_items : (l : Location) (z : ℤ) (frame new_frame : Frame) (v u : World) → stored_at l z frame v ≡ goes new_frame u → u.items ≡ v.items
-stored_items (in_memory a) z frame new_frame v u e = let same : written a z v ≡ u = cc e in ap (λ (y : World). y.items) (sym same)
+stored_items (in_memory a) z frame new_frame v u e = let (there, kept, same) = stored_there a z frame new_frame v u e in ap (λ (y : World). y.items) (sym same)
 stored_items (in_frame s) z frame new_frame v u e = let same : v ≡ u = cc e in ap (λ (y : World). y.items) (sym same)
 
 finished_items : (kinds : Kinds) (q : Option Place) (z : ℤ) (frame new_frame : Frame) (v u : World) → finished kinds q z frame v ≡ goes new_frame u → u.items ≡ v.items

@@ -1,3 +1,4 @@
+pub mod Stored
 pub mod Bases
 pub mod StubKeeping
 pub mod Keeping

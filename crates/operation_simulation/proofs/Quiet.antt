@@ -5,7 +5,7 @@ use Rattle.scope_rules.specs.Arithmetic.{is_zero}
 use Rattle.region_forms.specs.Form.{Kinds, Place, Value, number, load, unary, binary, call_value, Op, evaluate, store, bind}
 use Rattle.region_forms.specs.World.{Address, Frame, World, with_slot, address_word, written, number_word}
 use Rattle.region_forms.specs.Evaluation.{Location, in_memory, in_frame, value_in, locate, address_of}
-use Rattle.region_forms.specs.Effect.{goes, if_some, finished, valued, stored_at, effect}
+use Rattle.region_forms.specs.Effect.{goes, if_some, finished, valued, stored_at, effect, only_where}
 use Rattle.linear_forms.specs.Linear.{LinearOp, plain, label, jump, jump_zero}
 use Rattle.linear_forms.specs.Tables.{label_place}
 use Rattle.linear_forms.specs.Stub.{compiled}
@@ -21,6 +21,8 @@ use Rattle.operation_simulation.specs.Plan.{Plan, function, slot_kinds}
 use Rattle.cxa_runtime.specs.World as abi
 use Rattle.operation_simulation.specs.Matches.{RuntimeMatches}
 use Rattle.operation_simulation.specs.Operations.{NoCall}
+use Rattle.operation_simulation.proofs.Stored.{stored_there}
+use Rattle.region_forms.specs.Lives.{is_there}
 
 -- the state at another place of the same call
 abbrev pub moved : State → ℕ → Frame → World → State
@@ -90,8 +92,21 @@ store_step p n st next v q runs there no_call h =
         performed (code_of p.unit) (if_some ov (λ z. if_some ol (λ l. stored_at l z st.top.frame st.world))) st.top st.frames st.world ≡ goes_to next → StoreStep (slot_kinds p n) v q st next
     by None ol ev el e = absurd (cc e)
     by (Some z) None ev el e = absurd (cc e)
-    by (Some z) (Some (in_memory a)) ev el e =
-        record { value = z; location = in_memory a; frame = st.top.frame; world = written a z st.world; value_is = ev; located = el; stored = refl; next_is = cc e }
+    by (Some z) (Some (in_memory a)) ev el e = to (is_there st.world a.base) refl e
+      where
+        to : (b : Bool) → is_there st.world a.base ≡ b →
+            performed (code_of p.unit) (only_where b (goes st.top.frame (written a z st.world))) st.top st.frames st.world ≡ goes_to next → StoreStep (slot_kinds p n) v q st next
+        to true is e = record {
+          value = z;
+          location = in_memory a;
+          frame = st.top.frame;
+          world = written a z st.world;
+          value_is = ev;
+          located = el;
+          stored = ap (λ b. only_where b (goes st.top.frame (written a z st.world))) is;
+          next_is = cc e;
+        }
+        to false is e = absurd (cc e)
     by (Some z) (Some (in_frame s)) ev el e =
         record { value = z; location = in_frame s; frame = with_slot s (number_word z) st.top.frame; world = st.world; value_is = ev; located = el; stored = refl; next_is = cc e }
 
@@ -169,7 +184,7 @@ test_step p n st next v l runs there h =
 pub runtime_stored : (p : Plan) (fs : List Activation) (l : Location) (z : ℤ) (frame new_frame : Frame) (v new_world : World) (w : abi.World) → stored_at l z frame v ≡ goes new_frame new_world →
     RuntimeMatches p fs v w → RuntimeMatches p fs new_world w
 runtime_stored p fs (in_memory a) z frame new_frame v new_world w e h =
-    let same : written a z v ≡ new_world = cc e in
+    let (there, kept, same) = stored_there a z frame new_frame v new_world e in
     subst (λ u. RuntimeMatches p fs u w) same
     (record { input = h.input; replies = h.replies; last_number = h.last_number; terminating = h.terminating; exceptions = h.exceptions; plan = h.plan })
 runtime_stored p fs (in_frame s) z frame new_frame v new_world w e h = let same : v ≡ new_world = cc e in subst (λ u. RuntimeMatches p fs u w) same h

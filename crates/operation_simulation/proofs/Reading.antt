@@ -1,5 +1,5 @@
 -- A byte is read alike.
-use Rattle.std.proofs.Common.{◌≡◌, ◌∙◌, refl, sym, ap, subst, arith, ℕ, ◌+◌, ◌<◌, ℤ, pos, negsuc, List, [], ◌∷◌, ◌++◌, length, Option, Some, None, inl, inr}
+use Rattle.std.proofs.Common.{◌≡◌, ◌∙◌, refl, sym, ap, subst, arith, ℕ, ◌+◌, ◌<◌, ℤ, pos, negsuc, List, [], ◌∷◌, ◌++◌, length, Option, Some, None, inl, inr, Bool, true, false}
 use Rattle.std.specs.Prelude.{◌⊎◌, slice_get}
 use Rattle.std.proofs.lemmas.Bool.Decides.{nat_tests}
 use Rattle.cxx_ast.specs.declared.name.Builtin.TheVariants.{ReadByte}
@@ -11,7 +11,7 @@ use Rattle.cxa_runtime.specs.Raising.{Image}
 use Rattle.region_forms.specs.Form.{Kinds, Place, call_value, builtin, no_arguments, Op, evaluate, store, call}
 use Rattle.region_forms.specs.World.{Frame, World, number_word, with_slot, written}
 use Rattle.region_forms.specs.Evaluation.{Location, in_memory, in_frame, locate}
-use Rattle.region_forms.specs.Effect.{effect, goes, if_some, finished, stored_at, byte_of, bytes_after}
+use Rattle.region_forms.specs.Effect.{effect, goes, if_some, finished, stored_at, byte_of, bytes_after, only_where}
 use Rattle.linear_forms.specs.Linear.{LinearOp, plain}
 use Rattle.linear_forms.specs.Stub.{compiled}
 use Rattle.linear_forms.specs.Activation.{Code, Activation, State as LinearState, goes_to}
@@ -44,6 +44,7 @@ use Rattle.operation_simulation.proofs.Quiet.{moved, step_is, plain_is}
 use Rattle.operation_simulation.proofs.Returning.{receives, runtime_finished}
 use Rattle.operation_simulation.proofs.Holding.{same_number}
 use Rattle.operation_simulation.proofs.Lines.{matches_alike}
+use Rattle.region_forms.specs.Lives.{is_there}
 
 -- ---- the step
 
@@ -89,12 +90,16 @@ finished_step code kinds None z v st next e = record { frame = st.top.frame; wor
 finished_step code kinds (Some q) z v st next e = by (locate kinds st.top.frame q) refl e
   where
     put : (l : Location) → locate kinds st.top.frame q ≡ Some l → performed code (stored_at l z st.top.frame v) st.top st.frames st.world ≡ goes_to next → FinishedStep kinds (Some q) z v st next
-    put (in_memory a) is got = record {
-      frame = st.top.frame;
-      world = written a z v;
-      stored = ap (λ o. if_some o (λ l. stored_at l z st.top.frame v)) is;
-      next_is = cc got;
-    }
+    put (in_memory a) is got = to (is_there v a.base) refl got
+      where
+        to : (b : Bool) → is_there v a.base ≡ b → performed code (only_where b (goes st.top.frame (written a z v))) st.top st.frames st.world ≡ goes_to next → FinishedStep kinds (Some q) z v st next
+        to true there got = record {
+          frame = st.top.frame;
+          world = written a z v;
+          stored = ap (λ o. if_some o (λ l. stored_at l z st.top.frame v)) is ∙ ap (λ b. only_where b (goes st.top.frame (written a z v))) there;
+          next_is = cc got;
+        }
+        to false there got = absurd (cc got)
     put (in_frame s) is got = record {
       frame = with_slot s (number_word z) st.top.frame;
       world = v;
