@@ -20,7 +20,7 @@ use Rattle.cxa_runtime.specs.Run.{counted}
 use Rattle.region_forms.specs.Form.{enter}
 use Rattle.region_forms.specs.Caught.{entered_on, holds_other}
 use Rattle.region_forms.specs.World.{World, Exception, Live, building, native, foreign, exception_in, exception_at, exception_of, exception_in_slot}
-use Rattle.region_forms.specs.Effect.{goes, terminates, is_foreign, entered, enters}
+use Rattle.region_forms.specs.Effect.{goes, terminates, is_foreign, entered, enters, Effect}
 use Rattle.linear_forms.specs.Linear.{plain}
 use Rattle.linear_forms.specs.Activation.{State as LinearState, goes_to}
 use Rattle.linear_forms.specs.Operation.{performed}
@@ -49,6 +49,8 @@ use Rattle.exception_operations.proofs.Finding.{live_header, object_found}
 use Rattle.exception_operations.proofs.Freed.{slots_alike}
 use Rattle.exception_operations.proofs.CaughtLists.{others_alike, front_alike, counts_small, entered_alike, begun_live, begun_once, begun_counted}
 use Rattle.exception_operations.proofs.Ecalls.{ecall_reached, object_loaded, call_made}
+use Rattle.operation_simulation.proofs.Stored.{next_where}
+use Rattle.region_forms.specs.Lives.{may_enter}
 
 begin_is : (image : Image) (wish : ℕ) (t : abi.World) → call_effect 6 image wish t ≡ begin image.places t
 unfolding call_effect numbered
@@ -107,11 +109,13 @@ enter_step : (p : Plan) (n s e : ℕ) (st next : LinearState) → StepAt p st ne
     moved st (st.top.place + 1) st.top.frame (entered e st.world) ≡ next
 enter_step p n s e st next at holds alone =
     let number : exception_in_slot st.top.frame s ≡ e = ap exception_of holds.is in
-    let effect : enters e st.top.frame st.world ≡ goes st.top.frame (entered e st.world)
-    = ap (λ b. if b then terminates st.world.installed.terminate_handler st.world else goes st.top.frame (entered e st.world)) alone in
+    let effect : Bool → Effect = (λ b. if b then terminates st.world.installed.terminate_handler st.world else goes st.top.frame (entered e st.world)) in
+    let got : performed (code_of p.unit) (effect (is_foreign (exception_at st.world e) && holds_other e st.world.caught)) st.top st.frames st.world ≡ goes_to next
+    = next_where (code_of p.unit) (may_enter st.world e) (effect (is_foreign (exception_at st.world e) && holds_other e st.world.caught)) st.top st.frames st.world next
+    (ap (λ k. performed (code_of p.unit) (enters k st.top.frame st.world) st.top st.frames st.world) (sym number)
+    ∙ sym (plain_is p n st (enter s) at.runs) ∙ sym (step_is p n st (plain (enter s)) at.runs at.there) ∙ at.step) in
     let whole : goes_to (moved st (st.top.place + 1) st.top.frame (entered e st.world)) ≡ goes_to next
-    = ap (λ f. performed (code_of p.unit) f st.top st.frames st.world) (sym effect) ∙ ap (λ k. performed (code_of p.unit) (enters k st.top.frame st.world) st.top st.frames st.world) (sym number)
-    ∙ sym (plain_is p n st (enter s) at.runs) ∙ sym (step_is p n st (plain (enter s)) at.runs at.there) ∙ at.step in
+    = ap (λ b. performed (code_of p.unit) (effect b) st.top st.frames st.world) (sym alone) ∙ got in
     cc whole
 
 -- what the runtime does with it

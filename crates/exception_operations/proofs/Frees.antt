@@ -43,6 +43,8 @@ use Rattle.exception_operations.proofs.LiveLists.{without, gone_in, kept_in}
 use Rattle.exception_operations.proofs.Finding.{live_header, object_found}
 use Rattle.exception_operations.proofs.Freed.{freed_match, building_out}
 use Rattle.exception_operations.proofs.Ecalls.{ecall_reached, object_loaded, call_made}
+use Rattle.operation_simulation.proofs.Stored.{next_there}
+use Rattle.linear_forms.specs.Operation.{may_free}
 
 free_is : (image : Image) (wish : ℕ) (t : abi.World) → call_effect 4 image wish t ≡ free_call_effect t
 unfolding call_effect numbered
@@ -98,7 +100,9 @@ free_step : (p : Plan) (n s e : ℕ) (st next : LinearState) → StepAt p st nex
 free_step p n s e st next at holds =
     let number : exception_in_slot st.top.frame s ≡ e = ap exception_of holds.is in
     let whole : goes_to (moved st (st.top.place + 1) st.top.frame (freed e st.world)) ≡ goes_to next
-    = ap (λ k. goes_to (moved st (st.top.place + 1) st.top.frame (freed k st.world))) (sym number) ∙ sym (step_is p n st (free s) at.runs at.there) ∙ at.step in
+    = ap (λ k. goes_to (moved st (st.top.place + 1) st.top.frame (freed k st.world))) (sym number)
+    ∙ next_there (may_free st.top.function st.world (exception_in_slot st.top.frame s)) st.world
+    (goes_to (moved st (st.top.place + 1) st.top.frame (freed (exception_in_slot st.top.frame s) st.world))) next (sym (step_is p n st (free s) at.runs at.there) ∙ at.step) in
     cc whole
 
 free_runs : CallsAreTurns → CallsAreMade → (image : Image) (p : Plan) (n s e : ℕ) (st next : LinearState) (w : abi.World) (back : ℕ) → Stands p n st w back → StepAt p st next n (free s) →
