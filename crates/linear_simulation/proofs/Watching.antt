@@ -246,7 +246,7 @@ module _ (v r : Running) (types : v.types ≡ r.types) (kinds : v.kinds ≡ r.ki
       go true = terminate_watches {A = A} s.world.installed.terminate_handler c s
       go false =
           let s1 : State = record s { world = made s.world } in
-          bind_watches (empty_call v c s1) (empty_call r c s1) (λ u. f v) (λ u. f r) (empty_watches c s1) 
+          bind_watches (empty_call v c s1) (empty_call r c s1) (λ u. f v) (λ u. f r) (empty_watches c s1)
           (λ u s2. bind_watches (keep_bad e s2) (keep_bad e s2) (λ x. raise v e c) (λ x. raise r e c) (inl refl) (λ x s3. raise_watches {A = A} e c s3))
 
   for_watches : {A : Type 0} (e : ℕ) (h : Option ℕ) (c : Context) (s : State) → Watches (terminate_for {A = A} v e h c s) (terminate_with r h c s)
