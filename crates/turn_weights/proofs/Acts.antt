@@ -1,19 +1,20 @@
 -- Whatever operation runs, it is paid.
 use Rattle.std.proofs.Common.{◌≡◌, ℤ, ℕ, ◌≤◌, Bool, true, false, [], ◌∷◌, Option, Some, None, refl, ap, ◌∙◌, ⊎_elim, if◌then◌else◌, arith}
-use Rattle.std.specs.Prelude.{pos, negsuc, nat_le}
+use Rattle.std.specs.Prelude.{pos, negsuc, nat_le, ◌&&◌}
 use Rattle.std.proofs.lemmas.Bool.Decides.{nat_tests}
 use Rattle.scope_rules.specs.Arithmetic.{is_zero}
 use Rattle.region_forms.specs.Form.{Value, Op, evaluate, store, bind, call, construct, destroy, make, throw, rethrow, enter, leave}
 use Rattle.region_forms.specs.World.{Word, nothing, number_word, address_word, flying, unwinding, World, Exception, building, native, foreign, exception_at, type_at, exception_in_slot, exception_of, address_in, object_address, with_slot, with_item}
 use Rattle.run_items.specs.declared.item.Item.TheVariants.{Destroy}
 use Rattle.region_forms.specs.Caught.{gives_back}
+use Rattle.region_forms.specs.Lives.{is_native, may_enter, may_leave}
 use Rattle.region_forms.specs.Unexpected.{kept_with}
 use Rattle.region_forms.specs.Evaluation.{value_in}
 use Rattle.region_forms.specs.Effect.{effect, entered, cleaned_up, freed, newest_of, left as left_world, result_in}
 use Rattle.linear_forms.specs.Linear.{LinearOp, plain, label, jump, jump_zero, pad, jump_filter, free, resume, unexpected, return}
 use Rattle.linear_forms.specs.Stub.{StubOp, Function, end_catch, call_unexpected, CodeOp, linear, runtime, leave_newest, destroy_held, call_held, begin_unexpected, check_unexpected, construct_bad, terminate_for, abort, terminating_rows}
-use Rattle.linear_forms.specs.Activation.{Code, State, Next, fetch, place_of, kinds, at, on, stub_frame, function_word}
-use Rattle.linear_forms.specs.Operation.{performed, jumped, jumped_zero, holds_number, resumed, number_of, act}
+use Rattle.linear_forms.specs.Activation.{Code, State, Next, next_if, fetch, place_of, kinds, at, on, stub_frame, function_word}
+use Rattle.linear_forms.specs.Operation.{performed, jumped, jumped_zero, holds_number, resumed, number_of, may_free, act}
 use Rattle.linear_forms.specs.StubOperation.{is_bad, empty_call, checked, sense_held, given_back, newest_left, called_held, destroyed, act_stub}
 use Rattle.linear_forms.specs.Machine.{act_on, step}
 use Rattle.execution_order.specs.Control.{label_of}
@@ -36,6 +37,11 @@ module _ (code : Code) (weigh : CodeOp → ℕ) (longest : ℕ) (rank : Function
 
   abbrev Here : CodeOp → Type 0
   Here o = fetch code st.top.function st.top.place ≡ Some o
+
+  -- what is done only where a test is true
+  where_paid : (b : Bool) (w : World) (next : Next) → P next → P (next_if b w next)
+  where_paid true w next paid = paid
+  where_paid false w next paid = tt
 
   -- a jump
   jump_paid : (o : LinearOp) (l : ℕ) → Here (linear o) → label_of o ≡ Some l → P (jumped code l st.top st.frames st.world)
@@ -96,7 +102,8 @@ module _ (code : Code) (weigh : CodeOp → ℕ) (longest : ℕ) (rank : Function
   act_paid (jump_zero v l) there = zero_paid v l there (value_in (kinds code st.top.function) st.top.frame st.world v)
   act_paid (pad o s) there = tt
   act_paid (jump_filter s n l) there = filter_paid s n l there (holds_number (st.top.frame.slots s) n)
-  act_paid (free s) there = on_paid code weigh longest rank pace ending st (linear (free s)) there linked st.top.frame (freed (exception_in_slot st.top.frame s) st.world) refl
+  act_paid (free s) there = where_paid (may_free st.top.function st.world (exception_in_slot st.top.frame s)) st.world _
+      (on_paid code weigh longest rank pace ending st (linear (free s)) there linked st.top.frame (freed (exception_in_slot st.top.frame s) st.world) refl)
   act_paid (resume s) there = resume_paid s there (st.top.frame.slots s)
   act_paid (unexpected o s) there = stub_paid code weigh longest rank pace ending st (linear (unexpected o s)) there linked call_unexpected (stub_frame (st.top.frame.slots o) (st.top.frame.slots s) (function_word (number_of st.top.function))) st.world tt refl (omega arith) refl
   act_paid (return r) there = return_paid code weigh longest rank pace ending st r there linked (result_in r st.top.frame st.world (kinds code st.top.function)) st.world
@@ -120,7 +127,7 @@ module _ (code : Code) (weigh : CodeOp → ℕ) (longest : ℕ) (rank : Function
   destroyed_paid s o there (unwinding z) y = on_paid code weigh longest rank pace ending st (runtime (destroy_held s o)) there linked st.top.frame (if is_bad (type_at st.world (exception_of (address_in y))) then empty_call st.frames st.world else st.world) refl
 
   newest_paid : (o d l : ℕ) → Here (runtime (leave_newest o d l)) → P (newest_left o d l st.top st.frames st.world)
-  newest_paid o d l there = go (gives_back st.world.caught)
+  newest_paid o d l there = where_paid (may_leave st.world st.world.caught) st.world _ (go (gives_back st.world.caught))
     where
       at_label : (w : World) → P (at st.top.function l st.top.frame st.frames w)
       at_label w = at_paid code weigh longest rank pace ending st (runtime (leave_newest o d l)) there linked l st.top.frame w (pace.skips st.top.function st.top.place o d l there)
@@ -141,8 +148,9 @@ module _ (code : Code) (weigh : CodeOp → ℕ) (longest : ℕ) (rank : Function
   stub_act_paid (leave_newest o d l) there = newest_paid o d l there
   stub_act_paid (destroy_held s o) there = destroyed_paid s o there (st.top.frame.slots s) (st.top.frame.slots o)
   stub_act_paid (call_held s) there = held_paid s there (st.top.frame.slots s)
-  stub_act_paid (begin_unexpected o s) there = on_paid code weigh longest rank pace ending st (runtime (begin_unexpected o s)) there linked
-      (with_slot s (function_word (kept_with (exception_at st.world (exception_in_slot st.top.frame o))).unexpected_handler) st.top.frame) (entered (exception_in_slot st.top.frame o) st.world) refl
+  stub_act_paid (begin_unexpected o s) there = where_paid (is_native (exception_at st.world (exception_in_slot st.top.frame o)) && may_enter st.world (exception_in_slot st.top.frame o)) st.world _
+      (on_paid code weigh longest rank pace ending st (runtime (begin_unexpected o s)) there linked
+      (with_slot s (function_word (kept_with (exception_at st.world (exception_in_slot st.top.frame o))).unexpected_handler) st.top.frame) (entered (exception_in_slot st.top.frame o) st.world) refl)
   stub_act_paid (check_unexpected s f o x) there = on_paid code weigh longest rank pace ending st (runtime (check_unexpected s f o x)) there linked
       (with_slot x (number_word (checked code.rows (sense_held code (st.top.frame.slots f) (st.top.frame.slots s)) (type_at st.world (exception_in_slot st.top.frame o)))) st.top.frame) st.world refl
   stub_act_paid construct_bad there = on_paid code weigh longest rank pace ending st (runtime construct_bad) there linked st.top.frame (empty_call st.frames st.world) refl

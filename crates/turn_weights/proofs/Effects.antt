@@ -9,7 +9,7 @@ use Rattle.region_forms.specs.Form.{Kinds, Place, Callee, defined, builtin, Valu
 use Rattle.region_forms.specs.Caught.{Entry}
 use Rattle.region_forms.specs.World.{Word, Frame, World}
 use Rattle.region_forms.specs.Evaluation.{Location, in_memory, in_frame, locate, value_in, words_in, address_of}
-use Rattle.region_forms.specs.Effect.{Effect, goes, raises, terminates, leaves_newest, if_some, stored_at, finished, answered, replied, module_called, built_in, called, valued, rethrown, effect}
+use Rattle.region_forms.specs.Effect.{Effect, goes, raises, terminates, leaves_newest, if_some, only_where, stored_at, finished, answered, replied, module_called, built_in, called, valued, rethrown, effect}
 
 abbrev pub NotLeaving : Effect → Type 0
 NotLeaving leaves_newest = ⊥
@@ -23,8 +23,12 @@ some_not : {A : Type 0} (o : Option A) (next : A → Effect) → ((a : A) → No
 some_not None next h = tt
 some_not (Some a) next h = h a
 
+where_not : (b : Bool) (x : Effect) → NotLeaving x → NotLeaving (only_where b x)
+where_not true x h = h
+where_not false x h = tt
+
 stored_not : (l : Location) (v : ℤ) (f : Frame) (w : World) → NotLeaving (stored_at l v f w)
-stored_not (in_memory a) v f w = tt
+stored_not (in_memory a) v f w = where_not _ (goes _ _) tt
 stored_not (in_frame s) v f w = tt
 
 pub finished_not : (kinds : Kinds) (p : Option Place) (v : ℤ) (f : Frame) (w : World) → NotLeaving (finished kinds p v f w)
@@ -69,7 +73,7 @@ valued_not kinds (binary o a b) p f w = some_not (value_in kinds f w (binary o a
 
 rethrown_not : (es : List Entry) (w : World) → NotLeaving (rethrown es w)
 rethrown_not [] w = tt
-rethrown_not (x ∷ xs) w = either x.again (terminates _ _) (raises _ _) tt tt
+rethrown_not (x ∷ xs) w = either x.again (terminates _ _) (only_where _ (raises _ _)) tt (where_not _ (raises _ _) tt)
 
 abbrev pub NotLeave : Op → Type 0
 NotLeave leave = ⊥
@@ -83,7 +87,7 @@ effect_not kinds (call c args) f w h = some_not (words_in kinds f w args) (λ gi
 effect_not kinds (construct p n args) f w h = some_not (address_of kinds f p) _ (λ a. some_not (words_in kinds f w args) _ (λ given. tt))
 effect_not kinds (destroy p n) f w h = some_not (address_of kinds f p) _ (λ a. tt)
 effect_not kinds (make s) f w h = either _ (terminates _ _) (goes _ _) tt tt
-effect_not kinds (throw s t d) f w h = tt
+effect_not kinds (throw s t d) f w h = where_not _ (raises _ _) tt
 effect_not kinds rethrow f w h = rethrown_not w.caught w
-effect_not kinds (enter s) f w h = either _ (terminates _ _) (goes _ _) tt tt
+effect_not kinds (enter s) f w h = where_not _ (if _ then terminates _ _ else goes _ _) (either _ (terminates _ _) (goes _ _) tt tt)
 effect_not kinds leave f w h = absurd h
