@@ -1,0 +1,3 @@
+pub mod Extents
+pub mod Reaching
+pub mod Laws
