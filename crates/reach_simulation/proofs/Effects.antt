@@ -9,9 +9,10 @@ use Rattle.eh_outer.specs.declared.module.Reply.{Reply}
 use Rattle.eh_outer.specs.declared.module.Reply.TheVariants.{Value as ValueReply, Raise}
 use Rattle.region_forms.specs.Form.{Place, Callee, defined, builtin, Value, number, load, unary, binary, call_value, Arguments, Op, evaluate, store, bind, call, construct, destroy, make, throw, rethrow, enter, leave}
 use Rattle.region_forms.specs.Caught.{Entry, holds_other}
-use Rattle.region_forms.specs.World.{Base, of_global, of_variable, of_exception, Address, Word, number_word, address_word, object_address, address_in, exception_of, exception_in_slot, with_slot, with_item, Frame, World, building, foreign, exception_at}
+use Rattle.region_forms.specs.World.{Base, of_global, of_variable, of_exception, Address, Word, number_word, address_word, object_address, address_in, exception_of, exception_in_slot, with_slot, with_item, written, Frame, World, building, foreign, exception_at}
 use Rattle.region_forms.specs.Evaluation.{Location, in_memory, in_frame, locate, address_of, value_in, words_in}
-use Rattle.region_forms.specs.Effect.{Effect, goes, calls, raises, terminates, ends, cancels, leaves_newest, meaningless, if_some, stored_at, finished, is_full, with_new, entered, is_foreign, number_at, handler_at, byte_of, bytes_after, answered, replied, module_called, some_travel, built_in, called, valued, rethrown, enters, effect, newest_of}
+use Rattle.region_forms.specs.Lives.{is_there, is_being_built, can_travel, may_enter}
+use Rattle.region_forms.specs.Effect.{Effect, only_where, kept, goes, calls, raises, terminates, ends, cancels, leaves_newest, meaningless, if_some, stored_at, finished, is_full, with_new, entered, is_foreign, number_at, handler_at, byte_of, bytes_after, answered, replied, module_called, some_travel, built_in, called, valued, rethrown, enters, effect, newest_of}
 use Rattle.linear_forms.specs.Linear.{UnitCode}
 use Rattle.linear_forms.specs.Stub.{Function}
 use Rattle.linear_forms.specs.Activation.{kinds}
@@ -55,8 +56,13 @@ module _ (x : Extents) (u : UnitCode) (needs : Needs) (v : World) (small : (n s 
   pub with_word : (w : World) (s : ℕ) (word : Word) → WordComes x v w word (reach_in needs f s) → SameCall x needs v w f frame (with_slot s word frame)
   with_word w s word h = same_slots w frame (same w) s word h
 
+  -- what is defined only where a test holds
+  where_there : (b : Bool) (z : Effect) → Fits z → Fits (only_where b z)
+  where_there true z h = h
+  where_there false z h = tt
+
   stored : (w : World) (z : ℤ) (l : Location) → Grows v w → Fits (stored_at l z frame w)
-  stored w z (in_memory a) grows = (record { calls = grows.calls; last_number = grows.last_number }, same _)
+  stored w z (in_memory a) grows = where_there (is_there w a.base) (goes frame (written a z w)) (record { calls = grows.calls; last_number = grows.last_number }, same (written a z w))
   stored w z (in_frame s) grows = (grows, with_word w s (number_word z) (number_comes x u needs v w z (reach_in needs f s)))
 
   pub finished_comes : (p : Option Place) (z : ℤ) (w : World) → Grows v w → Fits (finished (kinds (code_of u) f) p z frame w)
@@ -183,12 +189,13 @@ module _ (x : Extents) (u : UnitCode) (needs : Needs) (v : World) (small : (n s 
     thrown_again [] h = grown
     thrown_again (y ∷ ys) h = by y.again
       where
-        by : (b : Bool) → Fits (if b then terminates v.installed.terminate_handler v else raises y.number v)
+        by : (b : Bool) → Fits (if b then terminates v.installed.terminate_handler v else only_where (can_travel v y.number) (raises y.number v))
         by true = grown
-        by false = (grown, h)
+        by false = where_there (can_travel v y.number) (raises y.number v) (grown, h)
 
     entering : (e : ℕ) → Fits (enters e frame v)
-    entering e = by (is_foreign (exception_at v e) && holds_other e v.caught)
+    entering e = where_there (may_enter v e) (if is_foreign (exception_at v e) && holds_other e v.caught then terminates v.installed.terminate_handler v else goes frame (entered e v))
+        (by (is_foreign (exception_at v e) && holds_other e v.caught))
       where
         by : (b : Bool) → Fits (if b then terminates v.installed.terminate_handler v else goes frame (entered e v))
         by true = grown
@@ -202,7 +209,9 @@ module _ (x : Extents) (u : UnitCode) (needs : Needs) (v : World) (small : (n s 
     effect_comes (construct q n args) h newest = constructed q n args h.0 h.1 (address_of (kinds (code_of u) f) frame q) refl (words_in (kinds (code_of u) f) frame v args) refl
     effect_comes (destroy q n) h newest = destroyed q n h (address_of (kinds (code_of u) f) frame q) refl
     effect_comes (make s) h newest = made s
-    effect_comes (throw s t d) h newest = (record { calls = grown.calls; last_number = grown.last_number }, slot_made s)
+    effect_comes (throw s t d) h newest =
+        let e = exception_in_slot frame s in
+        where_there (is_being_built v e) (raises e (kept e t d v)) (record { calls = grown.calls; last_number = grown.last_number }, slot_made s)
     effect_comes rethrow h newest = thrown_again v.caught newest
     effect_comes (enter s) h newest = entering (exception_in_slot frame s)
     effect_comes leave h newest = tt

@@ -7,8 +7,8 @@ use Rattle.region_forms.specs.Evaluation.{value_in}
 use Rattle.region_forms.specs.Effect.{Effect, goes, calls, raises, terminates, ends, cancels, leaves_newest, meaningless, finished, freed, newest_of, result_in, effect, new_frame, new_world}
 use Rattle.linear_forms.specs.Linear.{UnitCode, LinearOp, plain, label, jump, jump_zero, pad, jump_filter, free, resume, unexpected, return}
 use Rattle.linear_forms.specs.Stub.{Function, compiled, end_catch, call_unexpected}
-use Rattle.linear_forms.specs.Activation.{Activation, Next, at, on, place_of, look, kinds, fetch, depth_of, enters_function, stub_frame, function_word}
-use Rattle.linear_forms.specs.Operation.{settled, performed, wanted_by, returned_with, jumped, jumped_zero, holds_number, resumed, number_of, act}
+use Rattle.linear_forms.specs.Activation.{next_if, Activation, Next, at, on, place_of, look, kinds, fetch, depth_of, enters_function, stub_frame, function_word}
+use Rattle.linear_forms.specs.Operation.{may_free, settled, performed, wanted_by, returned_with, jumped, jumped_zero, holds_number, resumed, number_of, act}
 use Rattle.linear_forms.specs.UnitRun.{code_of}
 use Rattle.operation_simulation.proofs.Given.{frame_call, same_beside, number_beside}
 use Rattle.object_reach.specs.Reaches.{Needs, exception_bytes, LinearReaches}
@@ -33,6 +33,11 @@ module _ (x : Extents) (u : UnitCode) (needs : Needs) (v : World) (small : (n s 
   -- with the slots that it had
   pub still_at : (f : Function) (place : ℕ) (frame : Frame) (fs : List Activation) (w : World) → Grows v w → CallReaches x u needs v f frame → CallsReach x u needs v fs → Reached x u needs v (at f place frame fs w)
   still_at f place frame fs w grows call waiting = goes_at x u needs v f place frame fs w grows (call_comes x u needs v small w f frame call) (old_frame x u needs v w f frame call) waiting
+
+  -- what is defined only where a test holds
+  pub where_defined : (b : Bool) (n : Next) → Reached x u needs v n → Reached x u needs v (next_if b v n)
+  where_defined true n h = h
+  where_defined false n h = tt
 
   -- ---- a call begins
 
@@ -125,7 +130,7 @@ module _ (x : Extents) (u : UnitCode) (needs : Needs) (v : World) (small : (n s 
     act_reached (pad o s) h newest = tt
     act_reached (jump_filter s n l) h newest =
         either (holds_number (a.frame.slots s) n) (jumped (code_of u) l a fs v) (on a a.frame fs v) (stays (place_of (code_of u) a.function l)) (stays (a.place + 1))
-    act_reached (free s) h newest = still_at a.function (a.place + 1) a.frame fs (freed (exception_in_slot a.frame s) v) (record { calls = grown.calls; last_number = grown.last_number }) call waiting
+    act_reached (free s) h newest = where_defined (may_free a.function v (exception_in_slot a.frame s)) (on a a.frame fs (freed (exception_in_slot a.frame s) v)) (still_at a.function (a.place + 1) a.frame fs (freed (exception_in_slot a.frame s) v) (record { calls = grown.calls; last_number = grown.last_number }) call waiting)
     act_reached (resume s) h newest = resumed_reached (a.frame.slots s) a fs call waiting (λ b e. slot_made x u needs v small a.function a.frame call objects s)
     act_reached (unexpected o s) h newest =
         goes_at x u needs v call_unexpected 0 (stub_frame (a.frame.slots o) (a.frame.slots s) (function_word (number_of a.function))) (a ∷ fs) v grown (inl (tt, tt))

@@ -1,10 +1,11 @@
 -- What a step comes to.
 use Rattle.std.proofs.Common.{◌≡◌, ◌∙◌, refl, sym, ap, subst, arith, ℕ, zero, suc, ◌+◌, ◌≤◌, List, [], ◌∷◌, Option, Some, None, inl, inr}
-use Rattle.std.specs.Prelude.{⊤, Bool, true, false, pos, negsuc, slice_get, unwrap_or, if◌then◌else◌}
+use Rattle.std.specs.Prelude.{◌&&◌, ⊤, Bool, true, false, pos, negsuc, slice_get, unwrap_or, if◌then◌else◌}
 use Rattle.run_items.specs.declared.item.Item.TheVariants.{Destroy}
 use Rattle.region_forms.specs.Caught.{gives_back}
 use Rattle.region_forms.specs.World.{Word, nothing, number_word, address_word, flying, unwinding, address_in, object_address, exception_of, exception_in_slot, with_slot, with_item, World, Exception, building, native, foreign, exception_at, type_at}
 use Rattle.region_forms.specs.Unexpected.{kept_with}
+use Rattle.region_forms.specs.Lives.{is_native, may_enter, may_leave}
 use Rattle.region_forms.specs.Effect.{entered, left, cleaned_up, newest_of}
 use Rattle.linear_forms.specs.Linear.{UnitCode, FunctionCode, LinearOp}
 use Rattle.linear_forms.specs.Stub.{Function, compiled, end_catch, terminating, call_unexpected, StubOp, leave_newest, destroy_held, call_held, begin_unexpected, check_unexpected, construct_bad, terminate_for, abort, CodeOp, linear, runtime, StubRow, stub_rows, stub_op}
@@ -23,7 +24,7 @@ use Rattle.reach_simulation.proofs.Following.{Grows, WordComes, Reached, number_
 use Rattle.reach_simulation.proofs.Unwinding.{reach_small, function_comes, terminate_reached}
 use Rattle.reach_simulation.proofs.Given.{GivenComes}
 use Rattle.reach_simulation.proofs.Effects.{same_slots, with_word}
-use Rattle.reach_simulation.proofs.Operations.{grown, same_call, still_at, entered_reached, act_reached}
+use Rattle.reach_simulation.proofs.Operations.{grown, where_defined, same_call, still_at, entered_reached, act_reached}
 
 -- what is asked of an operation: end_catch alone passes an address, that of an exception object
 abbrev pub CodeReaches : UnitCode → Needs → Function → CodeOp → Type 0
@@ -80,7 +81,9 @@ module _ (x : Extents) (u : UnitCode) (needs : Needs) (v : World) (small : (n s 
   given_reached building e o s l w grows made = stays l w grows
 
   left_reached : (o s l : ℕ) → newest_of v.caught ≤ v.last_number → Reached x u needs v (newest_left o s l a fs v)
-  left_reached o s l newest = by (gives_back v.caught)
+  left_reached o s l newest =
+      where_defined x u needs v small objects (may_leave v v.caught)
+      (if gives_back v.caught then given_back (exception_at v (newest_of v.caught)) (newest_of v.caught) o s l a fs (left v) else at a.function l a.frame fs (left v)) (by (gives_back v.caught))
     where
       less : Grows v (left v)
       less = record { calls = omega arith; last_number = omega arith }
@@ -97,7 +100,8 @@ module _ (x : Extents) (u : UnitCode) (needs : Needs) (v : World) (small : (n s 
       let e = exception_in_slot a.frame o in
       let w = entered e v in
       let handler = (kept_with (exception_at v e)).unexpected_handler in
-      gets s (function_word handler) w (record { calls = omega arith; last_number = omega arith }) (function_comes x u needs v small w handler (reach_in needs a.function s))
+      where_defined x u needs v small objects (is_native (exception_at v e) && may_enter v e) (on a (with_slot s (function_word handler) a.frame) fs w)
+      (gets s (function_word handler) w (record { calls = omega arith; last_number = omega arith }) (function_comes x u needs v small w handler (reach_in needs a.function s)))
   stub_reached (check_unexpected s f o y) h newest =
       let answer = checked (code_of u).rows (sense_held (code_of u) (a.frame.slots f) (a.frame.slots s)) (type_at v (exception_in_slot a.frame o)) in
       gets y (number_word answer) v (grown x u needs v small objects) (number_comes x u needs v v answer (reach_in needs a.function y))
