@@ -26,3 +26,4 @@ pub mod Filters
 pub mod Answering
 pub mod Builtins
 pub mod Targets
+pub mod Answers
