@@ -1,5 +1,5 @@
 -- A runtime call that comes back, and its value where it is wanted.
-use Rattle.std.proofs.Common.{◌≡◌, ◌∙◌, refl, sym, ap, subst, arith, ℕ, ◌+◌, ◌^◌, ◌<◌, ◌≤◌, ℤ, List, [], ◌∷◌, ◌++◌, length, length-append, append_assoc, Option, Some, None, inl, inr}
+use Rattle.std.proofs.Common.{◌≡◌, ◌∙◌, refl, sym, ap, subst, arith, ℕ, ◌+◌, ◌^◌, ◌<◌, ◌≤◌, ℤ, List, [], ◌++◌, length, length-append, Option, Some, None, inl, inr}
 use Rattle.std.specs.Prelude.{◌⊎◌, slice_get}
 use Rattle.rv64_isa.specs.State.{State}
 use Rattle.rv64_isa.specs.Step.{x}
@@ -10,7 +10,7 @@ use Rattle.region_forms.specs.World.{World}
 use Rattle.region_forms.specs.Effect.{goes as goes_effect, finished}
 use Rattle.linear_forms.specs.Linear.{LinearOp}
 use Rattle.linear_forms.specs.Activation.{Activation, State as LinearState}
-use Rattle.emission_forms.specs.Registers.{sp, a0, register}
+use Rattle.emission_forms.specs.Registers.{sp, register}
 use Rattle.emission_forms.specs.Piece.{Piece}
 use Rattle.emission_forms.specs.RuntimeCall.{runtime_call}
 use Rattle.emission_forms.specs.LinearCode.{linear_code}

@@ -1,71 +1,56 @@
 -- Calls of built-in functions that come back are matched.
-use Rattle.std.proofs.Common.{◌≡◌, ◌≢◌, ◌∙◌, refl, sym, ap, subst, arith, ℕ, zero, suc, ◌+◌, ◌-◌, ◌%◌, ◌^◌, ◌<◌, ◌≤◌, ◌==◌, not, Bool, true, false, ℤ, pos, negsuc, List, [], ◌∷◌, ◌++◌, drop, append-nil, length, length-append, Option, Some, None, inl, inr}
-use Rattle.std.specs.Prelude.{◌⊎◌, slice_get, slice_set, if◌then◌else◌}
-use Rattle.std.proofs.lemmas.Bool.Decides.{nat_tests}
+use Rattle.std.proofs.Common.{◌≡◌, ◌∙◌, refl, ap, subst, arith, ℕ, ◌+◌, ◌<◌, ◌==◌, not, Bool, true, false, pos, List, [], ◌++◌, length, Option, Some, None, inl, inr}
+use Rattle.std.specs.Prelude.{slice_get, if◌then◌else◌}
 use Rattle.cxx_ast.specs.declared.name.Builtin.{Builtin}
-use Rattle.cxx_ast.specs.declared.name.Builtin.TheVariants.{Module, SetTerminate, SetUnexpected, Uncaught}
-use Rattle.eh_outer.specs.declared.module.Reply.{Reply}
-use Rattle.eh_outer.specs.declared.module.Reply.TheVariants.{Value as ValueReply, Raise}
-use Rattle.eh_outer.specs.Module.{reply_of}
+use Rattle.cxx_ast.specs.declared.name.Builtin.TheVariants.{SetTerminate, SetUnexpected, Uncaught}
 use Rattle.scope_rules.specs.Arithmetic.{truth}
-use Rattle.scope_rules.specs.World.{Installed}
 use Rattle.rv64_isa.specs.State.{State}
 use Rattle.rv64_isa.specs.Step.{x}
 use Rattle.cxa_runtime.specs.World as abi
 use Rattle.cxa_runtime.specs.World.{argument, goes, gives}
 use Rattle.cxa_runtime.specs.Raising.{Image}
 use Rattle.cxa_runtime.specs.Plain.{uncaught_exception, set_terminate, set_unexpected}
-use Rattle.cxa_runtime.specs.Number.{as_register}
-use Rattle.cxa_runtime.specs.Foreign.{module_call, module_number, asked as module_asked, replied as module_replied}
 use Rattle.cxa_runtime.specs.Call.{call_effect, numbered}
 use Rattle.cxa_runtime.specs.Run.{counted}
-use Rattle.region_forms.specs.Form.{Kinds, Place, Value, int_argument, handler_argument, Arguments, no_arguments, argument_then}
-use Rattle.region_forms.specs.World.{Frame, World, number_word}
-use Rattle.region_forms.specs.Evaluation.{value_in, with_some}
-use Rattle.region_forms.specs.Effect.{if_some, some_travel, finished, module_called, replied, answered as effect_answered, built_in}
+use Rattle.region_forms.specs.Form.{Place, handler_argument, no_arguments, argument_then}
+use Rattle.region_forms.specs.World.{World}
+use Rattle.region_forms.specs.Effect.{some_travel}
 use Rattle.linear_forms.specs.Linear.{LinearOp}
 use Rattle.linear_forms.specs.Stub.{compiled}
-use Rattle.linear_forms.specs.Activation.{Activation, State as LinearState, goes_to}
-use Rattle.linear_forms.specs.Operation.{performed}
+use Rattle.linear_forms.specs.Activation.{State as LinearState}
 use Rattle.linear_forms.specs.UnitRun.{code_of}
-use Rattle.emission_forms.specs.Bounds.{LinearFits}
 use Rattle.emission_forms.specs.Registers.{sp, a0, register}
 use Rattle.emission_forms.specs.Piece.{Piece, entry}
 use Rattle.emission_forms.specs.PlaceCode.{target_address}
-use Rattle.emission_forms.specs.ValueCode.{needs, value_code}
 use Rattle.emission_forms.specs.CallCode.{arguments_held}
 use Rattle.emission_forms.specs.RuntimeCall.{builtin_call, runtime_call}
 use Rattle.emission_forms.specs.LinearCode.{linear_code}
 use Rattle.emission_forms.specs.Routine.{op_word}
 use Rattle.code_simulation.specs.Numbers.{IsInt, extended}
-use Rattle.code_simulation.specs.Standing.{Ground, address, PiecesAt}
-use Rattle.code_simulation.specs.Going.{Goes, Computes}
+use Rattle.code_simulation.specs.Standing.{Ground, address}
+use Rattle.code_simulation.specs.Going.{Computes}
 use Rattle.code_simulation.specs.Laws.{PlacesAreWritten, CallsAreTurns}
 use Rattle.code_simulation.proofs.Fetching.{pieces_split}
 use Rattle.code_simulation.proofs.Going.{goes_none}
-use Rattle.code_simulation.proofs.Numbers.{small_pos, small_neg}
 use Rattle.code_simulation.proofs.Registers.{set_length, read_same, read_other}
-use Rattle.code_simulation.proofs.Testing.{values_are_computed}
 use Rattle.stub_simulation.specs.Calls.{asked, CallsAreMade}
 use Rattle.operation_simulation.specs.Plan.{Plan, function, shape, slot_kinds, routine, first_word, setting}
-use Rattle.operation_simulation.specs.Calls.{stored_in}
-use Rattle.operation_simulation.specs.Exceptions.{addresses_of, exceptions_in, kept_by, destroyed, ExceptionsMatch}
 use Rattle.operation_simulation.specs.Matches.{RuntimeMatches, Matches}
 use Rattle.operation_simulation.specs.Operations.{Matched}
-use Rattle.operation_simulation.specs.Asked.{ValueAsked, WantedAsked}
+use Rattle.operation_simulation.specs.Asked.{WantedAsked}
 use Rattle.operation_simulation.specs.Runs.{StepAt}
 use Rattle.operation_simulation.proofs.Words.{OperationAt, operation_at}
-use Rattle.operation_simulation.proofs.Asked.{value_stands, wanted_stands}
-use Rattle.operation_simulation.proofs.Matching.{Stands, stands_by, ready_here, runtime_stays}
-use Rattle.operation_simulation.proofs.Quiet.{moved}
+use Rattle.operation_simulation.proofs.Asked.{wanted_stands}
+use Rattle.operation_simulation.proofs.Matching.{Stands, stands_by, runtime_stays}
 use Rattle.operation_simulation.proofs.Holding.{same_number}
-use Rattle.operation_simulation.proofs.Reading.{FinishedStep, finished_step}
+use Rattle.operation_simulation.proofs.Reading.{finished_step}
 use Rattle.operation_simulation.proofs.Entered.{entry_reached}
-use Rattle.exception_operations.specs.Answers.{CallsBuiltin, value_of, answer_in, answer_of, AnswersRun}
+use Rattle.exception_operations.specs.Answers.{CallsBuiltin, AnswersRun}
 use Rattle.exception_operations.proofs.Ecalls.{AtEcall}
 use Rattle.exception_operations.proofs.Answering.{Answer, answered}
-use Rattle.exception_operations.proofs.Builtins.{BuiltinOp, builtin_op}
+use Rattle.exception_operations.proofs.Builtins.{builtin_op}
 use Rattle.exception_operations.proofs.Targets.{target_computes}
+use Rattle.exception_operations.proofs.Modules.{module_run}
 
 -- ---- whether an exception travels
 
@@ -237,3 +222,12 @@ unexpected_set_run places turns made image p n m st next w o h at calls known =
         plan = r.plan;
       };
     })
+
+pub answers_run : PlacesAreWritten → CallsAreTurns → CallsAreMade → AnswersRun
+answers_run places turns made = record {
+  uncaught = λ image p n st next w o wants h at calls asks. uncaught_run places turns made image p n st next w o wants h at calls asks;
+  terminate_set = λ image p n m st next w o h at calls known. terminate_set_run places turns made image p n m st next w o h at calls known;
+  unexpected_set = λ image p n m st next w o h at calls known. unexpected_set_run places turns made image p n m st next w o h at calls known;
+  module_called = λ image p n st next w o wants e k z replies h at calls value asks is few answers int.
+      module_run places turns made image p n st next w o wants e k z replies h at calls value asks is few answers int;
+}

@@ -1,5 +1,5 @@
 -- Operations that call built-in functions: their pieces and their steps.
-use Rattle.std.proofs.Common.{◌≡◌, ◌∙◌, refl, sym, ap, ℕ, ◌+◌, List, [], ◌∷◌, ◌++◌, append_assoc, append-nil, Option, Some, None, inl, inr}
+use Rattle.std.proofs.Common.{◌≡◌, ◌∙◌, refl, sym, ap, ℕ, List, [], ◌++◌, append_assoc, append-nil, Option, Some, None, inl, inr}
 use Rattle.std.specs.Prelude.{◌⊎◌, slice_get}
 use Rattle.cxx_ast.specs.declared.name.Builtin.{Builtin}
 use Rattle.region_forms.specs.Form.{Place, call_value, builtin, Arguments, Op, evaluate, store, call}

@@ -26,4 +26,5 @@ pub mod Filters
 pub mod Answering
 pub mod Builtins
 pub mod Targets
+pub mod Modules
 pub mod Answers

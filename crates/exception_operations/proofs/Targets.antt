@@ -1,9 +1,8 @@
 -- The address of a function in a register.
-use Rattle.std.proofs.Common.{◌≡◌, ◌∙◌, refl, sym, ap, subst, arith, ℕ, ◌+◌, ◌-◌, ◌^◌, ◌<◌, ℤ, List, length}
-use Rattle.rv64_isa.specs.declared.instr.Instr.TheVariants.{Auipc, Addi}
+use Rattle.std.proofs.Common.{◌≡◌, ◌∙◌, ap, arith, ℕ, ◌+◌, ◌-◌, ◌^◌, ◌<◌, ℤ, length}
 use Rattle.rv64_isa.specs.Arithmetic.{add}
 use Rattle.rv64_isa.specs.State.{State}
-use Rattle.rv64_isa.specs.Step.{sets, x, imm12, imm20, done}
+use Rattle.rv64_isa.specs.Step.{sets, x, imm12, imm20}
 use Rattle.emission_forms.specs.Immediate.{upper, lower}
 use Rattle.emission_forms.specs.Registers.{register}
 use Rattle.emission_forms.specs.Piece.{Target, upper_part, add_rest, distance}

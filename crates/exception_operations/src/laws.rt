@@ -1,4 +1,5 @@
 // Laws of operations on exceptions: calls of no effect, whose contracts state what holds of every program.
+ghost use Rattle.exception_operations.specs.Answers.{AnswersRun};
 ghost use Rattle.exception_operations.specs.Destroys.{DestructorsBegin, DestructorsEnd};
 ghost use Rattle.exception_operations.specs.Enters.{EntersRun};
 ghost use Rattle.exception_operations.specs.Filters.{FiltersRun};
@@ -6,7 +7,7 @@ ghost use Rattle.exception_operations.specs.Frees.{FreesRun};
 ghost use Rattle.exception_operations.specs.Leaves.{LeavesRun};
 ghost use Rattle.exception_operations.specs.Makes.{MakesRun};
 
-use code_simulation::laws::calls_are_turns;
+use code_simulation::laws::{calls_are_turns, places_are_written};
 use stub_simulation::laws::{
     calls_are_made, end_catch_comes_back, end_catch_destroys, end_catch_frees, end_catch_runs,
 };
@@ -63,3 +64,13 @@ pub fn destructors_end()
 pub fn filters_run()
     ensures { FiltersRun }
 {}
+
+/// Whether an exception travels is answered, a handler is set, and a module answers with a value, on the ABI machine as on the machine for
+/// linear code.
+pub fn answers_run()
+    ensures { AnswersRun }
+{
+    places_are_written();
+    calls_are_turns();
+    calls_are_made();
+}
