@@ -53,7 +53,7 @@ entered_at p m s unit may known regs at room low even =
 -- ---- what stands below end_catch
 
 -- below a place that is lower
-beneath_lower : (p : Plan) (v : World) (memory : List Part) (stack low : ℕ) → low ≤ stack → Beneath p v memory stack → Beneath p v memory low
+pub beneath_lower : (p : Plan) (v : World) (memory : List Part) (stack low : ℕ) → low ≤ stack → Beneath p v memory stack → Beneath p v memory low
 beneath_lower p v memory stack low le h = record {
   unit = h.unit;
   apart = h.apart;

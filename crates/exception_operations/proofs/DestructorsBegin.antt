@@ -65,7 +65,7 @@ use Rattle.exception_operations.proofs.Destroying.{entered_at, Begun, destructor
 -- ---- the destructor's prologue
 
 -- an address apart from the bytes that are written
-address_apart : (memory : List Part) (a value b c : ℕ) → Apart a 8 b 8 → AddressAt memory b c → AddressAt (with_value memory a 8 value) b c
+pub address_apart : (memory : List Part) (a value b c : ℕ) → Apart a 8 b 8 → AddressAt memory b c → AddressAt (with_value memory a 8 value) b c
 address_apart memory a value b c out h = record { aligned = h.aligned; below = h.below; holds = holds_apart memory a 8 value b 8 c out h.holds }
 
 -- from the destructor's first word to its first operation

@@ -28,3 +28,5 @@ pub mod Builtins
 pub mod Targets
 pub mod Modules
 pub mod Answers
+pub mod Terminating
+pub mod Handlers

@@ -7,3 +7,4 @@ pub mod Leaves
 pub mod Destroys
 pub mod Filters
 pub mod Answers
+pub mod Terminates
