@@ -30,3 +30,4 @@ pub mod Modules
 pub mod Answers
 pub mod Terminating
 pub mod Handlers
+pub mod Terminates

@@ -1,0 +1,165 @@
+-- Terminating is matched.
+use Rattle.std.proofs.Common.{◌≡◌, ◌≢◌, ◌∙◌, refl, sym, ap, subst, arith, ℕ, suc, ◌+◌, ◌-◌, ◌*◌, ◌%◌, ◌^◌, ◌<◌, ◌≤◌, Bool, true, false, ℤ, List, [], ◌∷◌, ◌++◌, length, length-append, Option, Some, None, is_some, inl, inr}
+use Rattle.std.specs.Prelude.{◌⊎◌, slice_get, if◌then◌else◌}
+use Rattle.scope_rules.specs.Outcome.{aborted}
+use Rattle.rv64_isa.specs.State.{State}
+use Rattle.rv64_isa.specs.Step.{x}
+use Rattle.cxa_runtime.specs.declared.effect.End.TheVariants.{Aborted}
+use Rattle.cxa_runtime.specs.World as abi
+use Rattle.cxa_runtime.specs.Raising.{Image}
+use Rattle.cxa_runtime.specs.Terminate.{terminates}
+use Rattle.cxa_runtime.specs.Call.{call_effect}
+use Rattle.cxa_runtime.specs.Run.{Ran, run}
+use Rattle.region_forms.specs.World.{World}
+use Rattle.region_forms.specs.Effect.{new_world}
+use Rattle.linear_forms.specs.Linear.{return}
+use Rattle.linear_forms.specs.Stub.{terminating}
+use Rattle.linear_forms.specs.Activation.{Activation, State as LinearState, goes_to, depth_of, terminated}
+use Rattle.linear_forms.specs.Machine.{step, go_on, exec, over}
+use Rattle.linear_forms.specs.UnitRun.{code_of}
+use Rattle.emission_forms.specs.Registers.{ra, sp}
+use Rattle.emission_forms.specs.Piece.{Piece}
+use Rattle.emission_forms.specs.RuntimeCall.{runtime_call}
+use Rattle.emission_forms.specs.LinearCode.{linear_code}
+use Rattle.emission_forms.specs.Routine.{op_word}
+use Rattle.code_simulation.specs.Standing.{Ground, address, PiecesAt}
+use Rattle.code_simulation.specs.Turning.{Turns, Reaches}
+use Rattle.code_simulation.specs.Laws.{CallsAreTurns}
+use Rattle.code_simulation.proofs.Fetching.{pieces_split}
+use Rattle.code_simulation.proofs.Going.{goes_none}
+use Rattle.code_simulation.proofs.Turning.{turns_then, executes_turns}
+use Rattle.stub_simulation.specs.Stretches.{StubAt, stub_word}
+use Rattle.stub_simulation.specs.Calls.{asked}
+use Rattle.stub_simulation.specs.Terminates as stubs
+use Rattle.stub_simulation.specs.Terminates.{MayTerminate, sent, CallsTerminate}
+use Rattle.stub_simulation.specs.Terminate.{TerminateRuns}
+use Rattle.operation_simulation.specs.Plan.{Plan, function, shape, slot_kinds, routine, first_word, setting}
+use Rattle.operation_simulation.specs.Calls.{open_bytes, stack_end}
+use Rattle.operation_simulation.specs.Exceptions.{Addresses, addresses_of, exceptions_in, kept_by, destroyed, IsFunction, ExceptionsMatch}
+use Rattle.operation_simulation.specs.Matches.{StackMay, RuntimeMatches, MemoryMatches, Matches}
+use Rattle.operation_simulation.specs.Entering.{opened, frame_for}
+use Rattle.operation_simulation.proofs.Words.{OperationAt, operation_at, even_base}
+use Rattle.operation_simulation.proofs.Matching.{Stands, stands_by, runtime_stays}
+use Rattle.operation_simulation.proofs.Holding.{same_number}
+use Rattle.operation_simulation.proofs.Lines.{matches_alike}
+use Rattle.operation_simulation.proofs.Freeing.{beside_matches}
+use Rattle.operation_simulation.proofs.Given.{same_beside}
+use Rattle.operation_simulation.proofs.Calling.{stack_at, runtime_opened, runtime_pushed}
+use Rattle.exception_operations.specs.Leaves.{StepsTo}
+use Rattle.exception_operations.specs.Terminates.{AtTerminating, waiting_terminate, ending_world, in_handler, RunAborts, LinearAborts, TerminatesRun}
+use Rattle.exception_operations.proofs.EndCatching.{room_below}
+use Rattle.exception_operations.proofs.Ecalls.{AtEcall, ecall_reached}
+use Rattle.exception_operations.proofs.Terminating.{TerminatingOp, terminating_op}
+use Rattle.exception_operations.proofs.Handlers.{HandlerEntered, handler_entered, handler_matches}
+
+-- ---- the runtime call, from its ECALL on
+
+-- what stands where an operation makes a runtime call that terminates
+record Called (image : Image) (p : Plan) (n : ℕ) (st : LinearState) (w : abi.World) (back : ℕ) : Type 0 where
+  turns : ℕ
+  few : turns ≤ 1
+  at : abi.World
+  runs : Turns image turns w at []
+  behind : State
+  number : ℕ
+  calls : stubs.Terminates image number at.terminate_handler at (asked behind at)
+  memory : behind.memory ≡ w.hart.memory
+  stack : x behind sp ≡ x w.hart sp
+  may : MayTerminate p.unit p.base image (asked behind at)
+  runtime : RuntimeMatches p st.frames st.world at
+
+called : CallsAreTurns → (image : Image) (p : Plan) (n : ℕ) (st : LinearState) (w : abi.World) (back : ℕ) → Stands p n st w back → (at : AtTerminating image p n st) → Called image p n st w back
+called turns image p n st w back h at =
+    let op = terminating_op image p n st at in
+    let g : Ground = (setting p n).ground in
+    let here : ℕ = first_word p n + op_word (routine p n) st.top.place in
+    let own = subst (OperationAt p w.hart.memory n st.top.place) op.pieces (operation_at p w.hart.memory n st.top.place at.operation h.memory.unit h.memory.top.known at.there) in
+    let parts = pieces_split w.hart.memory g here (runtime_call op.number) op.rear own.code in
+    let same_here : here ≡ here + 0 = omega arith in
+    let ec = ecall_reached turns image g here 0 0 op.number w (goes_none g here 0 w.hart h.pc h.registers) op.small (subst (λ k. PiecesAt w.hart.memory g k (runtime_call op.number)) same_here parts.0) in
+    let t : abi.World = asked ec.behind ec.at in
+    let r = runtime_stays p st.frames st.world w ec.at ec.runtime h.runtime in
+    record {
+      turns = ec.turns;
+      few = omega (arith, ec.few);
+      at = ec.at;
+      runs = ec.runs;
+      behind = ec.behind;
+      number = op.number;
+      calls = record { behind = ec.behind; calls = ec.calls; asks = ec.asks; effect = λ wish. op.effect (addresses_of p) (destroyed st.frames) (kept_by ec.at) wish t refl r.exceptions };
+      memory = ec.memory;
+      stack = ec.stack;
+      may = record {
+        named = at.named;
+        registers = ec.registers;
+        code = subst (StubAt p.unit p.base terminating) (sym ec.memory) h.memory.unit.stubs.terminate;
+        deep = omega (arith, ec.stack, h.memory.top.above);
+        room = room_below ec.behind.memory (x ec.behind sp) 32 (subst StackMay (sym ec.memory) h.memory.may) (omega (arith, ec.stack, h.memory.top.above)) (omega (arith, ec.stack, h.memory.top.below))
+            (omega (arith, ec.stack, h.memory.top.saved.aligned)) refl;
+      };
+      runtime = r;
+    }
+
+-- ---- the handler begins
+
+handler_is : (t : Addresses) (h : Option ℕ) (m a : ℕ) → h ≡ Some m → IsFunction t h a → IsFunction t (Some m) a
+handler_is t h m a is f = subst (λ k. IsFunction t k a) is f
+
+handler_begins : CallsAreTurns → CallsTerminate → (image : Image) (p : Plan) (n m : ℕ) (st : LinearState) (w : abi.World) → Matches p st w → (at : AtTerminating image p n st) → st.world.ending ≡ false →
+    st.world.installed.terminate_handler ≡ Some m → p.hidden ≡ 0 → let active = waiting_terminate m ∷ st.top ∷ st.frames in open_bytes p active + (shape p m).size + 0x1000 ≤ 0x100_0000 →
+    Reaches image (length (linear_code (shape p n) at.operation) + 13) w [] (λ u. Matches (opened p m st.world.calls (frame_for p m active)) (in_handler p m st) u)
+handler_begins turns laws image p n m st w h at quiet installed hidden fits =
+    let v : World = st.world in
+    let ve : World = ending_world v in
+    let active : List Activation = waiting_terminate m ∷ st.top ∷ st.frames in
+    let depth : ℕ = depth_of active + 1 in
+    let stood = stands_by p n st w h at.runs in
+    let c = called turns image p n st w h.back stood at in
+    let r = c.runtime in
+    let t : abi.World = asked c.behind c.at in
+    let first : ℕ = address (setting p m).ground (first_word p m) in
+    let known = handler_is (addresses_of p) v.installed.terminate_handler m c.at.terminate_handler installed r.exceptions.terminate_handler in
+    let code = (stood.memory.unit.functions m known.1).0 in
+    let even = even_base p w.hart.memory stood.memory.unit in
+    let is : c.at.terminate_handler ≡ first = known.0 in
+    let calls = subst (λ k. stubs.Terminates image c.number k c.at t) is c.calls in
+    let come = laws.calls_the_handler image p.unit p.base c.number first c.at t calls (r.terminating ∙ quiet) c.may (λ zero. absurd (omega (arith, zero))) (omega (arith, even)) (omega (arith, code.word.below)) in
+    let v2 : abi.World = come.after in
+    let ad = come.holds in
+    let stack : ℕ = x w.hart sp in
+    let low : ℕ = x c.behind sp - 32 in
+    let end : stack + open_bytes p (st.top ∷ st.frames) ≡ stack_end = stack_at p n st w h.back stood in
+    let held1 : MemoryMatches p n st.top.frame st.frames v c.behind.memory stack h.back = subst (λ ps. MemoryMatches p n st.top.frame st.frames v ps stack h.back) (sym c.memory) stood.memory in
+    let held2 = beside_matches p n st.top.frame st.frames v c.behind.memory v2.hart.memory stack h.back low 32 held1
+    (record { low = omega (arith, c.stack, stood.memory.top.above); high = omega (arith, c.stack, stood.memory.top.above) }) ad.kept.beside in
+    let held3 = matches_alike p n st.top.frame st.frames v ve v2.hart.memory stack h.back refl refl (same_number v) held2 in
+    let place : stack ≡ x v2.hart sp + 32 = omega (arith, ad.pointer, c.stack, stood.memory.top.above) in
+    let entered = handler_entered image p n m st.top.frame st.frames ve h.back v2 known.1 ad.there ad.registers ad.holds.0 (subst (λ a. MemoryMatches p n st.top.frame st.frames ve v2.hart.memory a h.back) place held3)
+    (omega (arith, place, end, fits, hidden)) in
+    let v3 : abi.World = entered.after in
+    let frame_low : ℕ = x v2.hart sp + 32 - 32 - (shape p m).size in
+    let low_is : frame_low ≡ frame_for p m active = omega (arith, place, end, hidden) in
+    let q : Plan = opened p m ve.calls frame_low in
+    let all = handler_matches p n m depth st.top st.frames ve v3.hart.memory (x v2.hart sp + 32) h.back entered.handling hidden (omega (arith, place, end)) in
+    let pushed = runtime_pushed p n st.top st.frames v c.at at.runs r in
+    let runtime1 : RuntimeMatches p active ve (sent image.places first t) = record { input = pushed.input; replies = pushed.replies; last_number = pushed.last_number; terminating = refl; exceptions = pushed.exceptions; plan = pushed.plan } in
+    let runtime2 = runtime_stays p active ve (sent image.places first t) v2 ad.kept.runtime runtime1 in
+    let runtime3 = runtime_stays q active (new_world (slot_kinds p m) [] depth ve) v2 v3 entered.runtime (runtime_opened p m frame_low active [] depth ve v2 runtime2) in
+    let to : LinearState = in_handler p m st in
+    let stack3 : x v3.hart sp ≡ frame_low = entered.stack ∙ omega arith in
+    let six : op_word (routine p m) 0 ≡ 6 = refl in
+    subst (λ a. Reaches image (length (linear_code (shape p n) at.operation) + 13) w [] (λ u. Matches (opened p m v.calls a) to u)) low_is (record {
+      turns = c.turns + come.turns + 4;
+      few = omega (arith, c.few, come.few);
+      after = v3;
+      runs = turns_then image (c.turns + come.turns) 4 w v2 v3 [] [] (turns_then image c.turns come.turns w c.at v2 [] [] c.runs come.runs) entered.runs;
+      holds = record {
+        number = m;
+        back = stub_word p.base terminating 6;
+        runs = refl;
+        registers = entered.registers;
+        pc = entered.pc ∙ omega (arith, six);
+        memory = subst (λ a. MemoryMatches q m to.top.frame to.frames to.world v3.hart.memory a (stub_word p.base terminating 6)) (sym stack3) all;
+        runtime = runtime3;
+      };
+    })
