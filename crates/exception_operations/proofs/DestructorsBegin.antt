@@ -19,6 +19,7 @@ use Rattle.cxa_runtime.specs.Raising.{Image}
 use Rattle.region_forms.specs.Caught.{Entry, is_last}
 use Rattle.region_forms.specs.World.{of_exception, World, Word, native}
 use Rattle.region_forms.specs.Effect.{left, new_world}
+use Rattle.region_forms.specs.Lives.{is_built}
 use Rattle.linear_forms.specs.Stub.{end_catch}
 use Rattle.linear_forms.specs.Activation.{Activation, State as LinearState, depth_of}
 use Rattle.emission_forms.specs.Registers.{ra, sp}
@@ -221,7 +222,7 @@ destructors_begin destroys image p n st middle y ys type d kept w h at last ther
         leave_step p n st middle at.at,
         (
           record { top = waiting_catch d e; frames = st.top ∷ st.frames; world = v },
-          last_step p st y ys (native type (Some d) kept) at.caught last (exception_is st.world.live e (native type (Some d) kept) there),
+          last_step p st y ys (native type (Some d) kept) at.caught (ap is_built (exception_is st.world.live e (native type (Some d) kept) there)) last (exception_is st.world.live e (native type (Some d) kept) there),
           (in_destructor p d e st, refl, refl),
         ),
       ),

@@ -15,11 +15,12 @@ use Rattle.cxa_runtime.specs.World as abi
 use Rattle.cxa_runtime.specs.Raising.{Image}
 use Rattle.region_forms.specs.Form.{leave}
 use Rattle.region_forms.specs.World.{of_exception, World, Exception, native, exception_of, exception_in_slot}
+use Rattle.region_forms.specs.Lives.{is_live}
 use Rattle.region_forms.specs.Evaluation.{value_in}
 use Rattle.region_forms.specs.Effect.{freed, finished, result_in}
 use Rattle.linear_forms.specs.Linear.{LinearOp, plain, return}
 use Rattle.linear_forms.specs.Stub.{Function, compiled, end_catch, terminating, call_unexpected, linear}
-use Rattle.linear_forms.specs.Activation.{Activation, State as LinearState, goes_to, compiled_op, fetch, kinds}
+use Rattle.linear_forms.specs.Activation.{Activation, State as LinearState, goes_to, next_if, compiled_op, fetch, kinds}
 use Rattle.linear_forms.specs.Machine.{step}
 use Rattle.linear_forms.specs.Operation.{settled, wanted_by, returned_with}
 use Rattle.linear_forms.specs.UnitRun.{code_of}
@@ -49,6 +50,7 @@ use Rattle.operation_simulation.proofs.Freeing.{beside_matches}
 use Rattle.operation_simulation.proofs.Returning.{result_value, result_is, call_waits}
 use Rattle.exception_operations.specs.Objects.{without_object}
 use Rattle.exception_operations.specs.Destroys.{AtReturn, DestructorsEnd}
+use Rattle.exception_operations.proofs.Enters.{live_is}
 use Rattle.exception_operations.proofs.Finding.{live_header, object_found}
 use Rattle.exception_operations.proofs.Freed.{freed_match, building_out}
 use Rattle.exception_operations.proofs.Frees.{plan_without, memory_without}
@@ -113,11 +115,11 @@ return_to_catch p n st middle waiting fs r runs there goes frames catch place = 
         }
 
 -- the object is freed
-free_in_catch : (p : Plan) (waiting : Activation) (fs : List Activation) (v : World) (e : ℕ) → waiting.function ≡ end_catch → exception_in_slot waiting.frame 0 ≡ e →
+free_in_catch : (p : Plan) (waiting : Activation) (fs : List Activation) (v : World) (e : ℕ) → waiting.function ≡ end_catch → exception_in_slot waiting.frame 0 ≡ e → is_live v e ≡ true →
     step (code_of p.unit) (in_waiting waiting 2 fs v) ≡ goes_to (in_waiting waiting 3 fs (freed e v))
-free_in_catch p waiting fs v e catch object =
+free_in_catch p waiting fs v e catch object live =
     let at : Function → ℕ → World → LinearState = λ f k u. record { top = record { function = f; place = k; frame = waiting.frame }; frames = fs; world = u } in
-    ap (λ f. step (code_of p.unit) (at f 2 v)) catch ∙ ap (λ k. goes_to (at end_catch 3 (freed k v))) object ∙ ap (λ f. goes_to (at f 3 (freed e v))) (sym catch)
+    ap (λ f. step (code_of p.unit) (at f 2 v)) catch ∙ ap (λ k. next_if (is_live v k) v (goes_to (at end_catch 3 (freed k v)))) object ∙ ap (λ b. next_if b v (goes_to (at end_catch 3 (freed e v)))) live ∙ ap (λ f. goes_to (at f 3 (freed e v))) (sym catch)
 
 -- and end_catch comes back
 catch_returns : (p : Plan) (m : ℕ) (waiting a : Activation) (fs : List Activation) (v : World) → waiting.function ≡ end_catch → a.function ≡ compiled m → slice_get (function p m).ops a.place ≡ Some (plain leave) →
@@ -126,6 +128,17 @@ catch_returns p m waiting a fs v catch caller leaves =
     let at : Function → LinearState = λ f. record { top = record { function = f; place = 3; frame = waiting.frame }; frames = a ∷ fs; world = v } in
     let op : fetch (code_of p.unit) a.function a.place ≡ Some (linear (plain leave)) = ap (λ f. fetch (code_of p.unit) f a.place) caller ∙ ap compiled_op leaves in
     ap (λ f. step (code_of p.unit) (at f)) catch ∙ ap (λ o. settled (finished (kinds (code_of p.unit) a.function) (wanted_by o) (pos 0) a.frame v) a fs v) op
+
+-- the object is that which is being destroyed
+destroys_it : (p : Plan) (n m e : ℕ) (st middle : LinearState) (waiting a : Activation) (fs : List Activation) (r : Option ℕ) → AtReturn p n m e st middle waiting a fs r → destroyed st.frames ≡ e ∷ destroyed fs
+destroys_it p n m e st middle waiting a fs r at =
+    ap destroyed at.frames ∙ ap (λ f. destroyed_by f waiting.frame ++ destroyed (a ∷ fs)) at.catch ∙ ap (λ k. k ∷ destroyed (a ∷ fs)) at.object
+    ∙ ap (λ ds. e ∷ (ds ++ destroyed fs)) (destroyed_nothing p m a at.caller)
+
+is_first : (e : ℕ) (gone : List ℕ) → contains (e ∷ gone) e ≡ true
+is_first e gone =
+    let itself : (e == e) ≡ true = grind (arith, nat_tests) in
+    ap (λ b. b || contains gone e) itself
 
 -- ---- the turns
 
@@ -152,12 +165,8 @@ destructor_ends destroys image p n m e st middle waiting a fs r w back z h at cw
     let places : Addresses = addresses_of p in
     let gone : List ℕ = destroyed fs in
     let kept : KeptExceptions = kept_by w1 in
-    let which : destroyed st.frames ≡ e ∷ gone =
-    ap destroyed at.frames ∙ ap (λ f. destroyed_by f waiting.frame ++ destroyed (a ∷ fs)) at.catch ∙ ap (λ k. k ∷ destroyed (a ∷ fs)) at.object
-    ∙ ap (λ ds. e ∷ (ds ++ gone)) (destroyed_nothing p m a at.caller) in
-    let mm = subst (λ ds. ExceptionsMatch places ds (exceptions_in v) kept) which r1.exceptions in
-    let itself : (e == e) ≡ true = grind (arith, nat_tests) in
-    let flag : contains (e ∷ gone) e ≡ true = ap (λ b. b || contains gone e) itself in
+    let mm = subst (λ ds. ExceptionsMatch places ds (exceptions_in v) kept) (destroys_it p n m e st middle waiting a fs r at) r1.exceptions in
+    let flag : contains (e ∷ gone) e ≡ true = is_first e gone in
     let left = mm.left e flag in
     let y : Exception = native left.type left.destructor left.kept in
     let live = live_header places (e ∷ gone) (exceptions_in v) kept e y mm left.live in
@@ -234,10 +243,16 @@ destructors_end destroys image p n m e st middle waiting a fs r w h at =
         went.step,
         (
           in_waiting waiting 3 (a ∷ fs) (freed e st.world),
-          free_in_catch p waiting (a ∷ fs) st.world e at.catch at.object,
+          free_in_catch p waiting (a ∷ fs) st.world e at.catch at.object (still_live stood),
           (record { top = record { function = a.function; place = a.place + 1; frame = a.frame }; frames = fs; world = freed e st.world }, catch_returns p m waiting a fs (freed e st.world) at.catch at.caller at.leaves, refl),
         ),
       ),
       refl,
       destructor_ends destroys image p n m e st middle waiting a fs r w h.back went.value stood at cw went.value_is,
     )
+  where
+    still_live : (stood : Stands p n st w h.back) → is_live st.world e ≡ true
+    still_live stood =
+        let m = subst (λ ds. ExceptionsMatch (addresses_of p) ds (exceptions_in st.world) (kept_by w)) (destroys_it p n m e st middle waiting a fs r at) stood.runtime.exceptions in
+        let gone = m.left e (is_first e (destroyed fs)) in
+        live_is st.world.live e (native gone.type gone.destructor gone.kept) gone.live

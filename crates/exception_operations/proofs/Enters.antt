@@ -1,6 +1,7 @@
 -- Entering an exception is matched.
 use Rattle.std.proofs.Common.{◌≡◌, ◌∙◌, refl, sym, ap, subst, arith, ℕ, ◌+◌, ◌-◌, ◌&&◌, ◌==◌, Bool, true, false, List, [], ◌∷◌, length, Some}
-use Rattle.std.specs.Prelude.{nat_lt, if◌then◌else◌}
+use Rattle.std.specs.Prelude.{nat_lt, ◌||◌, if◌then◌else◌}
+use Rattle.scope_rules.specs.Class.{some_of}
 use Rattle.std.proofs.lemmas.Bool.Decides.{nat_tests}
 use Rattle.run_items.specs.declared.item.Item.TheVariants.{Enter}
 use Rattle.rv64_isa.specs.Step.{x}
@@ -74,6 +75,15 @@ exception_is (y ∷ lives) e x h = by (y.number == e) (exception_is lives e x) h
   where
     by : (b : Bool) → (live_in lives e ≡ Some x → exception_in lives e ≡ x) → (if b then Some y.exception else live_in lives e) ≡ Some x → (if b then y.exception else exception_in lives e) ≡ x
     by true rest h = cc h
+    by false rest h = rest h
+
+-- an exception that is found is live
+pub live_is : (lives : List Live) (e : ℕ) (x : Exception) → live_in lives e ≡ Some x → some_of (λ y. y.number == e) lives ≡ true
+live_is [] e x h = absurd (cc h)
+live_is (y ∷ lives) e x h = by (y.number == e) (live_is lives e x) h
+  where
+    by : (b : Bool) → (live_in lives e ≡ Some x → some_of (λ y. y.number == e) lives ≡ true) → (if b then Some y.exception else live_in lives e) ≡ Some x → (b || some_of (λ y. y.number == e) lives) ≡ true
+    by true rest h = refl
     by false rest h = rest h
 
 -- ---- an exception is entered on both machines

@@ -1,5 +1,5 @@
 -- The terminate handler begins.
-use Rattle.std.proofs.Common.{◌≡◌, ◌∙◌, refl, sym, ap, subst, arith, ℕ, ◌+◌, ◌-◌, ◌*◌, ◌%◌, ◌^◌, ◌<◌, ◌≤◌, List, [], ◌∷◌, ◌++◌, length, Some, inl, inr}
+use Rattle.std.proofs.Common.{◌≡◌, ◌∙◌, refl, sym, ap, subst, arith, ℕ, ◌+◌, ◌-◌, ◌%◌, ◌^◌, ◌<◌, ◌≤◌, List, [], ◌∷◌, length, inr}
 use Rattle.rv64_isa.specs.State.{State, Part, with_value}
 use Rattle.rv64_isa.specs.Step.{x}
 use Rattle.cxa_runtime.specs.World as abi

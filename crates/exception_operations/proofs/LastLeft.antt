@@ -2,7 +2,7 @@
 use Rattle.std.proofs.Common.{◌≡◌, ◌∙◌, refl, sym, ap, subst, arith, ℕ, ◌+◌, ◌==◌, ◌||◌, Bool, true, false, List, [], ◌∷◌, ◌++◌, append_assoc, Some, None}
 use Rattle.std.specs.Prelude.{if◌then◌else◌}
 use Rattle.std.proofs.lemmas.Bool.Decides.{nat_tests}
-use Rattle.scope_rules.specs.Class.{contains}
+use Rattle.scope_rules.specs.Class.{some_of, contains}
 use Rattle.scope_rules.specs.World.{Installed}
 use Rattle.run_items.specs.declared.item.Item.{Item}
 use Rattle.run_items.specs.declared.item.Item.TheVariants.{Leave, Destroy, Free, Clean}
@@ -22,7 +22,8 @@ use Rattle.cxa_runtime.specs.Raising.{Image}
 use Rattle.region_forms.specs.Caught.{Entry, is_last}
 use Rattle.region_forms.specs.World.{World, Exception, native, foreign, exception_type, type_at, Frame, with_slot, address_word, object_address, nothing}
 use Rattle.region_forms.specs.Effect.{left, cleaned_up, freed}
-use Rattle.linear_forms.specs.Activation.{Activation, State as LinearState, goes_to}
+use Rattle.region_forms.specs.Lives.{is_live, is_built}
+use Rattle.linear_forms.specs.Activation.{Activation, State as LinearState, goes_to, next_if}
 use Rattle.linear_forms.specs.StubOperation.{is_bad, empty_call}
 use Rattle.linear_forms.specs.Machine.{step}
 use Rattle.linear_forms.specs.UnitRun.{code_of}
@@ -45,7 +46,7 @@ use Rattle.exception_operations.proofs.LiveLists.{without}
 use Rattle.exception_operations.proofs.Headers.{slot_below, thrown_or}
 use Rattle.exception_operations.proofs.Freed.{freed_match}
 use Rattle.exception_operations.proofs.Frees.{plan_without, memory_without}
-use Rattle.exception_operations.proofs.Enters.{exception_is}
+use Rattle.exception_operations.proofs.Enters.{exception_is, live_is}
 use Rattle.exception_operations.proofs.Left.{left_match, ended_last, last_out, let_go_match}
 use Rattle.exception_operations.proofs.EndCatching.{catch_called}
 use Rattle.exception_operations.proofs.ComingBack.{runtime_then, returned}
@@ -215,8 +216,8 @@ items_then v x xs more caught = ap (λ is. is ++ more) (leave_shown v x xs caugh
 
 pub leaves_run : EndCatchRuns → CallsAreMade → EndCatchComesBack → EndCatchFrees → LeavesRun
 leaves_run catches made comes frees = record {
-  still_handled = λ image p n st middle y ys w h at last. (
-    (in_catch st 0 no_words st.world, leave_step p n st middle at.at, (in_catch st 3 no_words (left st.world), still_step p st y ys at.caught last, (behind st (left st.world), back_step p n st middle no_words (left st.world) at.at, refl))),
+  still_handled = λ image p n st middle y ys w h at built last. (
+    (in_catch st 0 no_words st.world, leave_step p n st middle at.at, (in_catch st 3 no_words (left st.world), still_step p st y ys at.caught built last, (behind st (left st.world), back_step p n st middle no_words (left st.world) at.at, refl))),
     leave_shown st.world y ys at.caught,
     still_handled comes image p n st middle y ys w h at last,
   );
@@ -227,7 +228,7 @@ leaves_run catches made comes frees = record {
           leave_step p n st middle at.at,
           (
             in_catch st 3 no_words u,
-            last_step p st y ys (foreign k token) at.caught last (exception_is st.world.live y.number (foreign k token) there),
+            last_step p st y ys (foreign k token) at.caught (ap is_built (exception_is st.world.live y.number (foreign k token) there)) last (exception_is st.world.live y.number (foreign k token) there),
             (behind st u, back_step p n st middle no_words u at.at, refl),
           ),
         ),
@@ -246,17 +247,19 @@ leaves_run catches made comes frees = record {
         let d : World = destroying e st.world in
         let frame : Frame = with_slot 1 nothing (with_slot 0 (address_word (object_address e)) no_words) in
         let u : World = if is_bad (Some type) then empty_call fs d else d in
-        let by_case : Alike u (left st.world) × (u.items ≡ d.items) = subst (λ c. let z = (if c then empty_call fs d else d) in Alike z (left st.world) × (z.items ≡ d.items)) (sym is) (cases b) in (
+        let by_case : Alike u (left st.world) × (u.items ≡ d.items) = subst (λ c. let z = (if c then empty_call fs d else d) in Alike z (left st.world) × (z.items ≡ d.items)) (sym is) (cases b) in
+        let lives : u.live ≡ st.world.live = ap (λ (z : LinearExceptions). z.live) by_case.0.exceptions in
+        let live_u : is_live u e ≡ true = ap (some_of (λ x. x.number == e)) lives ∙ live_is st.world.live e (native type None kept) there in (
           (
             in_catch st 0 no_words st.world,
             leave_step p n st middle at.at,
             (
               in_catch st 1 frame d,
-              last_step p st y ys (native type None kept) at.caught last (exception_is st.world.live e (native type None kept) there),
+              last_step p st y ys (native type None kept) at.caught (ap is_built (exception_is st.world.live e (native type None kept) there)) last (exception_is st.world.live e (native type None kept) there),
               (
                 in_catch st 2 frame u,
                 none_step p st e type kept there frame refl,
-                (in_catch st 3 frame (freed e u), refl, (behind st (freed e u), back_step p n st middle frame (freed e u) at.at, refl)),
+                (in_catch st 3 frame (freed e u), ap (λ b. next_if b u (goes_to (in_catch st 3 frame (freed e u)))) live_u, (behind st (freed e u), back_step p n st middle frame (freed e u) at.at, refl)),
               ),
             ),
           ),

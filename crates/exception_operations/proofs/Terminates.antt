@@ -1,24 +1,14 @@
 -- Terminating is matched.
-use Rattle.std.proofs.Common.{◌≡◌, ◌≢◌, ◌∙◌, refl, sym, ap, subst, arith, ℕ, suc, ◌+◌, ◌-◌, ◌*◌, ◌%◌, ◌^◌, ◌<◌, ◌≤◌, Bool, true, false, ℤ, List, [], ◌∷◌, ◌++◌, length, length-append, Option, Some, None, is_some, inl, inr}
-use Rattle.std.specs.Prelude.{◌⊎◌, slice_get, if◌then◌else◌}
-use Rattle.scope_rules.specs.Outcome.{aborted}
+use Rattle.std.proofs.Common.{◌≡◌, ◌∙◌, refl, sym, subst, arith, ℕ, ◌+◌, ◌-◌, ◌≤◌, false, List, [], ◌∷◌, length, Option, Some}
 use Rattle.rv64_isa.specs.State.{State}
 use Rattle.rv64_isa.specs.Step.{x}
-use Rattle.cxa_runtime.specs.declared.effect.End.TheVariants.{Aborted}
 use Rattle.cxa_runtime.specs.World as abi
 use Rattle.cxa_runtime.specs.Raising.{Image}
-use Rattle.cxa_runtime.specs.Terminate.{terminates}
-use Rattle.cxa_runtime.specs.Call.{call_effect}
-use Rattle.cxa_runtime.specs.Run.{Ran, run}
 use Rattle.region_forms.specs.World.{World}
 use Rattle.region_forms.specs.Effect.{new_world}
-use Rattle.linear_forms.specs.Linear.{return}
 use Rattle.linear_forms.specs.Stub.{terminating}
-use Rattle.linear_forms.specs.Activation.{Activation, State as LinearState, goes_to, depth_of, terminated}
-use Rattle.linear_forms.specs.Machine.{step, go_on, exec, over}
-use Rattle.linear_forms.specs.UnitRun.{code_of}
-use Rattle.emission_forms.specs.Registers.{ra, sp}
-use Rattle.emission_forms.specs.Piece.{Piece}
+use Rattle.linear_forms.specs.Activation.{Activation, State as LinearState, depth_of}
+use Rattle.emission_forms.specs.Registers.{sp}
 use Rattle.emission_forms.specs.RuntimeCall.{runtime_call}
 use Rattle.emission_forms.specs.LinearCode.{linear_code}
 use Rattle.emission_forms.specs.Routine.{op_word}
@@ -27,15 +17,14 @@ use Rattle.code_simulation.specs.Turning.{Turns, Reaches}
 use Rattle.code_simulation.specs.Laws.{CallsAreTurns}
 use Rattle.code_simulation.proofs.Fetching.{pieces_split}
 use Rattle.code_simulation.proofs.Going.{goes_none}
-use Rattle.code_simulation.proofs.Turning.{turns_then, executes_turns}
+use Rattle.code_simulation.proofs.Turning.{turns_then}
 use Rattle.stub_simulation.specs.Stretches.{StubAt, stub_word}
 use Rattle.stub_simulation.specs.Calls.{asked}
 use Rattle.stub_simulation.specs.Terminates as stubs
 use Rattle.stub_simulation.specs.Terminates.{MayTerminate, sent, CallsTerminate}
-use Rattle.stub_simulation.specs.Terminate.{TerminateRuns}
-use Rattle.operation_simulation.specs.Plan.{Plan, function, shape, slot_kinds, routine, first_word, setting}
+use Rattle.operation_simulation.specs.Plan.{Plan, shape, slot_kinds, routine, first_word, setting}
 use Rattle.operation_simulation.specs.Calls.{open_bytes, stack_end}
-use Rattle.operation_simulation.specs.Exceptions.{Addresses, addresses_of, exceptions_in, kept_by, destroyed, IsFunction, ExceptionsMatch}
+use Rattle.operation_simulation.specs.Exceptions.{Addresses, addresses_of, kept_by, destroyed, IsFunction}
 use Rattle.operation_simulation.specs.Matches.{StackMay, RuntimeMatches, MemoryMatches, Matches}
 use Rattle.operation_simulation.specs.Entering.{opened, frame_for}
 use Rattle.operation_simulation.proofs.Words.{OperationAt, operation_at, even_base}
@@ -43,14 +32,12 @@ use Rattle.operation_simulation.proofs.Matching.{Stands, stands_by, runtime_stay
 use Rattle.operation_simulation.proofs.Holding.{same_number}
 use Rattle.operation_simulation.proofs.Lines.{matches_alike}
 use Rattle.operation_simulation.proofs.Freeing.{beside_matches}
-use Rattle.operation_simulation.proofs.Given.{same_beside}
 use Rattle.operation_simulation.proofs.Calling.{stack_at, runtime_opened, runtime_pushed}
-use Rattle.exception_operations.specs.Leaves.{StepsTo}
-use Rattle.exception_operations.specs.Terminates.{AtTerminating, waiting_terminate, ending_world, in_handler, RunAborts, LinearAborts, TerminatesRun}
+use Rattle.exception_operations.specs.Terminates.{AtTerminating, waiting_terminate, ending_world, in_handler}
 use Rattle.exception_operations.proofs.EndCatching.{room_below}
-use Rattle.exception_operations.proofs.Ecalls.{AtEcall, ecall_reached}
-use Rattle.exception_operations.proofs.Terminating.{TerminatingOp, terminating_op}
-use Rattle.exception_operations.proofs.Handlers.{HandlerEntered, handler_entered, handler_matches}
+use Rattle.exception_operations.proofs.Ecalls.{ecall_reached}
+use Rattle.exception_operations.proofs.Terminating.{terminating_op}
+use Rattle.exception_operations.proofs.Handlers.{handler_entered, handler_matches}
 
 -- ---- the runtime call, from its ECALL on
 

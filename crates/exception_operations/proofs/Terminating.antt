@@ -1,13 +1,13 @@
 -- Operations that terminate: their steps, and the runtime calls that they make.
-use Rattle.std.proofs.Common.{◌≡◌, ◌≢◌, ◌∙◌, refl, sym, ap, subst, arith, ℕ, suc, ◌+◌, ◌^◌, ◌<◌, ◌≤◌, ◌&&◌, Bool, true, false, ℤ, pos, negsuc, List, [], ◌∷◌, ◌++◌, length, slice_set, length-set, Option, Some, None, inl, inr}
-use Rattle.std.specs.Prelude.{◌⊎◌, slice_get, nat_le, nat_lt, if◌then◌else◌}
+use Rattle.std.proofs.Common.{◌≡◌, ◌∙◌, refl, ap, arith, ℕ, suc, ◌^◌, ◌<◌, ◌≤◌, Bool, true, false, pos, negsuc, List, [], ◌∷◌, ◌++◌, length, slice_set, length-set, Some, None, inl, inr}
+use Rattle.std.specs.Prelude.{if◌then◌else◌}
 use Rattle.std.proofs.lemmas.Bool.Decides.{nat_tests}
 use Rattle.cxx_ast.specs.declared.name.Builtin.TheVariants.{Terminate}
 use Rattle.caught_stack.specs.declared.header.HeaderKind.TheVariants.{Building}
 use Rattle.caught_stack.specs.Live.{Live as Headers, slots, is_vacant, live_count}
 use Rattle.caught_stack.specs.Caught.{Caught}
 use Rattle.caught_stack.specs.Exceptions.{Exceptions, IsSound}
-use Rattle.caught_stack.specs.Rethrow.{rethrown_on, rethrown as runtime_rethrown}
+use Rattle.caught_stack.specs.Rethrow.{rethrown_on}
 use Rattle.caught_stack.proofs.Headers.{vacant_below, vacant_not_live, both_counts}
 use Rattle.cxa_runtime.specs.Objects.{slot_for, first_vacant_from}
 use Rattle.cxa_runtime.specs.Allocate.{allocate, made_in, new_header}
@@ -17,12 +17,12 @@ use Rattle.cxa_runtime.specs.World as abi
 use Rattle.cxa_runtime.specs.Raising.{Image}
 use Rattle.cxa_runtime.specs.Call.{call_effect, numbered}
 use Rattle.cxa_runtime.proofs.Changes.{full_gives_none}
-use Rattle.region_forms.specs.Form.{no_arguments, make, rethrow}
+use Rattle.region_forms.specs.Form.{no_arguments}
 use Rattle.region_forms.specs.Caught.{Entry}
-use Rattle.region_forms.specs.World.{World}
 use Rattle.region_forms.specs.Effect as effects
+use Rattle.region_forms.specs.Lives.{can_travel}
 use Rattle.region_forms.specs.Effect.{is_full}
-use Rattle.linear_forms.specs.Linear.{LinearOp, plain}
+use Rattle.linear_forms.specs.Linear.{LinearOp}
 use Rattle.linear_forms.specs.Activation.{State, terminated}
 use Rattle.linear_forms.specs.Machine.{step}
 use Rattle.linear_forms.specs.Operation.{act, performed}
@@ -32,14 +32,14 @@ use Rattle.emission_forms.specs.Registers.{a0}
 use Rattle.emission_forms.specs.PlaceCode.{slot_stored}
 use Rattle.emission_forms.specs.RuntimeCall.{runtime_call}
 use Rattle.emission_forms.specs.LinearCode.{linear_code}
-use Rattle.operation_simulation.specs.Plan.{Plan, shape, slot_kinds}
-use Rattle.operation_simulation.specs.Exceptions.{Addresses, LinearExceptions, KeptExceptions, AreCaught, count_of, ExceptionsMatch}
-use Rattle.operation_simulation.proofs.Quiet.{step_is, plain_is}
+use Rattle.operation_simulation.specs.Plan.{Plan, shape}
+use Rattle.operation_simulation.specs.Exceptions.{Addresses, KeptExceptions, AreCaught, ExceptionsMatch}
+use Rattle.operation_simulation.proofs.Quiet.{step_is}
 use Rattle.exception_operations.specs.Answers.{CallsBuiltin}
 use Rattle.exception_operations.specs.Terminates.{IsNothing, Terminating, AtTerminating}
 use Rattle.exception_operations.proofs.Headers.{count_more}
 use Rattle.exception_operations.proofs.Makes.{made_world, made_frame}
-use Rattle.exception_operations.proofs.Builtins.{BuiltinOp, builtin_op}
+use Rattle.exception_operations.proofs.Builtins.{builtin_op}
 
 -- ---- the runtime calls
 
@@ -139,4 +139,4 @@ terminating_op image p n st at = by at.terminates
         nothing_step : (xs : List Entry) → IsNothing xs →
             performed (code_of p.unit) (effects.rethrown xs st.world) st.top st.frames st.world ≡ terminated st.world.installed.terminate_handler (st.top ∷ st.frames) st.world
         nothing_step [] nothing = refl
-        nothing_step (x ∷ xs) nothing = ap (λ b. performed (code_of p.unit) (if b then effects.terminates st.world.installed.terminate_handler st.world else effects.raises x.number st.world) st.top st.frames st.world) nothing
+        nothing_step (x ∷ xs) nothing = ap (λ b. performed (code_of p.unit) (if b then effects.terminates st.world.installed.terminate_handler st.world else effects.only_where (can_travel st.world x.number) (effects.raises x.number st.world)) st.top st.frames st.world) nothing

@@ -8,6 +8,7 @@ use Rattle.region_forms.specs.Form.{leave}
 use Rattle.region_forms.specs.Caught.{Entry, is_last}
 use Rattle.region_forms.specs.World.{World, native, foreign, with_item}
 use Rattle.region_forms.specs.Effect.{left, cleaned_up, freed}
+use Rattle.region_forms.specs.Lives.{can_travel}
 use Rattle.linear_forms.specs.Linear.{plain}
 use Rattle.linear_forms.specs.Activation.{Code, Activation, State, goes_to}
 use Rattle.linear_forms.specs.StubOperation.{is_bad, empty_call}
@@ -45,7 +46,7 @@ destroyed_world type e fs v = freed e (if is_bad (Some type) then empty_call fs 
 -- fourteen turns. Where no handler has a foreign exception any more, it is cleaned up too. And one of this language without a destructor is
 -- destroyed and freed: five steps are matched by at most eighteen turns.
 pub record LeavesRun : Type 0 where
-  pub still_handled : (image : Image) (p : Plan) (n : ℕ) (st middle : State) (x : Entry) (xs : List Entry) (w : abi.World) → Matches p st w → AtLeave p n st middle x xs → is_last x ≡ false →
+  pub still_handled : (image : Image) (p : Plan) (n : ℕ) (st middle : State) (x : Entry) (xs : List Entry) (w : abi.World) → Matches p st w → AtLeave p n st middle x xs → can_travel st.world x.number ≡ true → is_last x ≡ false →
       let next = behind st (left st.world) in let items = Leave x.number ∷ [] in
       StepsTo (code_of p.unit) 3 st next × Shows st next items × Reaches image 14 w items (λ u. Matches p next u)
   pub foreign_cleaned : (image : Image) (p : Plan) (n : ℕ) (st middle : State) (x : Entry) (xs : List Entry) (k token : ℕ) (w : abi.World) → Matches p st w → AtLeave p n st middle x xs → is_last x ≡ true →

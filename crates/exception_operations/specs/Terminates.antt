@@ -1,5 +1,5 @@
 -- The program terminates: its handler is called, or the run aborts.
-use Rattle.std.specs.Prelude.{◌≡◌, ◌⊎◌, ℕ, ◌+◌, ◌<◌, ◌≤◌, true, false, List, [], ◌∷◌, length, slice_get, Option, Some, None}
+use Rattle.std.specs.Prelude.{◌≡◌, ◌⊎◌, ℕ, ◌+◌, ◌≤◌, true, false, List, [], ◌∷◌, length, slice_get, Option, Some, None}
 use Rattle.cxx_ast.specs.declared.name.Builtin.TheVariants.{Terminate}
 use Rattle.scope_rules.specs.Outcome.{aborted}
 use Rattle.cxa_runtime.specs.declared.effect.End.TheVariants.{Aborted}
