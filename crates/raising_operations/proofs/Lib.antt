@@ -12,4 +12,7 @@ pub mod Thrown
 pub mod Selectors
 pub mod Aiming
 pub mod Raised
+pub mod Targeted
+pub mod Native
 pub mod ThrowWords
+pub mod Throwing

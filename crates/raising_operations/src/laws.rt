@@ -1,6 +1,11 @@
 // Laws of raises in words: calls of no effect, whose contracts state what holds of every unit.
 ghost use Rattle.raising_operations.specs.Pads.{PadsRun};
 ghost use Rattle.raising_operations.specs.Stacks.{StacksStand};
+ghost use Rattle.raising_operations.specs.Throws.{ThrowsRun};
+
+use code_simulation::laws::calls_are_turns;
+use raise_simulation::laws::raises_agree;
+use stub_simulation::laws::calls_are_made;
 
 /// Where a state of the machine for linear code matches the stack in memory, the unwinder meets its open calls there, and the exception tables
 /// say of each what the linear code says.
@@ -12,3 +17,12 @@ pub fn stacks_stand()
 pub fn pads_run()
     ensures { PadsRun }
 {}
+
+/// An exception that is thrown comes to the landing pad on the ABI machine that it comes to on the machine for linear code.
+pub fn throws_run()
+    ensures { ThrowsRun }
+{
+    calls_are_turns();
+    calls_are_made();
+    raises_agree();
+}

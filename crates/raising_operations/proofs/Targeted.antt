@@ -1,0 +1,49 @@
+-- A raise that comes to a call has a target.
+use Rattle.std.proofs.Common.{◌≡◌, refl, sym, ap, ℕ, List, ◌∷◌, Option, Some, None, inl, inr}
+use Rattle.std.specs.Prelude.{◌⊎◌, is_some}
+use Rattle.scope_rules.specs.Outcome.{aborted}
+use Rattle.region_forms.specs.World.{nothing, World, Exception, building, native, foreign, exception_at, type_at}
+use Rattle.region_forms.specs.Effect.{entered_doomed, flies}
+use Rattle.linear_forms.specs.Search.{found_above}
+use Rattle.linear_forms.specs.Stub.{terminating}
+use Rattle.linear_forms.specs.Activation.{Code, Activation, State, goes_to, finishes, by_program, stub_frame, function_word, terminated, look}
+use Rattle.linear_forms.specs.Unwinding.{unwind, unwound_above, doomed_by, doomed, raised_to, raise}
+use Rattle.raising_operations.proofs.Passing.{one_of_both}
+
+pub begins_terminating : (h : Option ℕ) (fs : List Activation) (w : World) (st : State) → terminated h fs w ≡ goes_to st → st.top.function ≡ terminating
+begins_terminating h fs w st e = by (one_of_both w.ending (finishes (by_program aborted) w) (goes_to begun) st e)
+  where
+    begun : State
+    begun = record { top = record { function = terminating; place = 0; frame = stub_frame (function_word h) nothing nothing }; frames = fs; world = record w { ending = is_some h } }
+
+    same : (a b : State) → goes_to a ≡ goes_to b → a ≡ b
+    same a b e = cc
+
+    by : (finishes (by_program aborted) w ≡ goes_to st) ⊎ (goes_to begun ≡ goes_to st) → st.top.function ≡ terminating
+    by (inl g) = absurd (cc g)
+    by (inr g) = ap (λ x. x.top.function) (sym (same begun st g))
+
+doomed_terminates : (e : ℕ) (fs : List Activation) (w : World) (st : State) → doomed e fs w ≡ goes_to st → st.top.function ≡ terminating
+doomed_terminates e fs w st h = by (one_of_both w.ending (finishes (by_program aborted) w) (doomed_by e (exception_at w e) fs w) st h)
+  where
+    kinds : (x : Exception) → doomed_by e x fs w ≡ goes_to st → st.top.function ≡ terminating
+    kinds building g = begins_terminating w.installed.terminate_handler fs w st g
+    kinds (native t d handlers) g = begins_terminating handlers.terminate_handler fs (entered_doomed e w) st g
+    kinds (foreign k token) g = begins_terminating w.installed.terminate_handler fs w st g
+
+    by : (finishes (by_program aborted) w ≡ goes_to st) ⊎ (doomed_by e (exception_at w e) fs w ≡ goes_to st) → st.top.function ≡ terminating
+    by (inl g) = absurd (cc g)
+    by (inr g) = kinds (exception_at w e) g
+
+-- its depth is found, and the unwind comes to the next state
+pub record Targeted (code : Code) (e : ℕ) (a : Activation) (fs : List Activation) (v : World) (next : State) : Type 0 where
+  pub depth : ℕ
+  pub found : found_above code (type_at v e) (a ∷ fs) ≡ Some depth
+  pub unwound : unwound_above code depth e (a ∷ fs) (flies e v) ≡ goes_to next
+
+pub targeted : (code : Code) (e : ℕ) (a : Activation) (fs : List Activation) (v : World) (next : State) → raise code e a fs v ≡ goes_to next → (next.top.function ≡ terminating → ⊥) → Targeted code e a fs v next
+targeted code e a fs v next h live = by (found_above code (type_at v e) (a ∷ fs)) refl h
+  where
+    by : (o : Option ℕ) → found_above code (type_at v e) (a ∷ fs) ≡ o → raised_to o e (a ∷ fs) v (λ t. unwind code (look code a.function a.place) t e a.function a.frame fs (flies e v)) ≡ goes_to next → Targeted code e a fs v next
+    by None is g = absurd (live (doomed_terminates e (a ∷ fs) v next g))
+    by (Some depth) is g = record { depth = depth; found = is; unwound = g }
