@@ -1,6 +1,7 @@
 -- An exception is thrown on both machines.
 use Rattle.std.proofs.Common.{◌≡◌, ◌∙◌, refl, sym, ap, subst, arith, ℕ, ◌+◌, ◌^◌, ◌<◌, List, [], ◌∷◌, length, length-append, append-nil, map, Option, Some}
-use Rattle.scope_rules.specs.Class.{contains}
+use Rattle.std.specs.Prelude.{not, ◌&&◌, ◌||◌, ◌==◌, Bool, true, false, if◌then◌else◌}
+use Rattle.scope_rules.specs.Class.{contains, some_of}
 use Rattle.rv64_isa.specs.State.{State}
 use Rattle.rv64_isa.specs.Step.{x}
 use Rattle.elf_image.specs.Clean.{CleanImage}
@@ -23,12 +24,14 @@ use Rattle.cxa_runtime.specs.Call.{call_effect, numbered}
 use Rattle.cxa_runtime.specs.Run.{counted}
 use Rattle.eh_run.specs.Program.{program_of}
 use Rattle.region_forms.specs.Form.{throw}
-use Rattle.region_forms.specs.World.{World, Exception, building, native, exception_of, exception_in_slot, exception_type, type_at}
-use Rattle.region_forms.specs.Effect.{flies, kept}
+use Rattle.region_forms.specs.World.{World, Exception, building, native, foreign, Live, exception_in, exception_of, exception_in_slot, exception_type, type_at}
+use Rattle.region_forms.specs.Lives.{is_built, is_being_built}
+use Rattle.region_forms.specs.Effect.{raises, only_where, flies, kept}
 use Rattle.linear_forms.specs.Search.{found_above}
 use Rattle.linear_forms.specs.Linear.{plain}
 use Rattle.linear_forms.specs.Stub.{compiled, terminating}
 use Rattle.linear_forms.specs.Activation.{State as LinearState, goes_to}
+use Rattle.linear_forms.specs.Operation.{performed}
 use Rattle.linear_forms.specs.Unwinding.{raise}
 use Rattle.linear_forms.specs.UnitRun.{code_of}
 use Rattle.emission_forms.specs.Registers.{sp, a0, a1, a2}
@@ -46,7 +49,7 @@ use Rattle.image_tables.specs.Functions.{records_end}
 use Rattle.image_tables.proofs.TypesRead.{types_are_read}
 use Rattle.raise_simulation.specs.Raises.{RaisesAgree}
 use Rattle.operation_simulation.specs.Plan.{Plan, shape, routine, first_word, setting}
-use Rattle.operation_simulation.specs.Exceptions.{addresses_of, exceptions_in, kept_by, destroyed, record_address}
+use Rattle.operation_simulation.specs.Exceptions.{live_in, addresses_of, exceptions_in, kept_by, destroyed, record_address}
 use Rattle.operation_simulation.specs.Matches.{RuntimeMatches, MemoryMatches}
 use Rattle.operation_simulation.specs.Runs.{StepAt}
 use Rattle.operation_simulation.proofs.Words.{operation_at}
@@ -80,10 +83,35 @@ throws_so image y slot rec k h types next found type read function effect =
     ∙ ap (λ a. throws image y (native_object y o rec a) types) function ∙ effect
 
 -- ---- the step
-throw_step : (p : Plan) (n s e t : ℕ) (d : Option ℕ) (st next : LinearState) → StepAt p st next n (plain (throw s t d)) → HoldsObject p n st.top.frame s e → raise (code_of p.unit) e st.top st.frames (kept e t d st.world) ≡ goes_to next
+-- an exception is thrown only while it is being built
+pub record ThrowStep (p : Plan) (e t : ℕ) (d : Option ℕ) (st next : LinearState) : Type 0 where
+  pub building : live_in st.world.live e ≡ Some building
+  pub raises : raise (code_of p.unit) e st.top st.frames (kept e t d st.world) ≡ goes_to next
+
+being_built : (lives : List Live) (e : ℕ) → (some_of (λ x. x.number == e) lives && not (is_built (exception_in lives e))) ≡ true → live_in lives e ≡ Some building
+being_built [] e h = absurd (cc h)
+being_built (y ∷ lives) e h = by (y.number == e) (being_built lives e) h
+  where
+    built : (x : Exception) → not (is_built x) ≡ true → Some x ≡ Some building
+    built building h = refl
+    built (native t d kept) h = absurd (cc h)
+    built (foreign k t) h = absurd (cc h)
+
+    by : (b : Bool) → ((some_of (λ x. x.number == e) lives && not (is_built (exception_in lives e))) ≡ true → live_in lives e ≡ Some building) →
+        ((b || some_of (λ x. x.number == e) lives) && not (is_built (if b then y.exception else exception_in lives e))) ≡ true → (if b then Some y.exception else live_in lives e) ≡ Some building
+    by true rest h = built y.exception h
+    by false rest h = rest h
+
+throw_step : (p : Plan) (n s e t : ℕ) (d : Option ℕ) (st next : LinearState) → StepAt p st next n (plain (throw s t d)) → HoldsObject p n st.top.frame s e → ThrowStep p e t d st next
 throw_step p n s e t d st next at holds =
     let number : exception_in_slot st.top.frame s ≡ e = ap exception_of holds.is in
-    ap (λ k. raise (code_of p.unit) k st.top st.frames (kept k t d st.world)) (sym number) ∙ sym (plain_is p n st (throw s t d) at.runs) ∙ sym (step_is p n st (plain (throw s t d)) at.runs at.there) ∙ at.step
+    by (is_being_built st.world e) refl
+    (ap (λ k. performed (code_of p.unit) (only_where (is_being_built st.world k) (raises k (kept k t d st.world))) st.top st.frames st.world) (sym number) ∙ sym (plain_is p n st (throw s t d) at.runs)
+    ∙ sym (step_is p n st (plain (throw s t d)) at.runs at.there) ∙ at.step)
+  where
+    by : (b : Bool) → is_being_built st.world e ≡ b → performed (code_of p.unit) (only_where b (raises e (kept e t d st.world))) st.top st.frames st.world ≡ goes_to next → ThrowStep p e t d st next
+    by true is g = record { building = being_built st.world.live e is; raises = g }
+    by false is g = absurd (cc g)
 
 -- ---- the words, and the call
 running_still : (p : Plan) (i : CleanImage) (s u : State) → u.memory ≡ s.memory → IsRunning p i s → IsRunning p i u
@@ -93,13 +121,14 @@ throw_words : (p : Plan) (n s t : ℕ) (d : Option ℕ) → length (linear_code 
 throw_words p n s t d = omega (arith, length-append (destructor_set a2 d) (runtime_call 5))
 
 throw_runs : CallsAreTurns → CallsAreMade → RaisesAgree → (i : CleanImage) (p : Plan) (n m s e t : ℕ) (d : Option ℕ) (st next : LinearState) (w : abi.World) (back : ℕ) → Stands p n st w back → IsRunning p i w.hart →
-    StepAt p st next n (plain (throw s t d)) → MayThrow p n st.top.frame st.world s e t d → PadsArePlain p → FiltersAreInts p → next.top.function ≡ compiled m →
+    StepAt p st next n (plain (throw s t d)) → MayThrow p n st.top.frame s e t d → PadsArePlain p → FiltersAreInts p → next.top.function ≡ compiled m →
     (next.world ≡ flies e (kept e t d st.world)) × Raised p i st next w e (length (linear_code (shape p n) (plain (throw s t d))))
 throw_runs turns made agree i p n m s e t d st next w back h running at may plains ints callee =
     let image : Image = (program_of i).image in
     let g : Ground = (setting p n).ground in
     let here : ℕ = first_word p n + op_word (routine p n) st.top.place in
     let v : World = st.world in
+    let stepped = throw_step p n s e t d st next at may.holds in
     let words : ℕ = 3 + length (destructor_set a2 d) in
     let all = throw_words p n s t d in
     let low : record_at (records_end p.unit) t < 2 ^ 64 = omega (arith, running.base, h.memory.unit.stubs.start.0.word.below) in
@@ -109,7 +138,7 @@ throw_runs turns made agree i p n m s e t d st next w back h running at may plai
     let y : abi.World = asked ec.behind ec.at in
     let q = runtime_stays p st.frames v w ec.at ec.runtime h.runtime in
     let r : RuntimeMatches p st.frames v y = record { input = q.input; replies = q.replies; last_number = q.last_number; terminating = q.terminating; exceptions = q.exceptions; plan = q.plan } in
-    let live = live_header (addresses_of p) (destroyed st.frames) (exceptions_in v) (kept_by y) e building q.exceptions may.building in
+    let live = live_header (addresses_of p) (destroyed st.frames) (exceptions_in v) (kept_by y) e building q.exceptions stepped.building in
     let slot : ℕ = live.slot in
     let header : Header = live.has.header in
     let kind : header.kind ≡ Building = counts_building (addresses_of p) (contains (destroyed st.frames) e) header live.is in
@@ -123,10 +152,10 @@ throw_runs turns made agree i p n m s e t d st next w back h running at may plai
     = ap (object_where is_building ec.at.exceptions.live) is0 ∙ object_found is_building ec.at.exceptions.live slot header live.below live.has.there (ap is_building kind) in
     let there = running_still p i w.hart ec.behind ec.memory running in
     let read : type_records y.hart rec ≡ Some types = ap (λ b. type_records ec.behind (record_at b t)) running.base ∙ types_are_read p.unit i ec.behind t there.image there.run may.type may.bases in
-    let goal = targeted (code_of p.unit) e st.top st.frames (kept e t d v) next (throw_step p n s e t d st next at may.holds) (λ b. let both : compiled m ≡ terminating = sym callee ∙ b in cc both) in
+    let goal = targeted (code_of p.unit) e st.top st.frames (kept e t d v) next stepped.raises (λ b. let both : compiled m ≡ terminating = sym callee ∙ b in cc both) in
     let flew : World = flies e (kept e t d v) in
     let exception : Exception = native t d v.installed in
-    let now = replaced_in v.live e exception building may.building in
+    let now = replaced_in v.live e exception building stepped.building in
     let type : type_at flew e ≡ Some t = ap exception_type (exception_is flew.live e exception now) in
     let incall : InCall p n back st.top st.frames v ec.behind = record {
       runs = h.runs;
@@ -137,8 +166,8 @@ throw_runs turns made agree i p n m s e t d st next w back h running at may plai
     } in
     let lands = raise_lands p i n back st.top st.frames v ec.behind there incall agree flew (flying o y) e goal.depth m (Some t) y.exceptions o next refl may.type type
     (ap (λ k. found_above (code_of p.unit) k (st.top ∷ st.frames)) (sym type) ∙ goal.found) goal.unwound callee plains ints refl refl (omega arith)
-    (λ cfa table. thrown_runtime p st.frames v y e slot t given.function d cfa table r live.has kind may.building given.is)
-    (omega (arith, q.exceptions.numbers e building may.building), sym live.object, omega (arith, live.below)) in
+    (λ cfa table. thrown_runtime p st.frames v y e slot t given.function d cfa table r live.has kind stepped.building given.is)
+    (omega (arith, q.exceptions.numbers e building stepped.building), sym live.object, omega (arith, live.below)) in
     let effect : (wish : ℕ) → call_effect 5 image wish y ≡ abi.goes lands.next = λ wish. throw_is image wish y ∙ throws_so image y slot rec given.function header types lands.next found is1 read is2 lands.effect in
     let called = subst (Turns image (ec.turns + 1) w (counted lands.next)) lands.shown (call_made made image g here words 5 w given.goes.after ec lands.next effect) in
     let flown : abi.World = flying o y in

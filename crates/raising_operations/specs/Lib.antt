@@ -1,4 +1,5 @@
 pub mod Stacks
 pub mod Targets
 pub mod Throws
+pub mod Resumes
 pub mod Pads

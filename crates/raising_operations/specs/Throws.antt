@@ -5,7 +5,7 @@ use Rattle.elf_image.specs.Clean.{CleanImage}
 use Rattle.cxa_runtime.specs.World as abi
 use Rattle.eh_run.specs.Program.{program_of}
 use Rattle.region_forms.specs.Form.{throw}
-use Rattle.region_forms.specs.World.{building, Frame, World, type_at}
+use Rattle.region_forms.specs.World.{Frame, type_at}
 use Rattle.linear_forms.specs.Linear.{plain}
 use Rattle.linear_forms.specs.Search.{found_above}
 use Rattle.linear_forms.specs.Stub.{compiled}
@@ -15,7 +15,7 @@ use Rattle.emission_forms.specs.Registers.{sp}
 use Rattle.emission_forms.specs.LinearCode.{linear_code}
 use Rattle.routine_tables.specs.Types.{ChainEnds}
 use Rattle.operation_simulation.specs.Plan.{Plan, shape}
-use Rattle.operation_simulation.specs.Exceptions.{live_in, HasHeader}
+use Rattle.operation_simulation.specs.Exceptions.{HasHeader}
 use Rattle.operation_simulation.specs.Matches.{Matches}
 use Rattle.operation_simulation.specs.Operations.{Matched}
 use Rattle.operation_simulation.specs.Returns.{closed}
@@ -29,10 +29,9 @@ abbrev pub DestructorIsThere : Plan → Option ℕ → Type 0
 DestructorIsThere p None = ⊤
 DestructorIsThere p (Some m) = m < length p.unit.functions
 
--- a slot holds the address of an exception that is being built; its type, with all its bases, and its destructor are there
-pub record MayThrow (p : Plan) (n : ℕ) (frame : Frame) (v : World) (s e t : ℕ) (d : Option ℕ) : Type 0 where
+-- a slot holds the address of an exception; its type, with all its bases, and its destructor are there
+pub record MayThrow (p : Plan) (n : ℕ) (frame : Frame) (s e t : ℕ) (d : Option ℕ) : Type 0 where
   pub holds : HoldsObject p n frame s e
-  pub building : live_in v.live e ≡ Some building
   pub type : t < length p.unit.types
   pub bases : ChainEnds p.unit.types t
   pub destructor : DestructorIsThere p d
@@ -50,7 +49,7 @@ pub record Raised (p : Plan) (i : CleanImage) (st next : State) (w : abi.World) 
   pub found : found_above (code_of p.unit) (type_at next.world e) (st.top ∷ st.frames) ≡ Some depth
   pub ran : Matched (program_of i).image (words + 2) w [] (λ u. Matches (closed p next.top.frame.call) next u × AimedAt u e (target_end p depth (x w.hart sp) (st.top ∷ st.frames)))
 
--- A step that throws an exception which is being built, and comes to a pad of a compiled function.
+-- A step that throws an exception, and comes to a pad of a compiled function.
 abbrev pub ThrowsRun : Type 0
-ThrowsRun = (i : CleanImage) (p : Plan) (n m s e t : ℕ) (d : Option ℕ) (st next : State) (w : abi.World) → Matches p st w → IsRunning p i w.hart → StepAt p st next n (plain (throw s t d)) → MayThrow p n st.top.frame st.world s e t d → PadsArePlain p →
+ThrowsRun = (i : CleanImage) (p : Plan) (n m s e t : ℕ) (d : Option ℕ) (st next : State) (w : abi.World) → Matches p st w → IsRunning p i w.hart → StepAt p st next n (plain (throw s t d)) → MayThrow p n st.top.frame s e t d → PadsArePlain p →
     FiltersAreInts p → next.top.function ≡ compiled m → Shows st next [] × Raised p i st next w e (length (linear_code (shape p n) (plain (throw s t d))))
