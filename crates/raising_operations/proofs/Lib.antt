@@ -16,3 +16,6 @@ pub mod Targeted
 pub mod Native
 pub mod ThrowWords
 pub mod Throwing
+pub mod Onward
+pub mod Arriving
+pub mod Resuming

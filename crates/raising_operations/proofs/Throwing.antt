@@ -114,7 +114,7 @@ throw_step p n s e t d st next at holds =
     by false is g = absurd (cc g)
 
 -- ---- the words, and the call
-running_still : (p : Plan) (i : CleanImage) (s u : State) → u.memory ≡ s.memory → IsRunning p i s → IsRunning p i u
+pub running_still : (p : Plan) (i : CleanImage) (s u : State) → u.memory ≡ s.memory → IsRunning p i s → IsRunning p i u
 running_still p i s u same h = record { image = h.image; lists = h.lists; base = h.base; run = ap frozen same ∙ h.run }
 
 throw_words : (p : Plan) (n s t : ℕ) (d : Option ℕ) → length (linear_code (shape p n) (plain (throw s t d))) ≡ 3 + length (destructor_set a2 d) + 2

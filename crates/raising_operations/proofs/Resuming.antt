@@ -1,0 +1,127 @@
+-- An exception goes on towards its target on both machines.
+use Rattle.std.proofs.Common.{◌≡◌, ◌∙◌, refl, sym, ap, subst, arith, ℕ, ◌+◌, ◌^◌, ◌<◌, ◌==◌, Bool, true, false, List, [], ◌∷◌, ◌++◌, length, append-nil, Option, Some, None, inl, inr}
+use Rattle.std.specs.Prelude.{◌⊎◌, if◌then◌else◌}
+use Rattle.std.proofs.lemmas.Bool.Decides.{nat_tests}
+use Rattle.scope_rules.specs.Class.{contains}
+use Rattle.table_forms.specs.Verdict.{Thrown}
+use Rattle.rv64_isa.specs.State.{State}
+use Rattle.rv64_isa.specs.Step.{x}
+use Rattle.elf_image.specs.Clean.{CleanImage}
+use Rattle.caught_stack.specs.declared.header.Header.{Header}
+use Rattle.caught_stack.specs.Live.{header_of}
+use Rattle.caught_stack.specs.Exceptions.{Exceptions}
+use Rattle.raise_core.specs.declared.raised.Raised.{Raised}
+use Rattle.raise_core.specs.declared.raised.Raised.TheVariants.{Terminate}
+use Rattle.raise_core.specs.Raise as unwinder
+use Rattle.image_forms.specs.Linkable.{BaseIsThere}
+use Rattle.cxa_runtime.specs.declared.object.Object.{Object}
+use Rattle.cxa_runtime.specs.Objects.{object_of, object_where, is_thrown}
+use Rattle.cxa_runtime.specs.World as abi
+use Rattle.cxa_runtime.specs.World.{argument, needs, at_hart}
+use Rattle.cxa_runtime.specs.Raising.{Image, at_pad, thrown_of, resumed_as, resumes}
+use Rattle.cxa_runtime.specs.Cancel.{unwinds}
+use Rattle.cxa_runtime.specs.Throw.{resume_unwind}
+use Rattle.cxa_runtime.specs.Call.{call_effect, numbered}
+use Rattle.cxa_runtime.specs.Run.{counted}
+use Rattle.eh_run.specs.Program.{program_of}
+use Rattle.region_forms.specs.World.{flying, World, Exception, address_in, exception_type, type_at}
+use Rattle.linear_forms.specs.Linear.{resume}
+use Rattle.linear_forms.specs.Stub.{compiled, terminating}
+use Rattle.linear_forms.specs.Activation.{Activation, State as LinearState, Next, goes_to, finishes, fault}
+use Rattle.linear_forms.specs.Operation.{resumed}
+use Rattle.linear_forms.specs.Unwinding.{terminated_in, unwound_above}
+use Rattle.linear_forms.specs.UnitRun.{code_of}
+use Rattle.emission_forms.specs.Registers.{sp, a0}
+use Rattle.emission_forms.specs.LinearCode.{linear_code}
+use Rattle.emission_forms.specs.Routine.{op_word}
+use Rattle.code_simulation.specs.Standing.{Ground, address}
+use Rattle.code_simulation.specs.Laws.{CallsAreTurns}
+use Rattle.code_simulation.proofs.Turning.{turns_then}
+use Rattle.stub_simulation.specs.Calls.{asked, CallsAreMade}
+use Rattle.routine_tables.specs.Types.{thrown_as}
+use Rattle.image_tables.specs.Functions.{records_end, operation_at as operation_byte}
+use Rattle.raise_simulation.specs.OpenCalls.{outer_ip}
+use Rattle.raise_simulation.specs.Tables.{said}
+use Rattle.raise_simulation.specs.Verdicts.{judged_by}
+use Rattle.raise_simulation.specs.Opens.{activations, calls, cfa_with}
+use Rattle.raise_simulation.specs.Raises.{Lands, IsTerminated}
+use Rattle.raise_simulation.specs.Resumes.{ResumesAgree}
+use Rattle.operation_simulation.specs.Plan.{Plan, shape, routine, first_word, setting}
+use Rattle.operation_simulation.specs.Exceptions.{addresses_of, exceptions_in, kept_by, destroyed, HeaderIs, HasHeader}
+use Rattle.operation_simulation.specs.Matches.{RuntimeMatches, MemoryMatches, Matches}
+use Rattle.operation_simulation.specs.Operations.{Matched}
+use Rattle.operation_simulation.specs.Returns.{closed}
+use Rattle.operation_simulation.specs.Runs.{StepAt}
+use Rattle.operation_simulation.proofs.Words.{operation_at}
+use Rattle.operation_simulation.proofs.Matching.{Stands, stands_by, runtime_stays}
+use Rattle.operation_simulation.proofs.Quiet.{step_is}
+use Rattle.exception_operations.proofs.Ecalls.{ecall_reached, object_loaded, call_made}
+use Rattle.exception_operations.proofs.Enters.{exception_is, thrown_kind}
+use Rattle.exception_operations.proofs.Finding.{live_header, object_found}
+use Rattle.exception_operations.proofs.Freed.{slots_alike}
+use Rattle.raising_operations.specs.Stacks.{IsRunning, InCall}
+use Rattle.raising_operations.specs.Pads.{PadGets, PadsArePlain, FiltersAreInts}
+use Rattle.raising_operations.specs.Targets.{target_end}
+use Rattle.raising_operations.specs.Resumes.{HasTarget, ResumeAsked, ResumesRun}
+use Rattle.raising_operations.proofs.Stacks.{all_opens, all_tail, opens_are, stack_raised}
+use Rattle.raising_operations.proofs.Passing.{raise_goes, raise_stops}
+use Rattle.raising_operations.proofs.Selectors.{raise_selects}
+use Rattle.raising_operations.proofs.Targeted.{begins_terminating}
+use Rattle.raising_operations.proofs.Aiming.{whole_end}
+use Rattle.raising_operations.proofs.Throwing.{running_still}
+use Rattle.raising_operations.proofs.Onward.{type_base, thrown_known, is_target}
+use Rattle.raising_operations.proofs.Arriving.{LandsTo, lands_to}
+
+resume_is : (image : Image) (wish : ℕ) (t : abi.World) → call_effect 9 image wish t ≡ resume_unwind image t
+unfolding call_effect numbered
+resume_is image wish t = refl
+
+not_zero : (slot : ℕ) → (object_of slot == 0) ≡ false
+not_zero slot = grind (arith, nat_tests)
+
+resumes_so : (image : Image) (y : abi.World) (slot : ℕ) (h : Header) (thrown : Thrown) → argument y 10 ≡ object_of slot → object_where is_thrown y.exceptions.live (argument y 10) ≡ Some (record { slot = slot; header = h }) →
+    thrown_of y.hart h.kind ≡ Some thrown → resume_unwind image y ≡ resumes image (record { slot = slot; header = h }) thrown y
+resumes_so image y slot h thrown is found known =
+    ap (λ b. if b then needs y y.unwinding (λ n. unwinds image n y) else needs y (object_where is_thrown y.exceptions.live (argument y 10)) (λ o. needs y (thrown_of y.hart o.header.kind) (λ t. resumes image o t y)))
+    (ap (λ a. a == 0) is ∙ not_zero slot)
+    ∙ ap (λ f. needs y f (λ o. needs y (thrown_of y.hart o.header.kind) (λ t. resumes image o t y))) found ∙ ap (λ f. needs y f (λ t. resumes image (record { slot = slot; header = h }) t y)) known
+
+resume_step : (p : Plan) (n s e d : ℕ) (st next : LinearState) → StepAt p st next n (resume s) → st.top.frame.slots s ≡ flying e d → unwound_above (code_of p.unit) d e (st.top ∷ st.frames) st.world ≡ goes_to next
+resume_step p n s e d st next at is = sym (ap (λ y. resumed (code_of p.unit) y st.top st.frames st.world) is) ∙ sym (step_is p n st (resume s) at.runs at.there) ∙ at.step
+
+-- ---- where the unwinder goes on to
+module _ (p : Plan) (i : CleanImage) (n back : ℕ) (a : Activation) (fs : List Activation) (v : World) (s : State) (running : IsRunning p i s) (h : InCall p n back a fs v s) where
+  pub resume_lands : ResumesAgree → (k : abi.World) (e d m value : ℕ) (t : Option ℕ) (st : LinearState) → BaseIsThere (length p.unit.types) t → type_at v e ≡ t → HasTarget (code_of p.unit) t d (a ∷ fs) →
+      unwound_above (code_of p.unit) d e (a ∷ fs) v ≡ goes_to st → st.top.function ≡ compiled m → PadsArePlain p → FiltersAreInts p → RuntimeMatches p fs v k →
+      PadGets p v (flying e d) value →
+      LandsTo p (program_of i).image st v k value (target_end p d (x s sp) (a ∷ fs)) (unwinder.resume (program_of i).image.fdes (thrown_as (records_end p.unit) p.unit.types t) (target_end p d (x s sp) (a ∷ fs)) s)
+  resume_lands agree k e d m value t st known type target to callee plain ints runtime gets =
+      let code = code_of p.unit in
+      let fdes = (program_of i).image.fdes in
+      let thrown = thrown_as (records_end p.unit) p.unit.types t in
+      let opens = all_opens p i n back a fs v s running h in
+      let tail = all_tail p i n back a fs v s running h in
+      let are = opens_are p i n back a fs v s running h in
+      let stands = stack_raised p i n back a fs v s running h t known in
+      let there = is_target code t fdes (said s fdes thrown) (outer_ip s.pc (calls opens)) d opens tail (a ∷ fs) are stands.ends target in
+      let cfa : ℕ = cfa_with d (length tail) (x s sp) opens in
+      let is : cfa ≡ target_end p d (x s sp) (a ∷ fs) = whole_end p i n back a fs v s running h d (omega (arith, there.depth)) in
+      let live : st.top.function ≡ terminating → ⊥ = λ b. let both : compiled m ≡ terminating = sym callee ∙ b in cc both in
+      let came : unwound_above code d e (activations opens ++ tail) v ≡ goes_to st = ap (λ xs. unwound_above code d e xs v) are ∙ to in
+      subst (λ c. LandsTo p (program_of i).image st v k value c (unwinder.resume fdes thrown c s)) is
+      (by cfa (unwinder.resume fdes thrown cfa s) came live (agree code (operation_byte p.unit) fdes thrown t e d v s (x s sp) opens tail stands type there))
+    where
+      by : (cfa : ℕ) (result : Raised × State) → unwound_above (code_of p.unit) d e (activations (all_opens p i n back a fs v s running h) ++ all_tail p i n back a fs v s running h) v ≡ goes_to st → (st.top.function ≡ terminating → ⊥) →
+          Lands (code_of p.unit) (operation_byte p.unit) (flying e d) v s (x s sp) (all_opens p i n back a fs v s running h) (all_tail p i n back a fs v s running h) cfa
+          (unwound_above (code_of p.unit) d e (activations (all_opens p i n back a fs v s running h) ++ all_tail p i n back a fs v s running h) v) result
+          ⊎ (IsTerminated v (all_opens p i n back a fs v s running h) (all_tail p i n back a fs v s running h) (unwound_above (code_of p.unit) d e (activations (all_opens p i n back a fs v s running h) ++ all_tail p i n back a fs v s running h) v)
+          × (result ≡ (Terminate, s)))
+          ⊎ (unwound_above (code_of p.unit) d e (activations (all_opens p i n back a fs v s running h) ++ all_tail p i n back a fs v s running h) v ≡ finishes fault v) →
+          LandsTo p (program_of i).image st v k value cfa result
+      by cfa result came live (inl lands) =
+          let goes = raise_goes (code_of p.unit) d e v in
+          lands_to p i n back a fs v s running h (program_of i).image (λ b. judged_by (code_of p.unit) b (type_at v e)) (λ xs. unwound_above (code_of p.unit) d e xs v) v k (flying e d) value cfa m st result lands goes
+          (raise_stops (code_of p.unit) (type_at v e)) (raise_selects (code_of p.unit) d e v goes) to callee plain ints refl refl (omega arith) runtime gets
+      by cfa result came live (inr (inl (ends, is))) =
+          absurd (live (begins_terminating v.installed.terminate_handler (record { function = ends.barring.function; place = 0; frame = ends.barring.frame } ∷ ends.outer) v st (sym ends.terminates ∙ came)))
+      by cfa result came live (inr (inr ends)) = absurd (let both : finishes fault v ≡ goes_to st = sym ends ∙ came in cc both)
