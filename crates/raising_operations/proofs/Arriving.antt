@@ -1,5 +1,5 @@
 -- A pad that is installed is entered, and the next operation begins.
-use Rattle.std.proofs.Common.{◌≡◌, ◌∙◌, refl, sym, ap, ℕ, ◌≤◌, ℤ, List, [], ◌∷◌, ◌++◌}
+use Rattle.std.proofs.Common.{◌≡◌, ◌∙◌, sym, ap, ℕ, ◌≤◌, ℤ, List, [], ◌∷◌, ◌++◌}
 use Rattle.rv64_isa.specs.State.{State}
 use Rattle.rv64_isa.specs.Step.{x}
 use Rattle.elf_image.specs.Clean.{CleanImage}

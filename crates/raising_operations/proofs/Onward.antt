@@ -1,5 +1,5 @@
 -- An exception that travels is known on the machine, and so is its target.
-use Rattle.std.proofs.Common.{◌≡◌, ◌∙◌, refl, sym, ap, subst, arith, ℕ, ◌+◌, ◌≤◌, false, List, [], ◌∷◌, ◌++◌, length, length-append, map, Option, Some, None, option_map, inl, inr}
+use Rattle.std.proofs.Common.{◌≡◌, ◌∙◌, refl, sym, ap, arith, ℕ, false, List, [], ◌∷◌, ◌++◌, length, length-append, map, Option, Some, None, option_map, inl, inr}
 use Rattle.std.specs.Prelude.{◌⊎◌, ◌≢◌}
 use Rattle.std.specs.List.{AllByRecursion}
 use Rattle.std.proofs.lemmas.List.{length-map}
@@ -9,7 +9,6 @@ use Rattle.table_forms.specs.Verdict as thrown_things
 use Rattle.rv64_isa.specs.State.{State}
 use Rattle.elf_image.specs.Clean.{CleanImage}
 use Rattle.caught_stack.specs.declared.header.Header.{Header}
-use Rattle.caught_stack.specs.declared.header.HeaderKind.TheVariants as kinds
 use Rattle.cxa_runtime.specs.Raising.{thrown_of}
 use Rattle.cxa_runtime.specs.Types.{type_records}
 use Rattle.region_forms.specs.World.{Exception, building, native, foreign, exception_type}

@@ -1,8 +1,7 @@
 -- An exception goes on towards its target on both machines.
-use Rattle.std.proofs.Common.{◌≡◌, ◌∙◌, refl, sym, ap, subst, arith, ℕ, ◌+◌, ◌^◌, ◌<◌, ◌==◌, Bool, true, false, List, [], ◌∷◌, ◌++◌, length, append-nil, Option, Some, None, inl, inr}
+use Rattle.std.proofs.Common.{◌≡◌, ◌∙◌, refl, sym, ap, subst, arith, ℕ, ◌+◌, ◌==◌, false, List, [], ◌∷◌, ◌++◌, length, append-nil, Option, Some, inl, inr}
 use Rattle.std.specs.Prelude.{◌⊎◌, if◌then◌else◌}
 use Rattle.std.proofs.lemmas.Bool.Decides.{nat_tests}
-use Rattle.scope_rules.specs.Class.{contains}
 use Rattle.table_forms.specs.Verdict.{Thrown}
 use Rattle.rv64_isa.specs.State.{State}
 use Rattle.rv64_isa.specs.Step.{x}
@@ -24,17 +23,17 @@ use Rattle.cxa_runtime.specs.Throw.{resume_unwind}
 use Rattle.cxa_runtime.specs.Call.{call_effect, numbered}
 use Rattle.cxa_runtime.specs.Run.{counted}
 use Rattle.eh_run.specs.Program.{program_of}
-use Rattle.region_forms.specs.World.{flying, World, Exception, address_in, exception_type, type_at}
+use Rattle.region_forms.specs.World.{flying, World, address_in, exception_type, type_at}
 use Rattle.linear_forms.specs.Linear.{resume}
 use Rattle.linear_forms.specs.Stub.{compiled, terminating}
-use Rattle.linear_forms.specs.Activation.{Activation, State as LinearState, Next, goes_to, finishes, fault}
+use Rattle.linear_forms.specs.Activation.{Activation, State as LinearState, goes_to, finishes, fault}
 use Rattle.linear_forms.specs.Operation.{resumed}
-use Rattle.linear_forms.specs.Unwinding.{terminated_in, unwound_above}
+use Rattle.linear_forms.specs.Unwinding.{unwound_above}
 use Rattle.linear_forms.specs.UnitRun.{code_of}
 use Rattle.emission_forms.specs.Registers.{sp, a0}
 use Rattle.emission_forms.specs.LinearCode.{linear_code}
 use Rattle.emission_forms.specs.Routine.{op_word}
-use Rattle.code_simulation.specs.Standing.{Ground, address}
+use Rattle.code_simulation.specs.Standing.{Ground}
 use Rattle.code_simulation.specs.Laws.{CallsAreTurns}
 use Rattle.code_simulation.proofs.Turning.{turns_then}
 use Rattle.stub_simulation.specs.Calls.{asked, CallsAreMade}
@@ -55,6 +54,7 @@ use Rattle.operation_simulation.specs.Runs.{StepAt}
 use Rattle.operation_simulation.proofs.Words.{operation_at}
 use Rattle.operation_simulation.proofs.Matching.{Stands, stands_by, runtime_stays}
 use Rattle.operation_simulation.proofs.Quiet.{step_is}
+use Rattle.exception_operations.specs.Objects.{HoldsObject}
 use Rattle.exception_operations.proofs.Ecalls.{ecall_reached, object_loaded, call_made}
 use Rattle.exception_operations.proofs.Enters.{exception_is, thrown_kind}
 use Rattle.exception_operations.proofs.Finding.{live_header, object_found}
@@ -62,6 +62,7 @@ use Rattle.exception_operations.proofs.Freed.{slots_alike}
 use Rattle.raising_operations.specs.Stacks.{IsRunning, InCall}
 use Rattle.raising_operations.specs.Pads.{PadGets, PadsArePlain, FiltersAreInts}
 use Rattle.raising_operations.specs.Targets.{target_end}
+use Rattle.raising_operations.specs.Throws.{AimedAt}
 use Rattle.raising_operations.specs.Resumes.{HasTarget, ResumeAsked, ResumesRun}
 use Rattle.raising_operations.proofs.Stacks.{all_opens, all_tail, opens_are, stack_raised}
 use Rattle.raising_operations.proofs.Passing.{raise_goes, raise_stops}
@@ -125,3 +126,73 @@ module _ (p : Plan) (i : CleanImage) (n back : ℕ) (a : Activation) (fs : List 
       by cfa result came live (inr (inl (ends, is))) =
           absurd (live (begins_terminating v.installed.terminate_handler (record { function = ends.barring.function; place = 0; frame = ends.barring.frame } ∷ ends.outer) v st (sym ends.terminates ∙ came)))
       by cfa result came live (inr (inr ends)) = absurd (let both : finishes fault v ≡ goes_to st = sym ends ∙ came in cc both)
+
+-- ---- the header of an exception, and its target
+aimed_header : (p : Plan) (fs : List Activation) (v : World) (y w : abi.World) (e cfa slot : ℕ) (r : RuntimeMatches p fs v y) (has : HasHeader y.exceptions.live e slot) → y.exceptions ≡ w.exceptions → AimedAt w e cfa → has.header.target ≡ cfa
+aimed_header p fs v y w e cfa slot r has same aimed =
+    let there : header_of y.exceptions.live aimed.slot ≡ Some aimed.has.header = ap (λ (z : Exceptions). header_of z.live aimed.slot) same ∙ aimed.has.there in
+    let other : HasHeader y.exceptions.live e aimed.slot = record { header = aimed.has.header; there = there; number = aimed.has.number } in
+    let slots = slots_alike (addresses_of p) (destroyed fs) (exceptions_in v) (kept_by y) e slot aimed.slot r.exceptions has other in
+    let both : Some has.header ≡ Some aimed.has.header = sym has.there ∙ ap (header_of y.exceptions.live) slots ∙ there in
+    let headers : has.header ≡ aimed.has.header = cc both in
+    ap (λ (h : Header). h.target) headers ∙ aimed.aimed
+
+resume_runs : CallsAreTurns → CallsAreMade → ResumesAgree → (i : CleanImage) (p : Plan) (n m s e d : ℕ) (st next : LinearState) (w : abi.World) (back : ℕ) → Stands p n st w back → IsRunning p i w.hart → StepAt p st next n (resume s) →
+    ResumeAsked p n st w s e d → PadsArePlain p → FiltersAreInts p → next.top.function ≡ compiled m →
+    (next.world ≡ st.world) × Matched (program_of i).image (length (linear_code (shape p n) (resume s)) + 2) w [] (λ u. Matches (closed p next.top.frame.call) next u × (u.exceptions ≡ w.exceptions))
+resume_runs turns made agree i p n m s e d st next w back h running at asks plains ints callee =
+    let image : Image = (program_of i).image in
+    let g : Ground = (setting p n).ground in
+    let here : ℕ = first_word p n + op_word (routine p n) st.top.place in
+    let v : World = st.world in
+    let t : Option ℕ = exception_type asks.exception in
+    let own = operation_at p w.hart.memory n st.top.place (resume s) h.memory.unit h.memory.top.known at.there in
+    let holds : HoldsObject p n st.top.frame s e = record { inside = asks.inside; near = asks.near; is = ap address_in asks.is } in
+    let first = object_loaded p n st w back here s e h holds own.code.0 h.pc in
+    let ec = ecall_reached turns image g here 1 0 9 w first.goes (omega arith) own.code.1 in
+    let y : abi.World = asked ec.behind ec.at in
+    let q = runtime_stays p st.frames v w ec.at ec.runtime h.runtime in
+    let r : RuntimeMatches p st.frames v y = record { input = q.input; replies = q.replies; last_number = q.last_number; terminating = q.terminating; exceptions = q.exceptions; plan = q.plan } in
+    let live = live_header (addresses_of p) (destroyed st.frames) (exceptions_in v) (kept_by y) e asks.exception q.exceptions asks.travels.live in
+    let slot : ℕ = live.slot in
+    let header : Header = live.has.header in
+    let is : HeaderIs (addresses_of p) false asks.exception header = subst (λ b. HeaderIs (addresses_of p) b asks.exception header) asks.travels.whole live.is in
+    let is0 : argument y 10 ≡ object_of slot = ec.kept a0 (λ b. absurd (omega (arith, b))) ∙ first.is ∙ omega arith ∙ live.object in
+    let found : object_where is_thrown y.exceptions.live (argument y 10) ≡ Some (record { slot = slot; header = header })
+    = ap (object_where is_thrown ec.at.exceptions.live) is0 ∙ object_found is_thrown ec.at.exceptions.live slot header live.below live.has.there (thrown_kind (addresses_of p) asks.exception header asks.travels.thrown is) in
+    let there = running_still p i w.hart ec.behind ec.memory running in
+    let known = thrown_known p i ec.behind asks.exception header there asks.travels.thrown asks.travels.type is in
+    let cfa : ℕ = target_end p d (x ec.behind sp) (st.top ∷ st.frames) in
+    let cfas : target_end p d (x w.hart sp) (st.top ∷ st.frames) ≡ cfa = sym (ap (λ a. target_end p d a (st.top ∷ st.frames)) ec.stack) in
+    let aimed : header.target ≡ cfa = aimed_header p st.frames v y w e (target_end p d (x w.hart sp) (st.top ∷ st.frames)) slot r live.has ec.runtime.exceptions asks.aimed ∙ cfas in
+    let incall : InCall p n back st.top st.frames v ec.behind = record {
+      runs = h.runs;
+      registers = ec.registers;
+      goes_on = record { operation = resume s; there = at.there; word = 2; inside = omega arith; is = ec.pc ∙ omega arith };
+      memory = subst (λ ps. MemoryMatches p n st.top.frame st.frames v ps (x ec.behind sp) back) (sym ec.memory)
+          (subst (λ a. MemoryMatches p n st.top.frame st.frames v w.hart.memory a back) (sym ec.stack) h.memory);
+    } in
+    let thrown = thrown_as (records_end p.unit) p.unit.types t in
+    let lands = resume_lands p i n back st.top st.frames v ec.behind there incall agree y e d m (object_of slot) t next (type_base p t asks.travels.type) (ap exception_type (exception_is v.live e asks.exception asks.travels.live)) asks.target
+    (resume_step p n s e d st next at asks.is) callee plains ints r
+    (omega (arith, q.exceptions.numbers e asks.exception asks.travels.live), sym live.object, omega (arith, live.below)) in
+    let o : Object = record { slot = slot; header = header } in
+    let to : abi.World = at_pad (object_of slot) lands.selector (at_hart lands.after y) in
+    let installs : resumes image o thrown y ≡ abi.goes to = ap (λ c. resumed_as image.places o y (unwinder.resume image.fdes thrown c ec.behind)) aimed ∙ ap (resumed_as image.places o y) lands.installs in
+    let effect : (wish : ℕ) → call_effect 9 image wish y ≡ abi.goes to = λ wish. resume_is image wish y ∙ resumes_so image y slot header thrown is0 found known ∙ installs in
+    let called = call_made made image g here 1 9 w first.goes.after ec to effect in (
+      lands.world,
+      record {
+        turns = ec.turns + 1 + lands.ran.turns;
+        few = omega (arith, ec.few, lands.ran.few);
+        some = λ some. omega arith;
+        after = lands.ran.after;
+        runs = turns_then image (ec.turns + 1) lands.ran.turns w (counted to) lands.ran.after [] [] called lands.ran.runs;
+        holds = (lands.ran.holds.0, lands.ran.holds.1.exceptions ∙ ec.runtime.exceptions);
+      },
+    )
+
+pub resumes_run : CallsAreTurns → CallsAreMade → ResumesAgree → ResumesRun
+resumes_run turns made agree i p n m s e d st next w h running at asks plains ints callee =
+    let all = resume_runs turns made agree i p n m s e d st next w h.back (stands_by p n st w h at.runs) running at asks plains ints callee in
+    (ap (λ (u : World). u.items) all.0 ∙ sym (append-nil st.world.items), all.1)

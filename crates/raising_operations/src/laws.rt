@@ -1,10 +1,11 @@
 // Laws of raises in words: calls of no effect, whose contracts state what holds of every unit.
 ghost use Rattle.raising_operations.specs.Pads.{PadsRun};
+ghost use Rattle.raising_operations.specs.Resumes.{ResumesRun};
 ghost use Rattle.raising_operations.specs.Stacks.{StacksStand};
 ghost use Rattle.raising_operations.specs.Throws.{ThrowsRun};
 
 use code_simulation::laws::calls_are_turns;
-use raise_simulation::laws::raises_agree;
+use raise_simulation::laws::{raises_agree, resumes_agree};
 use stub_simulation::laws::calls_are_made;
 
 /// Where a state of the machine for linear code matches the stack in memory, the unwinder meets its open calls there, and the exception tables
@@ -25,4 +26,13 @@ pub fn throws_run()
     calls_are_turns();
     calls_are_made();
     raises_agree();
+}
+
+/// An exception that goes on towards its target comes to the landing pad on the ABI machine that it comes to on the machine for linear code.
+pub fn resumes_run()
+    ensures { ResumesRun }
+{
+    calls_are_turns();
+    calls_are_made();
+    resumes_agree();
 }
