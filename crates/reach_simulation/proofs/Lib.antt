@@ -5,3 +5,4 @@ pub mod Given
 pub mod Effects
 pub mod Operations
 pub mod Steps
+pub mod Plans

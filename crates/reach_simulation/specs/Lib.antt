@@ -1,3 +1,4 @@
 pub mod Extents
 pub mod Reaching
 pub mod Laws
+pub mod Plans

@@ -1,5 +1,6 @@
 // Laws of runs of linear code: calls of no effect, whose contracts state what holds of every program.
 ghost use Rattle.reach_simulation.specs.Laws.{PlacesLieInside, StepsReachInside, FirstReaches};
+ghost use Rattle.reach_simulation.specs.Plans.{PlansGoOn};
 
 /// Behind a place lie the bytes of ints for which it has room.
 pub fn places_lie_inside()
@@ -14,4 +15,9 @@ pub fn steps_reach_inside()
 /// Where main begins, bytes of ints lie behind all addresses.
 pub fn first_calls_reach_inside()
     ensures { FirstReaches }
+{}
+
+/// The plan of a run goes on so with calls that begin and exceptions that are made.
+pub fn plans_go_on()
+    ensures { PlansGoOn }
 {}

@@ -1,0 +1,22 @@
+-- How a plan goes on with a step.
+use Rattle.std.specs.Prelude.{◌≡◌, ◌≢◌, ℕ, ◌+◌, ◌≤◌}
+use Rattle.region_forms.specs.World.{World}
+use Rattle.linear_forms.specs.Stub.{compiled}
+use Rattle.linear_forms.specs.Activation.{State}
+use Rattle.operation_simulation.specs.Plan.{Plan, function}
+use Rattle.operation_simulation.specs.Matches.{FrameIs}
+use Rattle.operation_simulation.specs.Entering.{opened}
+use Rattle.exception_operations.specs.Objects.{with_object}
+use Rattle.reach_simulation.specs.Extents.{extents_of}
+use Rattle.reach_simulation.specs.Reaching.{ObjectsReach}
+use Rattle.reach_simulation.specs.Laws.{GoesOn}
+
+-- Where a compiled function is called, the plan with its call goes on; so does the plan with an exception's object, where one is made; and the
+-- same plan, or one of which less is live, where neither is.
+pub record PlansGoOn : Type 0 where
+  pub called : (p : Plan) (m stack : ℕ) (v : World) (next : State) → FrameIs (function p m) → ObjectsReach (extents_of p) v → next.world.last_number ≡ v.last_number → next.top.function ≡ compiled m →
+      GoesOn (extents_of p) (extents_of (opened p m v.calls stack)) p.unit v next
+  pub made : (p : Plan) (slot : ℕ) (v : World) (next : State) → ObjectsReach (extents_of p) v → next.world.last_number ≡ v.last_number + 1 → next.top.frame.call ≢ v.calls →
+      GoesOn (extents_of p) (extents_of (with_object p (v.last_number + 1) slot)) p.unit v next
+  pub same : (p q : Plan) (v : World) (next : State) → extents_of q ≡ extents_of p → ObjectsReach (extents_of p) v → next.world.last_number ≤ v.last_number → next.top.frame.call ≢ v.calls →
+      GoesOn (extents_of p) (extents_of q) p.unit v next
