@@ -84,18 +84,18 @@ catch_waits p waiting fs v memory stack back limit catch (inr (inr h)) = absurd 
 
 -- ---- the steps
 
-abbrev in_waiting : Activation → ℕ → List Activation → World → LinearState
+abbrev pub in_waiting : Activation → ℕ → List Activation → World → LinearState
 in_waiting waiting place fs v = record { top = record { function = waiting.function; place = place; frame = waiting.frame }; frames = fs; world = v }
 
--- the destructor returns, with a value that nothing wants
-record CameBackWith (p : Plan) (n : ℕ) (st : LinearState) (waiting : Activation) (fs : List Activation) (r : Option ℕ) : Type 0 where
-  value : ℤ
-  value_is : value_in (slot_kinds p n) st.top.frame st.world (result_value r) ≡ Some value
-  step : step (code_of p.unit) st ≡ goes_to (in_waiting waiting 2 fs st.world)
+-- a call returns with a value
+pub record CameBack (p : Plan) (n : ℕ) (st : LinearState) (waiting : Activation) (fs : List Activation) (r : Option ℕ) : Type 0 where
+  pub value : ℤ
+  pub value_is : value_in (slot_kinds p n) st.top.frame st.world (result_value r) ≡ Some value
+  pub step : step (code_of p.unit) st ≡ returned_with (code_of p.unit) (Some value) (waiting ∷ fs) st.world
 
-return_to_catch : (p : Plan) (n : ℕ) (st middle : LinearState) (waiting : Activation) (fs : List Activation) (r : Option ℕ) → st.top.function ≡ compiled n → slice_get (function p n).ops st.top.place ≡ Some (return r) →
-    step (code_of p.unit) st ≡ goes_to middle → st.frames ≡ waiting ∷ fs → waiting.function ≡ end_catch → waiting.place ≡ 1 → CameBackWith p n st waiting fs r
-return_to_catch p n st middle waiting fs r runs there goes frames catch place = by (value_in (slot_kinds p n) st.top.frame st.world (result_value r)) refl
+pub returns_value : (p : Plan) (n : ℕ) (st middle : LinearState) (waiting : Activation) (fs : List Activation) (r : Option ℕ) → st.top.function ≡ compiled n → slice_get (function p n).ops st.top.place ≡ Some (return r) →
+    step (code_of p.unit) st ≡ goes_to middle → st.frames ≡ waiting ∷ fs → CameBack p n st waiting fs r
+returns_value p n st middle waiting fs r runs there goes frames = by (value_in (slot_kinds p n) st.top.frame st.world (result_value r)) refl
   where
     whole : (o : Option ℤ) → value_in (slot_kinds p n) st.top.frame st.world (result_value r) ≡ o → step (code_of p.unit) st ≡ returned_with (code_of p.unit) o (waiting ∷ fs) st.world
     whole o is =
@@ -103,16 +103,17 @@ return_to_catch p n st middle waiting fs r runs there goes frames catch place = 
         ∙ ap (λ gs. returned_with (code_of p.unit) (result_in r st.top.frame st.world (slot_kinds p n)) gs st.world) frames
         ∙ ap (λ z. returned_with (code_of p.unit) z (waiting ∷ fs) st.world) (result_is (slot_kinds p n) r st.top.frame st.world ∙ is)
 
-    by : (o : Option ℤ) → value_in (slot_kinds p n) st.top.frame st.world (result_value r) ≡ o → CameBackWith p n st waiting fs r
+    by : (o : Option ℤ) → value_in (slot_kinds p n) st.top.frame st.world (result_value r) ≡ o → CameBack p n st waiting fs r
     by None is = absurd (let both = sym (whole None is) ∙ goes in cc both)
-    by (Some z) is =
-        let op : fetch (code_of p.unit) waiting.function waiting.place ≡ fetch (code_of p.unit) end_catch 1 = ap (λ f. fetch (code_of p.unit) f waiting.place) catch ∙ ap (fetch (code_of p.unit) end_catch) place in
-        record {
-          value = z;
-          value_is = is;
-          step = whole (Some z) is ∙ ap (λ o. settled (finished (kinds (code_of p.unit) waiting.function) (wanted_by o) z waiting.frame st.world) waiting fs st.world) op
-              ∙ ap (λ k. goes_to (in_waiting waiting (k + 1) fs st.world)) place;
-        }
+    by (Some z) is = record { value = z; value_is = is; step = whole (Some z) is }
+
+-- nothing wants a destructor's value
+return_to_catch : (p : Plan) (n : ℕ) (st : LinearState) (waiting : Activation) (fs : List Activation) (r : Option ℕ) → CameBack p n st waiting fs r → waiting.function ≡ end_catch → waiting.place ≡ 1 →
+    step (code_of p.unit) st ≡ goes_to (in_waiting waiting 2 fs st.world)
+return_to_catch p n st waiting fs r c catch place =
+    let op : fetch (code_of p.unit) waiting.function waiting.place ≡ fetch (code_of p.unit) end_catch 1 = ap (λ f. fetch (code_of p.unit) f waiting.place) catch ∙ ap (fetch (code_of p.unit) end_catch) place in
+    c.step ∙ ap (λ o. settled (finished (kinds (code_of p.unit) waiting.function) (wanted_by o) c.value waiting.frame st.world) waiting fs st.world) op
+    ∙ ap (λ k. goes_to (in_waiting waiting (k + 1) fs st.world)) place
 
 -- the object is freed
 free_in_catch : (p : Plan) (waiting : Activation) (fs : List Activation) (v : World) (e : ℕ) → waiting.function ≡ end_catch → exception_in_slot waiting.frame 0 ≡ e → is_live v e ≡ true →
@@ -237,10 +238,10 @@ destructors_end destroys image p n m e st middle waiting a fs r w h at =
     let stood = stands_by p n st w h at.at.runs in
     let cw = catch_waits p waiting (a ∷ fs) st.world w.hart.memory (x w.hart sp + (shape p n).size) h.back st.top.frame.call at.catch
     (subst (λ gs. CallsWait p gs st.world w.hart.memory (x w.hart sp + (shape p n).size) h.back st.top.frame.call) at.frames stood.memory.waiting) in
-    let went = return_to_catch p n st middle waiting (a ∷ fs) r at.at.runs at.at.there at.at.step at.frames at.catch cw.waits.place in (
+    let went = returns_value p n st middle waiting (a ∷ fs) r at.at.runs at.at.there at.at.step at.frames in (
       (
         in_waiting waiting 2 (a ∷ fs) st.world,
-        went.step,
+        return_to_catch p n st waiting (a ∷ fs) r went at.catch cw.waits.place,
         (
           in_waiting waiting 3 (a ∷ fs) (freed e st.world),
           free_in_catch p waiting (a ∷ fs) st.world e at.catch at.object (still_live stood),

@@ -31,3 +31,5 @@ pub mod Answers
 pub mod Terminating
 pub mod Handlers
 pub mod Terminates
+pub mod Aborts
+pub mod Ended

@@ -1,13 +1,16 @@
 -- Terminating is matched.
-use Rattle.std.proofs.Common.{◌≡◌, ◌∙◌, refl, sym, subst, arith, ℕ, ◌+◌, ◌-◌, ◌≤◌, false, List, [], ◌∷◌, length, Option, Some}
+use Rattle.std.proofs.Common.{◌≡◌, ◌∙◌, refl, sym, ap, subst, arith, ℕ, ◌+◌, ◌-◌, ◌≤◌, false, List, [], ◌∷◌, length, Option, Some, is_some}
+use Rattle.std.specs.Prelude.{if◌then◌else◌}
+use Rattle.scope_rules.specs.Outcome.{aborted}
 use Rattle.rv64_isa.specs.State.{State}
 use Rattle.rv64_isa.specs.Step.{x}
 use Rattle.cxa_runtime.specs.World as abi
 use Rattle.cxa_runtime.specs.Raising.{Image}
-use Rattle.region_forms.specs.World.{World}
+use Rattle.region_forms.specs.World.{World, nothing}
 use Rattle.region_forms.specs.Effect.{new_world}
 use Rattle.linear_forms.specs.Stub.{terminating}
-use Rattle.linear_forms.specs.Activation.{Activation, State as LinearState, depth_of}
+use Rattle.linear_forms.specs.Activation.{Activation, State as LinearState, Next, at as linear_at, finishes, by_program, stub_frame, function_word, depth_of}
+use Rattle.linear_forms.specs.UnitRun.{code_of}
 use Rattle.emission_forms.specs.Registers.{sp}
 use Rattle.emission_forms.specs.RuntimeCall.{runtime_call}
 use Rattle.emission_forms.specs.LinearCode.{linear_code}
@@ -33,6 +36,7 @@ use Rattle.operation_simulation.proofs.Holding.{same_number}
 use Rattle.operation_simulation.proofs.Lines.{matches_alike}
 use Rattle.operation_simulation.proofs.Freeing.{beside_matches}
 use Rattle.operation_simulation.proofs.Calling.{stack_at, runtime_opened, runtime_pushed}
+use Rattle.exception_operations.specs.Leaves.{StepsTo}
 use Rattle.exception_operations.specs.Terminates.{AtTerminating, waiting_terminate, ending_world, in_handler}
 use Rattle.exception_operations.proofs.EndCatching.{room_below}
 use Rattle.exception_operations.proofs.Ecalls.{ecall_reached}
@@ -42,20 +46,20 @@ use Rattle.exception_operations.proofs.Handlers.{handler_entered, handler_matche
 -- ---- the runtime call, from its ECALL on
 
 -- what stands where an operation makes a runtime call that terminates
-record Called (image : Image) (p : Plan) (n : ℕ) (st : LinearState) (w : abi.World) (back : ℕ) : Type 0 where
-  turns : ℕ
-  few : turns ≤ 1
-  at : abi.World
-  runs : Turns image turns w at []
-  behind : State
-  number : ℕ
-  calls : stubs.Terminates image number at.terminate_handler at (asked behind at)
-  memory : behind.memory ≡ w.hart.memory
-  stack : x behind sp ≡ x w.hart sp
-  may : MayTerminate p.unit p.base image (asked behind at)
-  runtime : RuntimeMatches p st.frames st.world at
+pub record Called (image : Image) (p : Plan) (n : ℕ) (st : LinearState) (w : abi.World) (back : ℕ) : Type 0 where
+  pub turns : ℕ
+  pub few : turns ≤ 1
+  pub at : abi.World
+  pub runs : Turns image turns w at []
+  pub behind : State
+  pub number : ℕ
+  pub calls : stubs.Terminates image number at.terminate_handler at (asked behind at)
+  pub memory : behind.memory ≡ w.hart.memory
+  pub stack : x behind sp ≡ x w.hart sp
+  pub may : MayTerminate p.unit p.base image (asked behind at)
+  pub runtime : RuntimeMatches p st.frames st.world at
 
-called : CallsAreTurns → (image : Image) (p : Plan) (n : ℕ) (st : LinearState) (w : abi.World) (back : ℕ) → Stands p n st w back → (at : AtTerminating image p n st) → Called image p n st w back
+pub called : CallsAreTurns → (image : Image) (p : Plan) (n : ℕ) (st : LinearState) (w : abi.World) (back : ℕ) → Stands p n st w back → (at : AtTerminating image p n st) → Called image p n st w back
 called turns image p n st w back h at =
     let op = terminating_op image p n st at in
     let g : Ground = (setting p n).ground in
@@ -92,7 +96,7 @@ called turns image p n st w back h at =
 handler_is : (t : Addresses) (h : Option ℕ) (m a : ℕ) → h ≡ Some m → IsFunction t h a → IsFunction t (Some m) a
 handler_is t h m a is f = subst (λ k. IsFunction t k a) is f
 
-handler_begins : CallsAreTurns → CallsTerminate → (image : Image) (p : Plan) (n m : ℕ) (st : LinearState) (w : abi.World) → Matches p st w → (at : AtTerminating image p n st) → st.world.ending ≡ false →
+pub handler_begins : CallsAreTurns → CallsTerminate → (image : Image) (p : Plan) (n m : ℕ) (st : LinearState) (w : abi.World) → Matches p st w → (at : AtTerminating image p n st) → st.world.ending ≡ false →
     st.world.installed.terminate_handler ≡ Some m → p.hidden ≡ 0 → let active = waiting_terminate m ∷ st.top ∷ st.frames in open_bytes p active + (shape p m).size + 0x1000 ≤ 0x100_0000 →
     Reaches image (length (linear_code (shape p n) at.operation) + 13) w [] (λ u. Matches (opened p m st.world.calls (frame_for p m active)) (in_handler p m st) u)
 handler_begins turns laws image p n m st w h at quiet installed hidden fits =
@@ -150,3 +154,15 @@ handler_begins turns laws image p n m st w h at quiet installed hidden fits =
         runtime = runtime3;
       };
     })
+
+-- ---- and on the machine for linear code
+
+pub begins_in_two : (image : Image) (p : Plan) (n m : ℕ) (st : LinearState) → AtTerminating image p n st → st.world.ending ≡ false → st.world.installed.terminate_handler ≡ Some m → StepsTo (code_of p.unit) 2 st (in_handler p m st)
+begins_in_two image p n m st at quiet installed =
+    let v : World = st.world in
+    let fs : List Activation = st.top ∷ st.frames in
+    let waiting : Option ℕ → Next = λ h. linear_at terminating 0 (stub_frame (function_word h) nothing nothing) fs (record v { ending = is_some h }) in (
+      record { top = waiting_terminate m; frames = fs; world = ending_world v },
+      (terminating_op image p n st at).step ∙ ap (λ b. if b then finishes (by_program aborted) v else waiting v.installed.terminate_handler) quiet ∙ ap waiting installed,
+      (in_handler p m st, refl, refl),
+    )

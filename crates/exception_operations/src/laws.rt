@@ -6,10 +6,12 @@ ghost use Rattle.exception_operations.specs.Filters.{FiltersRun};
 ghost use Rattle.exception_operations.specs.Frees.{FreesRun};
 ghost use Rattle.exception_operations.specs.Leaves.{LeavesRun};
 ghost use Rattle.exception_operations.specs.Makes.{MakesRun};
+ghost use Rattle.exception_operations.specs.Terminates.{TerminatesRun};
 
 use code_simulation::laws::{calls_are_turns, places_are_written};
 use stub_simulation::laws::{
-    calls_are_made, end_catch_comes_back, end_catch_destroys, end_catch_frees, end_catch_runs,
+    calls_are_made, calls_terminate, end_catch_comes_back, end_catch_destroys, end_catch_frees,
+    end_catch_runs, terminate_runs,
 };
 
 /// An exception object that is being built is given back on the ABI machine as on the machine for linear code.
@@ -73,4 +75,13 @@ pub fn answers_run()
     places_are_written();
     calls_are_turns();
     calls_are_made();
+}
+
+/// Where the program terminates, the handler begins on the ABI machine as on the machine for linear code, or the run aborts on both.
+pub fn terminates_run()
+    ensures { TerminatesRun }
+{
+    calls_are_turns();
+    calls_terminate();
+    terminate_runs();
 }
