@@ -13,7 +13,8 @@ use Rattle.cxa_runtime.specs.Objects.{is_thrown}
 use Rattle.cxa_runtime.specs.MayBegin.{holds_other as holds_other_slot}
 use Rattle.region_forms.specs.Caught.{Entry, counted, entered_on, holds_other}
 use Rattle.operation_simulation.specs.Exceptions.{HasHeader, AreCaught, count_of}
-use Rattle.exception_operations.specs.Enters.{handlers_of, is_handled, is_in_front}
+use Rattle.exception_operations.specs.Enters.{handlers_of}
+use Rattle.exception_operations.proofs.Travels.{is_handled, is_in_front}
 
 -- an exception's number and its slot in the headers, where no other slot has this number
 module _ (headers : Headers) (e slot : ℕ) (has : HasHeader headers e slot) (unique : (s : ℕ) → HasHeader headers e s → slot ≡ s) where

@@ -21,9 +21,9 @@ use Rattle.cxa_runtime.specs.Run.{counted}
 use Rattle.region_forms.specs.Form.{enter}
 use Rattle.region_forms.specs.Caught.{entered_on, holds_other}
 use Rattle.region_forms.specs.World.{World, Exception, Live, building, native, foreign, exception_in, exception_at, exception_of, exception_in_slot}
-use Rattle.region_forms.specs.Effect.{goes, terminates, is_foreign, entered, enters, Effect}
+use Rattle.region_forms.specs.Effect.{goes, terminates, is_foreign, entered, enters, only_where, Effect}
 use Rattle.linear_forms.specs.Linear.{plain}
-use Rattle.linear_forms.specs.Activation.{State as LinearState, goes_to}
+use Rattle.linear_forms.specs.Activation.{Code, Activation, State as LinearState, goes_to}
 use Rattle.linear_forms.specs.Operation.{performed}
 use Rattle.linear_forms.specs.UnitRun.{code_of}
 use Rattle.emission_forms.specs.Registers.{sp, a0}
@@ -45,7 +45,8 @@ use Rattle.operation_simulation.proofs.Quiet.{moved, step_is, plain_is}
 use Rattle.operation_simulation.proofs.Holding.{same_number}
 use Rattle.operation_simulation.proofs.Lines.{matches_alike}
 use Rattle.exception_operations.specs.Objects.{HoldsObject}
-use Rattle.exception_operations.specs.Enters.{IsThrown, MayEnter, EntersRun}
+use Rattle.exception_operations.specs.Enters.{is_crowded as is_crowded_in, EntersRun}
+use Rattle.exception_operations.proofs.Travels.{IsThrown, CanEnter, can_enter}
 use Rattle.exception_operations.proofs.Finding.{live_header, object_found}
 use Rattle.exception_operations.proofs.Freed.{slots_alike}
 use Rattle.exception_operations.proofs.CaughtLists.{others_alike, front_alike, counts_small, entered_alike, begun_live, begun_once, begun_counted}
@@ -115,7 +116,7 @@ entered_match t gone v w e slot has m thrown front =
 
 -- ---- the step
 
-enter_step : (p : Plan) (n s e : ℕ) (st next : LinearState) → StepAt p st next n (plain (enter s)) → HoldsObject p n st.top.frame s e → (is_foreign (exception_at st.world e) && holds_other e st.world.caught) ≡ false →
+enter_step : (p : Plan) (n s e : ℕ) (st next : LinearState) → StepAt p st next n (plain (enter s)) → HoldsObject p n st.top.frame s e → is_crowded_in st.world e ≡ false →
     moved st (st.top.place + 1) st.top.frame (entered e st.world) ≡ next
 enter_step p n s e st next at holds alone =
     let number : exception_in_slot st.top.frame s ≡ e = ap exception_of holds.is in
@@ -127,6 +128,18 @@ enter_step p n s e st next at holds alone =
     let whole : goes_to (moved st (st.top.place + 1) st.top.frame (entered e st.world)) ≡ goes_to next
     = ap (λ b. performed (code_of p.unit) (effect b) st.top st.frames st.world) (sym alone) ∙ got in
     cc whole
+
+-- it may be entered
+enter_may : (p : Plan) (n s e : ℕ) (st next : LinearState) → StepAt p st next n (plain (enter s)) → HoldsObject p n st.top.frame s e → may_enter st.world e ≡ true
+enter_may p n s e st next at holds =
+    let number : exception_in_slot st.top.frame s ≡ e = ap exception_of holds.is in
+    let effect : Bool → Effect = (λ b. if b then terminates st.world.installed.terminate_handler st.world else goes st.top.frame (entered e st.world)) in
+    was_there (code_of p.unit) (may_enter st.world e) (effect (is_crowded_in st.world e)) st.top st.frames st.world next (ap (λ k. performed (code_of p.unit) (enters k st.top.frame st.world) st.top st.frames st.world) (sym number)
+    ∙ sym (plain_is p n st (enter s) at.runs) ∙ sym (step_is p n st (plain (enter s)) at.runs at.there) ∙ at.step)
+  where
+    was_there : (code : Code) (b : Bool) (x : Effect) (a : Activation) (fs : List Activation) (v : World) (to : LinearState) → performed code (only_where b x) a fs v ≡ goes_to to → b ≡ true
+    was_there code true x a fs v to e = refl
+    was_there code false x a fs v to e = absurd (cc e)
 
 -- what the runtime does with it
 begins_is : (image : Image) (t : abi.World) (slot : ℕ) (h : Header) → object_where is_thrown t.exceptions.live (argument t 10) ≡ Some (record { slot = slot; header = h }) → may_begin t.exceptions slot ≡ true →
@@ -145,9 +158,9 @@ all_three true false c x y z = absurd (cc y)
 all_three false b c x y z = absurd (cc x)
 
 enter_runs : CallsAreTurns → CallsAreMade → (image : Image) (p : Plan) (n s e : ℕ) (st next : LinearState) (w : abi.World) (back : ℕ) → Stands p n st w back → StepAt p st next n (plain (enter s)) →
-    HoldsObject p n st.top.frame s e → MayEnter st.frames st.world e →
+    HoldsObject p n st.top.frame s e → CanEnter st.frames st.world e → is_crowded_in st.world e ≡ false →
     Matched image (length (linear_code (shape p n) (plain (enter s)))) w (Enter e ∷ []) (λ v. Matches p (moved st (st.top.place + 1) st.top.frame (entered e st.world)) v)
-enter_runs turns made image p n s e st next w back h at holds ok =
+enter_runs turns made image p n s e st next w back h at holds ok alone_here =
     let g : Ground = (setting p n).ground in
     let here : ℕ = first_word p n + op_word (routine p n) st.top.place in
     let v : World = st.world in
@@ -176,7 +189,7 @@ enter_runs turns made image p n s e st next w back h at holds ok =
     (counts_small ec.at.exceptions.live e slot live.has unique v.caught ec.at.exceptions.caught m.caught ok.few) front in
     let alone : (is_foreign_kind header.kind && holds_other_slot ec.at.exceptions.caught slot) ≡ false
     = ap (λ b. b && holds_other_slot ec.at.exceptions.caught slot) (foreign_kind places ok.exception header ok.thrown is ∙ ap is_foreign (sym (exception_is v.live e ok.exception ok.live)))
-    ∙ ap (λ b. is_foreign (exception_at v e) && b) (sym (others_alike ec.at.exceptions.live e slot live.has unique v.caught ec.at.exceptions.caught m.caught)) ∙ ok.alone in
+    ∙ ap (λ b. is_foreign (exception_at v e) && b) (sym (others_alike ec.at.exceptions.live e slot live.has unique v.caught ec.at.exceptions.caught m.caught)) ∙ alone_here in
     let end : abi.World = gives 10 (object_of slot) (runtime_entered (record { slot = slot; header = header }) t) in
     let effect : (wish : ℕ) → call_effect 6 image wish t ≡ abi.goes end = λ wish. begin_is image wish t ∙ begins_is image t slot header found may alone in
     let to : LinearState = moved st (st.top.place + 1) st.top.frame (entered e v) in
@@ -208,9 +221,10 @@ enter_runs turns made image p n s e st next w back h at holds ok =
     }
 
 pub enters_run : CallsAreTurns → CallsAreMade → EntersRun
-enters_run turns made image p n s e st next w h at holds ok =
-    let went = enter_step p n s e st next at holds ok.alone in (
+enters_run turns made image p n s e st next w h at holds ok alone =
+    let can = can_enter st.frames st.world e ok (enter_may p n s e st next at holds) in
+    let went = enter_step p n s e st next at holds alone in (
       ap (λ (y : LinearState). y.world.items) (sym went),
       subst (λ (y : LinearState). Matched image (length (linear_code (shape p n) (plain (enter s)))) w (Enter e ∷ []) (λ v. Matches p y v)) went
-          (enter_runs turns made image p n s e st next w h.back (stands_by p n st w h at.runs) at holds ok),
+          (enter_runs turns made image p n s e st next w h.back (stands_by p n st w h at.runs) at holds can alone),
     )

@@ -19,7 +19,7 @@ use Rattle.cxa_runtime.specs.Run.{counted}
 use Rattle.region_forms.specs.World.{of_exception, Frame, World, Live, building, native, exception_of, exception_in_slot}
 use Rattle.region_forms.specs.Effect.{freed}
 use Rattle.linear_forms.specs.Linear.{free}
-use Rattle.linear_forms.specs.Activation.{Activation, State as LinearState, goes_to}
+use Rattle.linear_forms.specs.Activation.{Activation, State as LinearState, Next, goes_to, next_if}
 use Rattle.emission_forms.specs.Registers.{sp, a0}
 use Rattle.emission_forms.specs.LinearCode.{linear_code}
 use Rattle.emission_forms.specs.Routine.{op_word}
@@ -40,10 +40,12 @@ use Rattle.operation_simulation.proofs.Closing.{live_before, matches_narrowed}
 use Rattle.exception_operations.specs.Objects.{is_object, without_object, HoldsObject}
 use Rattle.exception_operations.specs.Frees.{FreesRun}
 use Rattle.exception_operations.proofs.LiveLists.{without, gone_in, kept_in}
+use Rattle.exception_operations.proofs.Travels.{building_there}
 use Rattle.exception_operations.proofs.Finding.{live_header, object_found}
 use Rattle.exception_operations.proofs.Freed.{freed_match, building_out}
 use Rattle.exception_operations.proofs.Ecalls.{ecall_reached, object_loaded, call_made}
 use Rattle.operation_simulation.proofs.Stored.{next_there}
+use Rattle.region_forms.specs.Lives.{is_being_built}
 use Rattle.linear_forms.specs.Operation.{may_free}
 
 free_is : (image : Image) (wish : ℕ) (t : abi.World) → call_effect 4 image wish t ≡ free_call_effect t
@@ -159,8 +161,21 @@ free_runs turns made image p n s e st next w back h at holds there =
       };
     }
 
+-- it was being built
+free_there : (p : Plan) (n s e : ℕ) (st next : LinearState) → StepAt p st next n (free s) → HoldsObject p n st.top.frame s e → live_in st.world.live e ≡ Some building
+free_there p n s e st next at holds =
+    let number : exception_in_slot st.top.frame s ≡ e = ap exception_of holds.is in
+    let test : may_free st.top.function st.world (exception_in_slot st.top.frame s) ≡ is_being_built st.world e = ap (λ f. may_free f st.world (exception_in_slot st.top.frame s)) at.runs ∙ ap (is_being_built st.world) number in
+    building_there st.world e (sym test ∙ was_defined (may_free st.top.function st.world (exception_in_slot st.top.frame s)) st.world
+    (goes_to (moved st (st.top.place + 1) st.top.frame (freed (exception_in_slot st.top.frame s) st.world))) next (sym (step_is p n st (free s) at.runs at.there) ∙ at.step))
+  where
+    was_defined : (b : Bool) (v : World) (x : Next) (to : LinearState) → next_if b v x ≡ goes_to to → b ≡ true
+    was_defined true v x to e = refl
+    was_defined false v x to e = absurd (cc e)
+
 pub frees_run : CallsAreTurns → CallsAreMade → FreesRun
-frees_run turns made image p n s e st next w h at holds there =
+frees_run turns made image p n s e st next w h at holds =
+    let there = free_there p n s e st next at holds in
     let went = free_step p n s e st next at holds in (
       ap (λ (y : LinearState). y.world.items) (sym went),
       subst (λ (y : LinearState). Matched image (length (linear_code (shape p n) (free s))) w (Free e ∷ []) (λ v. Matches (without_object p e) y v)) went

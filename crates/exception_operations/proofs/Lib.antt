@@ -4,6 +4,7 @@ pub mod Finding
 pub mod Freed
 pub mod Ecalls
 pub mod Frees
+pub mod Travels
 pub mod CaughtLists
 pub mod Enters
 pub mod Picking
