@@ -19,3 +19,4 @@ pub mod Throwing
 pub mod Onward
 pub mod Arriving
 pub mod Resuming
+pub mod Again

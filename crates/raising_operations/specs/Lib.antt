@@ -2,4 +2,5 @@ pub mod Stacks
 pub mod Targets
 pub mod Throws
 pub mod Resumes
+pub mod Rethrows
 pub mod Pads
