@@ -1,5 +1,5 @@
 -- What both machines have of an exception that is thrown again.
-use Rattle.std.proofs.Common.{◌≡◌, ◌∙◌, refl, sym, ap, subst, arith, ℕ, suc, ◌+◌, ◌&&◌, ◌==◌, nat_eq, Bool, true, false, ℤ, negsuc, List, [], ◌∷◌, length, slice_set, length-set, Some, is_some}
+use Rattle.std.proofs.Common.{◌≡◌, ◌∙◌, refl, sym, ap, subst, arith, ℕ, ◌+◌, ◌&&◌, ◌==◌, nat_eq, Bool, true, false, ℤ, negsuc, List, [], ◌∷◌, slice_set, length-set, Some, is_some}
 use Rattle.std.specs.Prelude.{if◌then◌else◌}
 use Rattle.std.specs.List.{list_all, IsDistinct}
 use Rattle.std.proofs.lemmas.Bool.Decides.{nat_tests}

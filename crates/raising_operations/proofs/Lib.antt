@@ -20,3 +20,4 @@ pub mod Onward
 pub mod Arriving
 pub mod Resuming
 pub mod Again
+pub mod Rethrowing

@@ -1,9 +1,8 @@
 -- The newest handled exception is thrown again.
-use Rattle.std.specs.Prelude.{◌≡◌, ℕ, List, [], ◌∷◌, length}
+use Rattle.std.specs.Prelude.{◌≡◌, ℕ, [], length}
 use Rattle.elf_image.specs.Clean.{CleanImage}
 use Rattle.cxa_runtime.specs.World as abi
 use Rattle.region_forms.specs.Form.{rethrow}
-use Rattle.region_forms.specs.Caught.{Entry}
 use Rattle.region_forms.specs.World.{type_at}
 use Rattle.region_forms.specs.Effect.{newest_of}
 use Rattle.linear_forms.specs.Linear.{plain}

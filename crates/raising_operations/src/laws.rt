@@ -1,6 +1,7 @@
 // Laws of raises in words: calls of no effect, whose contracts state what holds of every unit.
 ghost use Rattle.raising_operations.specs.Pads.{PadsRun};
 ghost use Rattle.raising_operations.specs.Resumes.{ResumesRun};
+ghost use Rattle.raising_operations.specs.Rethrows.{RethrowsRun};
 ghost use Rattle.raising_operations.specs.Stacks.{StacksStand};
 ghost use Rattle.raising_operations.specs.Throws.{ThrowsRun};
 
@@ -35,4 +36,13 @@ pub fn resumes_run()
     calls_are_turns();
     calls_are_made();
     resumes_agree();
+}
+
+/// The newest handled exception that is thrown again comes to the landing pad on the ABI machine that it comes to on the machine for linear code.
+pub fn rethrows_run()
+    ensures { RethrowsRun }
+{
+    calls_are_turns();
+    calls_are_made();
+    raises_agree();
 }
