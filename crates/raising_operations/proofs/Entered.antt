@@ -42,7 +42,7 @@ use Rattle.raising_operations.proofs.Selectors.{SelectsInts, inner_gone}
 use Rattle.raising_operations.proofs.Landing.{same_first, same_others, one_number, landed, popped_to, runtime_to}
 
 -- ---- the landing among open calls
-split_activations : (inner : List Open) (landing : Open) (outer : List Open) (tail : List Activation) →
+pub split_activations : (inner : List Open) (landing : Open) (outer : List Open) (tail : List Activation) →
     activations (inner ++ landing ∷ outer) ++ tail ≡ activations inner ++ landing.activation ∷ (activations outer ++ tail)
 split_activations inner landing outer tail =
     ap (λ xs. xs ++ tail) (map-append (λ o. o.activation) inner (landing ∷ outer)) ∙ append_assoc (activations inner) (landing.activation ∷ activations outer) tail

@@ -33,6 +33,7 @@ use Rattle.linear_forms.specs.UnitRun.{code_of}
 use Rattle.emission_forms.specs.Registers.{sp, a0}
 use Rattle.emission_forms.specs.LinearCode.{linear_code}
 use Rattle.emission_forms.specs.Routine.{op_word}
+use Rattle.code_simulation.specs.Numbers.{IsInt}
 use Rattle.code_simulation.specs.Standing.{Ground}
 use Rattle.code_simulation.specs.Laws.{CallsAreTurns}
 use Rattle.code_simulation.proofs.Turning.{turns_then}
@@ -95,7 +96,7 @@ module _ (p : Plan) (i : CleanImage) (n back : ℕ) (a : Activation) (fs : List 
   pub resume_lands : ResumesAgree → (k : abi.World) (e d m value : ℕ) (t : Option ℕ) (st : LinearState) → BaseIsThere (length p.unit.types) t → type_at v e ≡ t → HasTarget (code_of p.unit) t d (a ∷ fs) →
       unwound_above (code_of p.unit) d e (a ∷ fs) v ≡ goes_to st → st.top.function ≡ compiled m → PadsArePlain p → FiltersAreInts p → RuntimeMatches p fs v k →
       PadGets p v (flying e d) value →
-      LandsTo p (program_of i).image st v k value (target_end p d (x s sp) (a ∷ fs)) (unwinder.resume (program_of i).image.fdes (thrown_as (records_end p.unit) p.unit.types t) (target_end p d (x s sp) (a ∷ fs)) s)
+      LandsTo p (program_of i).image st v k value (target_end p d (x s sp) (a ∷ fs)) IsInt (unwinder.resume (program_of i).image.fdes (thrown_as (records_end p.unit) p.unit.types t) (target_end p d (x s sp) (a ∷ fs)) s)
   resume_lands agree k e d m value t st known type target to callee plain ints runtime gets =
       let code = code_of p.unit in
       let fdes = (program_of i).image.fdes in
@@ -109,7 +110,7 @@ module _ (p : Plan) (i : CleanImage) (n back : ℕ) (a : Activation) (fs : List 
       let is : cfa ≡ target_end p d (x s sp) (a ∷ fs) = whole_end p i n back a fs v s running h d (omega (arith, there.depth)) in
       let live : st.top.function ≡ terminating → ⊥ = λ b. let both : compiled m ≡ terminating = sym callee ∙ b in cc both in
       let came : unwound_above code d e (activations opens ++ tail) v ≡ goes_to st = ap (λ xs. unwound_above code d e xs v) are ∙ to in
-      subst (λ c. LandsTo p (program_of i).image st v k value c (unwinder.resume fdes thrown c s)) is
+      subst (λ c. LandsTo p (program_of i).image st v k value c IsInt (unwinder.resume fdes thrown c s)) is
       (by cfa (unwinder.resume fdes thrown cfa s) came live (agree code (operation_byte p.unit) fdes thrown t e d v s (x s sp) opens tail stands type there))
     where
       by : (cfa : ℕ) (result : Raised × State) → unwound_above (code_of p.unit) d e (activations (all_opens p i n back a fs v s running h) ++ all_tail p i n back a fs v s running h) v ≡ goes_to st → (st.top.function ≡ terminating → ⊥) →
@@ -118,11 +119,11 @@ module _ (p : Plan) (i : CleanImage) (n back : ℕ) (a : Activation) (fs : List 
           ⊎ (IsTerminated v (all_opens p i n back a fs v s running h) (all_tail p i n back a fs v s running h) (unwound_above (code_of p.unit) d e (activations (all_opens p i n back a fs v s running h) ++ all_tail p i n back a fs v s running h) v)
           × (result ≡ (Terminate, s)))
           ⊎ (unwound_above (code_of p.unit) d e (activations (all_opens p i n back a fs v s running h) ++ all_tail p i n back a fs v s running h) v ≡ finishes fault v) →
-          LandsTo p (program_of i).image st v k value cfa result
+          LandsTo p (program_of i).image st v k value cfa IsInt result
       by cfa result came live (inl lands) =
           let goes = raise_goes (code_of p.unit) d e v in
-          lands_to p i n back a fs v s running h (program_of i).image (λ b. judged_by (code_of p.unit) b (type_at v e)) (λ xs. unwound_above (code_of p.unit) d e xs v) v k (flying e d) value cfa m st result lands goes
-          (raise_stops (code_of p.unit) (type_at v e)) (raise_selects (code_of p.unit) d e v goes) to callee plain ints refl refl (omega arith) runtime gets
+          lands_to p i n back a fs v s running h (program_of i).image (λ b. judged_by (code_of p.unit) b (type_at v e)) (λ xs. unwound_above (code_of p.unit) d e xs v) v k (flying e d) value cfa m IsInt st result lands goes
+          (raise_stops (code_of p.unit) (type_at v e)) (raise_selects (code_of p.unit) d e v goes) (raise_selects (code_of p.unit) d e v goes) to callee plain ints refl refl (omega arith) runtime gets
       by cfa result came live (inr (inl (ends, is))) =
           absurd (live (begins_terminating v.installed.terminate_handler (record { function = ends.barring.function; place = 0; frame = ends.barring.frame } ∷ ends.outer) v st (sym ends.terminates ∙ came)))
       by cfa result came live (inr (inr ends)) = absurd (let both : finishes fault v ≡ goes_to st = sym ends ∙ came in cc both)

@@ -1,5 +1,5 @@
 -- The selectors that pads are entered with.
-use Rattle.std.proofs.Common.{◌≡◌, ◌∙◌, refl, sym, ap, arith, ℕ, ◌<◌, ◌==◌, ℤ, pos, Bool, true, false, List, [], ◌∷◌, ◌++◌, length, length-append, Option, Some, None, inl, inr}
+use Rattle.std.proofs.Common.{◌≡◌, ◌∙◌, refl, sym, ap, subst, arith, ℕ, ◌<◌, ◌==◌, ℤ, pos, Bool, true, false, List, [], ◌∷◌, ◌++◌, length, length-append, Option, Some, None, inl, inr}
 use Rattle.std.specs.Prelude.{◌⊎◌, is_some, if◌then◌else◌}
 use Rattle.std.specs.List.{AllByRecursion}
 use Rattle.std.proofs.lemmas.Bool.Decides.{nat_tests}
@@ -109,9 +109,12 @@ fewer code judge go (a ∷ fs) st steps ends e = by (steps a fs) (fewer code jud
 
 -- ---- the selector of a landing
 -- The first call of an unwind stops it in a pad, and its filters are ints: so is the selector.
+abbrev pub SelectsWhere : Code → (List Activation → Next) → (ℤ → Type 0) → Type 0
+SelectsWhere code go P = (a : Activation) (fs : List Activation) (st : State) (q : ℕ) (chain : List ℤ) (word : Word) (n : ℤ) (u : World) → go (a ∷ fs) ≡ goes_to st → st.frames ≡ fs → (st.top.function ≡ terminating → ⊥) → cover_of code a ≡ padded q chain →
+    pad_entered (fetch code a.function q) word n a.function q a.frame fs u ≡ goes_to st → AllByRecursion IsInt chain → P n
+
 abbrev pub SelectsInts : Code → (List Activation → Next) → Type 0
-SelectsInts code go = (a : Activation) (fs : List Activation) (st : State) (q : ℕ) (chain : List ℤ) (word : Word) (n : ℤ) (u : World) → go (a ∷ fs) ≡ goes_to st → st.frames ≡ fs → (st.top.function ≡ terminating → ⊥) → cover_of code a ≡ padded q chain →
-    pad_entered (fetch code a.function q) word n a.function q a.frame fs u ≡ goes_to st → AllByRecursion IsInt chain → IsInt n
+SelectsInts code go = SelectsWhere code go IsInt
 
 pub raise_selects : (code : Code) (d e : ℕ) (w : World) → GoesByCalls code (λ a. judged_by code a (type_at w e)) (λ fs. unwound_above code d e fs w) → SelectsInts code (λ fs. unwound_above code d e fs w)
 raise_selects code d e w steps a fs st q chain word n u goes frames live cover pad ints =
@@ -141,22 +144,24 @@ raise_selects code d e w steps a fs st q chain word n u goes frames live cover p
         none (inl less) = omega (arith, less, ap length frames)
         none (inr there) = live there
 
-pub forced_selects : (code : Code) (k : ℤ) (w : World) → GoesByCalls code (forced_by_table code) (λ fs. forced_above code k fs w) → SelectsInts code (λ fs. forced_above code k fs w)
-forced_selects code k w steps a fs st q chain word n u goes frames live cover pad ints =
+pub forced_zero : (code : Code) (k : ℤ) (w : World) → GoesByCalls code (forced_by_table code) (λ fs. forced_above code k fs w) → SelectsWhere code (λ fs. forced_above code k fs w) (λ n. n ≡ pos 0)
+forced_zero code k w steps a fs st q chain word n u goes frames live cover pad ints =
     by (has_cleanup (sense code a.function) chain) (sym (ap (λ c. forced_at code c k a.function a.frame fs w rest) cover) ∙ goes)
   where
     rest : Next
     rest = forced_above code k fs w
 
-    by : (b : Bool) → forced_by code b q k a.function a.frame fs w rest ≡ goes_to st → IsInt n
-    by true g =
-        let same : pos 0 ≡ n = one_selector (fetch code a.function q) (unwinding k) word (pos 0) n a.function q a.frame fs w u st g pad in
-        cc same
+    by : (b : Bool) → forced_by code b q k a.function a.frame fs w rest ≡ goes_to st → n ≡ pos 0
+    by true g = sym (one_selector (fetch code a.function q) (unwinding k) word (pos 0) n a.function q a.frame fs w u st g pad)
     by false g = absurd (none (fewer code (forced_by_table code) (λ xs. forced_above code k xs w) fs st steps (λ h. absurd (cc h)) g))
       where
         none : (length st.frames < length fs) ⊎ (st.top.function ≡ terminating) → ⊥
         none (inl less) = omega (arith, less, ap length frames)
         none (inr there) = live there
+
+pub forced_selects : (code : Code) (k : ℤ) (w : World) → GoesByCalls code (forced_by_table code) (λ fs. forced_above code k fs w) → SelectsInts code (λ fs. forced_above code k fs w)
+forced_selects code k w steps a fs st q chain word n u goes frames live cover pad ints =
+    subst IsInt (sym (forced_zero code k w steps a fs st q chain word n u goes frames live cover pad ints)) refl
 
 -- the unwind comes to the call where it stops
 pub inner_gone : (code : Code) (judge : Judge) (go : List Activation → Next) (xs : List Activation) (a : Activation) (ys : List Activation) (st : State) → GoesByCalls code judge go → go (xs ++ a ∷ ys) ≡ goes_to st →
