@@ -21,3 +21,4 @@ pub mod Arriving
 pub mod Resuming
 pub mod Again
 pub mod Rethrowing
+pub mod Forcing

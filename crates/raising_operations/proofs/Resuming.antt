@@ -74,7 +74,7 @@ use Rattle.raising_operations.proofs.Throwing.{running_still}
 use Rattle.raising_operations.proofs.Onward.{type_base, thrown_known, is_target}
 use Rattle.raising_operations.proofs.Arriving.{LandsTo, lands_to}
 
-resume_is : (image : Image) (wish : ℕ) (t : abi.World) → call_effect 9 image wish t ≡ resume_unwind image t
+pub resume_is : (image : Image) (wish : ℕ) (t : abi.World) → call_effect 9 image wish t ≡ resume_unwind image t
 unfolding call_effect numbered
 resume_is image wish t = refl
 

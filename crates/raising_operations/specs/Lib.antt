@@ -3,4 +3,5 @@ pub mod Targets
 pub mod Throws
 pub mod Resumes
 pub mod Rethrows
+pub mod Forced
 pub mod Pads

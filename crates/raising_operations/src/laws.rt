@@ -1,4 +1,5 @@
 // Laws of raises in words: calls of no effect, whose contracts state what holds of every unit.
+ghost use Rattle.raising_operations.specs.Forced.{ForcedRun};
 ghost use Rattle.raising_operations.specs.Pads.{PadsRun};
 ghost use Rattle.raising_operations.specs.Resumes.{ResumesRun};
 ghost use Rattle.raising_operations.specs.Rethrows.{RethrowsRun};
@@ -6,7 +7,7 @@ ghost use Rattle.raising_operations.specs.Stacks.{StacksStand};
 ghost use Rattle.raising_operations.specs.Throws.{ThrowsRun};
 
 use code_simulation::laws::calls_are_turns;
-use raise_simulation::laws::{raises_agree, resumes_agree};
+use raise_simulation::laws::{forced_agree, raises_agree, resumes_agree};
 use stub_simulation::laws::calls_are_made;
 
 /// Where a state of the machine for linear code matches the stack in memory, the unwinder meets its open calls there, and the exception tables
@@ -45,4 +46,13 @@ pub fn rethrows_run()
     calls_are_turns();
     calls_are_made();
     raises_agree();
+}
+
+/// A forced unwind that goes on comes to the landing pad on the ABI machine that it comes to on the machine for linear code.
+pub fn forced_run()
+    ensures { ForcedRun }
+{
+    calls_are_turns();
+    calls_are_made();
+    forced_agree();
 }
