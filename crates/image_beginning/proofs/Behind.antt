@@ -27,7 +27,7 @@ after_const : (b : Bool) (after : List Piece) → AreInts (spell_const b after) 
 after_const true after h = h.1
 after_const false after h = h
 
-after_type : (t : Ty) (after : List Piece) → AreInts (spell_type t after) → AreInts after
+pub after_type : (t : Ty) (after : List Piece) → AreInts (spell_type t after) → AreInts after
 after_type Int after h = h.1
 after_type Void after h = h.1
 after_type (Object x) after h = after_class x after h
@@ -38,7 +38,7 @@ after_some_name : (x : Option Name) (after : List Piece) → AreInts (spell_name
 after_some_name None after h = h
 after_some_name (Some x) after h = h.1
 
-after_param : (p : Param) (after : List Piece) → AreInts (spell_param p after) → AreInts after
+pub after_param : (p : Param) (after : List Piece) → AreInts (spell_param p after) → AreInts after
 after_param p after h = after_some_name p.name after (after_type p.ty (spell_name p.name after) h)
 
 after_first : (place : ℕ) (ps : List Piece) → AreInts (first_at place ps) → AreInts ps
@@ -51,7 +51,7 @@ after_dots : (names : List Name) (after : List Piece) → AreInts (spell_dots na
 after_dots [] after h = h
 after_dots (x ∷ names) after h = after_dots names after h.1.1
 
-after_path : (names : List Name) (after : List Piece) → AreInts (spell_path names after) → AreInts after
+pub after_path : (names : List Name) (after : List Piece) → AreInts (spell_path names after) → AreInts after
 after_path [] after h = h
 after_path (x ∷ names) after h = after_dots names after h.1
 
@@ -86,7 +86,7 @@ after_object : (es : Expressions) (after : List Piece) → AreInts (spell_object
 after_object no_expressions after h = h
 after_object (expression_then e es) after h = (after_arguments (expression_then e es) (mark sign.CloseParen ∷ after) h.1).1
 
-after_caught : (place : ℕ) (t : Option Ty) (x : Option Name) (after : List Piece) → AreInts (spell_caught place t x after) → AreInts after
+pub after_caught : (place : ℕ) (t : Option Ty) (x : Option Name) (after : List Piece) → AreInts (spell_caught place t x after) → AreInts after
 after_caught place None x after h = h.1
 after_caught place (Some t) x after h = after_some_name x after (after_type t (spell_name x after) (after_first place (spell_type t (spell_name x after)) h))
 
@@ -136,7 +136,7 @@ after_types : (ts : List Ty) (after : List Piece) → AreInts (spell_types ts af
 after_types [] after h = h
 after_types (t ∷ ts) after h = after_more_types ts after (after_type t (spell_more_types ts after) h)
 
-after_specification : (s : Option (List Ty)) (after : List Piece) → AreInts (spell_specification s after) → AreInts after
+pub after_specification : (s : Option (List Ty)) (after : List Piece) → AreInts (spell_specification s after) → AreInts after
 after_specification None after h = h
 after_specification (Some ts) after h = (after_types ts (mark sign.CloseParen ∷ after) h.1.1).1
 
@@ -155,18 +155,18 @@ after_more_params : (ps : List Param) (after : List Piece) → AreInts (spell_mo
 after_more_params [] after h = h
 after_more_params (p ∷ ps) after h = after_more_params ps after (after_param p (spell_more_params ps after) h.1)
 
-after_params : (ps : List Param) (after : List Piece) → AreInts (spell_params ps after) → AreInts after
+pub after_params : (ps : List Param) (after : List Piece) → AreInts (spell_params ps after) → AreInts after
 after_params [] after h = h
 after_params (p ∷ ps) after h = after_more_params ps after (after_param p (spell_more_params ps after) h)
 
 -- a function before its name
-after_result : (kind : FuncKind) (t : Ty) (after : List Piece) → AreInts (spell_result kind t after) → AreInts after
+pub after_result : (kind : FuncKind) (t : Ty) (after : List Piece) → AreInts (spell_result kind t after) → AreInts after
 after_result Plain t after h = after_type t after h
 after_result Method t after h = after_type t after h
 after_result Constructor t after h = h
 after_result Destructor t after h = h
 
-after_tilde : (kind : FuncKind) (after : List Piece) → AreInts (spell_tilde kind after) → AreInts after
+pub after_tilde : (kind : FuncKind) (after : List Piece) → AreInts (spell_tilde kind after) → AreInts after
 after_tilde Plain after h = h
 after_tilde Method after h = h
 after_tilde Constructor after h = h

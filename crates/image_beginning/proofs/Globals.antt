@@ -18,7 +18,7 @@ use Rattle.image_beginning.proofs.Behind.{after_function, after_members, after_b
 abbrev AreAllInts : List ℤ → Type 0
 AreAllInts zs = AllByRecursion IsInt zs
 
-literal_int : (z : ℤ) → IsLiteral z → IsInt z
+pub literal_int : (z : ℤ) → IsLiteral z → IsInt z
 literal_int (pos n) small = grind (arith, nat_tests, small)
 literal_int (negsuc n) small = absurd small
 
