@@ -6,4 +6,6 @@ pub mod Unwound
 pub mod Steps
 pub mod Returns
 pub mod Acts
+pub mod Kept
+pub mod Once
 pub mod Runs

@@ -1,17 +1,19 @@
 -- A run weighs no more than its turns pay for.
-use Rattle.std.proofs.Common.{◌≡◌, ℕ, zero, suc, ◌+◌, ◌*◌, ◌≤◌, Option, Some, None, refl, arith}
+use Rattle.std.proofs.Common.{◌≡◌, ℕ, zero, suc, ◌+◌, ◌*◌, ◌≤◌, Option, Some, None, refl, ap, arith}
 use Rattle.linear_forms.specs.Stub.{Function, CodeOp, terminating_rows}
 use Rattle.linear_forms.specs.Activation.{Code, State, Next, goes_to, finishes, fetch}
 use Rattle.linear_forms.specs.Machine.{step}
 use Rattle.linear_forms.specs.Unit.{unit_of}
 use Rattle.linear_forms.specs.UnitRun.{code_of, first_state}
 use Rattle.turn_weights.specs.Weights.{rows_weight, weight_of}
-use Rattle.turn_weights.specs.Turns.{turned}
+use Rattle.turn_weights.specs.Turns.{flag, calls, jumps_back, begins_terminate, turned}
 use Rattle.turn_weights.specs.Runs.{after, weighed, turns, RunsWeighLittle}
+use Rattle.turn_weights.specs.Once.{begun, counted, RunsWeighByCalls}
 use Rattle.turn_weights.proofs.Pace.{Paced, paces}
 use Rattle.turn_weights.proofs.Credit.{left, Linked}
 use Rattle.turn_weights.proofs.Steps.{less_whole, Paid}
 use Rattle.turn_weights.proofs.Acts.{step_paid}
+use Rattle.turn_weights.proofs.Once.{terminate_begins_once}
 
 both_turns : (l m n : ℕ) → l * (m + n) ≡ l * m + l * n
 both_turns zero m n = omega arith
@@ -46,3 +48,28 @@ runs_weigh_little r weigh longest n input replies light short ending =
     let code : Code = code_of (unit_of r) in
     let st : State = first_state (unit_of r) input replies in
     omega (arith, run_paid code weigh longest all.0 all.1 ending n st tt, both_turns longest (turns code n st) 1)
+
+-- turns are calls, loops and beginnings of terminate
+turns_apart : (code : Code) (n : ℕ) (st : State) → turns code n st ≡ counted code n st + begun code n st
+turns_apart code zero st = refl
+turns_apart code (suc n) st = go (step code st) (λ m. turns_apart code n m)
+  where
+    go : (next : Next) → ((m : State) → turns code n m ≡ counted code n m + begun code n m) →
+        after (turned code st) (turns code n) next ≡ after (λ m. flag (calls st m) + flag (jumps_back code st)) (counted code n) next + after (λ m. flag (begins_terminate m)) (begun code n) next
+    go (finishes e w) rest = refl
+    go (goes_to m) rest = omega (arith, rest m)
+
+once_times : (l k : ℕ) → k ≤ 1 → l * k ≤ l
+once_times l zero h = omega arith
+once_times l (suc zero) h = omega arith
+once_times l (suc (suc k)) h = absurd (omega (arith, h))
+
+pub runs_weigh_by_calls : RunsWeighByCalls
+runs_weigh_by_calls r weigh longest n input replies light short ending =
+    let code : Code = code_of (unit_of r) in
+    let st : State = first_state (unit_of r) input replies in
+    let many = counted code n st in
+    let once = begun code n st in
+    let all : weighed code weigh n st ≤ longest * (turns code n st + 1) = runs_weigh_little r weigh longest n input replies light short ending in
+    let apart : longest * (turns code n st + 1) ≡ longest * (many + once + 1) = ap (λ t. longest * (t + 1)) (turns_apart code n st) in
+    omega (arith, all, apart, both_turns longest (many + once) 1, both_turns longest many once, both_turns longest many 2, once_times longest once (terminate_begins_once code n st))

@@ -1,3 +1,4 @@
 pub mod Weights
 pub mod Turns
 pub mod Runs
+pub mod Once
