@@ -6,3 +6,4 @@ pub mod Effects
 pub mod Operations
 pub mod Steps
 pub mod Plans
+pub mod Newest

@@ -1,10 +1,12 @@
--- How a plan goes on with a step.
+-- How a plan goes on with a step, and what matching says of the newest exception.
 use Rattle.std.specs.Prelude.{◌≡◌, ◌≢◌, ℕ, ◌+◌, ◌≤◌}
+use Rattle.cxa_runtime.specs.World as abi
 use Rattle.region_forms.specs.World.{World}
+use Rattle.region_forms.specs.Effect.{newest_of}
 use Rattle.linear_forms.specs.Stub.{compiled}
 use Rattle.linear_forms.specs.Activation.{State}
 use Rattle.operation_simulation.specs.Plan.{Plan, function}
-use Rattle.operation_simulation.specs.Matches.{FrameIs}
+use Rattle.operation_simulation.specs.Matches.{FrameIs, Matches}
 use Rattle.operation_simulation.specs.Entering.{opened}
 use Rattle.exception_operations.specs.Objects.{with_object}
 use Rattle.reach_simulation.specs.Extents.{extents_of}
@@ -20,3 +22,7 @@ pub record PlansGoOn : Type 0 where
       GoesOn (extents_of p) (extents_of (with_object p (v.last_number + 1) slot)) p.unit v next
   pub same : (p q : Plan) (v : World) (next : State) → extents_of q ≡ extents_of p → ObjectsReach (extents_of p) v → next.world.last_number ≤ v.last_number → next.top.frame.call ≢ v.calls →
       GoesOn (extents_of p) (extents_of q) p.unit v next
+
+-- The newest exception that is handled was made, in each state that matches a world of the machine with its runtime.
+abbrev pub NewestWasMade : Type 0
+NewestWasMade = (p : Plan) (st : State) (w : abi.World) → Matches p st w → newest_of st.world.caught ≤ st.world.last_number

@@ -1,6 +1,6 @@
 // Laws of runs of linear code: calls of no effect, whose contracts state what holds of every program.
 ghost use Rattle.reach_simulation.specs.Laws.{PlacesLieInside, StepsReachInside, FirstReaches};
-ghost use Rattle.reach_simulation.specs.Plans.{PlansGoOn};
+ghost use Rattle.reach_simulation.specs.Plans.{PlansGoOn, NewestWasMade};
 
 /// Behind a place lie the bytes of ints for which it has room.
 pub fn places_lie_inside()
@@ -20,4 +20,9 @@ pub fn first_calls_reach_inside()
 /// The plan of a run goes on so with calls that begin and exceptions that are made.
 pub fn plans_go_on()
     ensures { PlansGoOn }
+{}
+
+/// The newest exception that is handled was made.
+pub fn newest_was_made()
+    ensures { NewestWasMade }
 {}
