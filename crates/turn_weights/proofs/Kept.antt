@@ -1,15 +1,16 @@
 -- No operation changes whether terminate has begun with a handler.
 use Rattle.std.proofs.Common.{◌≡◌, ℕ, ◌+◌, ℤ, pos, negsuc, Bool, true, false, List, [], ◌∷◌, Option, Some, None, refl, ◌∙◌, if◌then◌else◌}
-use Rattle.std.specs.Prelude.{slice_get}
+use Rattle.std.specs.Prelude.{◌&&◌, slice_get}
 use Rattle.eh_outer.specs.declared.module.Reply.{Reply}
 use Rattle.eh_outer.specs.declared.module.Reply.TheVariants.{Value as ValueReply, Raise}
 use Rattle.cxx_ast.specs.declared.name.Builtin.{Builtin}
 use Rattle.cxx_ast.specs.declared.name.Builtin.TheVariants.{WriteInt, ReadByte, Exit, Module, Cancel, Terminate, SetTerminate, SetUnexpected, Uncaught, BadException}
 use Rattle.region_forms.specs.Form.{Kinds, SlotKind, int_slot, address_slot, object_slot, help_slot, Place, Callee, defined, builtin, Value, number, load, unary, binary, call_value, Op, evaluate, store, bind, call, construct, destroy, make, throw, rethrow, enter, leave}
-use Rattle.region_forms.specs.Caught.{Entry}
-use Rattle.region_forms.specs.World.{Word, nothing, number_word, address_word, flying, unwinding, Frame, World}
+use Rattle.region_forms.specs.Caught.{Entry, holds_other}
+use Rattle.region_forms.specs.Lives.{is_there, is_being_built, can_travel, may_enter}
+use Rattle.region_forms.specs.World.{Word, nothing, number_word, address_word, flying, unwinding, Frame, World, written, exception_at, exception_in_slot}
 use Rattle.region_forms.specs.Evaluation.{Location, in_memory, in_frame, locate, value_in, words_in, address_of}
-use Rattle.region_forms.specs.Effect.{Effect, goes, raises, terminates, cancels, if_some, stored_at, finished, answered, replied, module_called, built_in, called, valued, rethrown, effect, int_passed_to, world_passed}
+use Rattle.region_forms.specs.Effect.{Effect, goes, raises, terminates, cancels, if_some, only_where, kept, entered, is_foreign, stored_at, finished, answered, replied, module_called, built_in, called, valued, rethrown, effect, int_passed_to, world_passed}
 
 -- the world of an effect has it as another
 abbrev pub Keeps : World → Effect → Type 0
@@ -27,8 +28,13 @@ some_keeps : {A : Type 0} (w : World) (o : Option A) (next : A → Effect) → (
 some_keeps w None next h = tt
 some_keeps w (Some a) next h = h a
 
+-- what is defined only where a test holds
+where_there : (w : World) (b : Bool) (x : Effect) → Keeps w x → Keeps w (only_where b x)
+where_there w true x h = h
+where_there w false x h = tt
+
 stored_keeps : (w : World) (l : Location) (z : ℤ) (f : Frame) (v : World) → v.ending ≡ w.ending → Keeps w (stored_at l z f v)
-stored_keeps w (in_memory a) z f v e = e
+stored_keeps w (in_memory a) z f v e = where_there w (is_there v a.base) (goes f (written a z v)) e
 stored_keeps w (in_frame s) z f v e = e
 
 pub finished_keeps : (w : World) (kinds : Kinds) (p : Option Place) (z : ℤ) (f : Frame) (v : World) → v.ending ≡ w.ending → Keeps w (finished kinds p z f v)
@@ -73,7 +79,9 @@ valued_keeps kinds (binary o a b) p f w = some_keeps w (value_in kinds f w (bina
 
 rethrown_keeps : (es : List Entry) (w : World) → Keeps w (rethrown es w)
 rethrown_keeps [] w = refl
-rethrown_keeps (x ∷ xs) w = either w x.again (terminates _ _) (raises _ _) refl refl
+rethrown_keeps (x ∷ xs) w =
+    let again = raises x.number w in
+    either w x.again (terminates w.installed.terminate_handler w) (only_where (can_travel w x.number) again) refl (where_there w (can_travel w x.number) again refl)
 
 pub effect_keeps : (kinds : Kinds) (o : Op) (f : Frame) (w : World) → Keeps w (effect kinds o f w)
 effect_keeps kinds (evaluate v) f w = valued_keeps kinds v None f w
@@ -83,9 +91,14 @@ effect_keeps kinds (call c args) f w = some_keeps w (words_in kinds f w args) (�
 effect_keeps kinds (construct p n args) f w = some_keeps w (address_of kinds f p) _ (λ a. some_keeps w (words_in kinds f w args) _ (λ given. tt))
 effect_keeps kinds (destroy p n) f w = some_keeps w (address_of kinds f p) _ (λ a. tt)
 effect_keeps kinds (make s) f w = either w _ (terminates _ _) (goes _ _) refl refl
-effect_keeps kinds (throw s t d) f w = refl
+effect_keeps kinds (throw s t d) f w = let e = exception_in_slot f s in where_there w (is_being_built w e) (raises e (kept e t d w)) refl
 effect_keeps kinds rethrow f w = rethrown_keeps w.caught w
-effect_keeps kinds (enter s) f w = either w _ (terminates _ _) (goes _ _) refl refl
+effect_keeps kinds (enter s) f w =
+    let e = exception_in_slot f s in
+    let stops = is_foreign (exception_at w e) && holds_other e w.caught in
+    let terminated = terminates w.installed.terminate_handler w in
+    let done = goes f (entered e w) in
+    where_there w (may_enter w e) (if stops then terminated else done) (either w stops terminated done refl refl)
 effect_keeps kinds leave f w = tt
 
 -- nor does what a call is passed

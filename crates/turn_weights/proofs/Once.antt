@@ -8,6 +8,7 @@ use Rattle.region_forms.specs.Form.{Value}
 use Rattle.region_forms.specs.World.{Word, nothing, number_word, address_word, flying, unwinding, Frame, World, Exception, building, native, foreign, exception_at, type_at, exception_in_slot, exception_of, address_in, object_address, with_slot, with_item}
 use Rattle.run_items.specs.declared.item.Item.TheVariants.{Destroy}
 use Rattle.region_forms.specs.Caught.{gives_back}
+use Rattle.region_forms.specs.Lives.{is_native, may_enter, may_leave}
 use Rattle.region_forms.specs.Unexpected.{kept_with}
 use Rattle.region_forms.specs.Evaluation.{value_in}
 use Rattle.region_forms.specs.Effect.{Effect, goes, calls as calls_effect, raises, terminates, ends, cancels, leaves_newest, meaningless, finished, effect, entered, entered_doomed, flies, cleaned_up, freed, newest_of, left as left_world, result_in, new_frame, new_world}
@@ -15,12 +16,12 @@ use Rattle.linear_forms.specs.Linear.{LinearOp, plain, label, jump, jump_zero, p
 use Rattle.linear_forms.specs.Tables.{Cover, bare, unpadded, padded}
 use Rattle.linear_forms.specs.Verdict.{Verdict, target, no_way, clean, nothing_here}
 use Rattle.linear_forms.specs.Stub.{StubOp, Function, compiled, end_catch, terminating, call_unexpected, CodeOp, linear, runtime, leave_newest, destroy_held, call_held, begin_unexpected, check_unexpected, construct_bad, terminate_for, abort, StubRow, terminating_rows}
-use Rattle.linear_forms.specs.Activation.{Code, Activation, State, Next, goes_to, finishes, by_program, fault, fetch, look, sense, place_of, kinds, at, on, stub_frame, function_word, depth_of, enters_function, terminated}
+use Rattle.linear_forms.specs.Activation.{Code, Activation, State, Next, goes_to, finishes, by_program, fault, next_if, fetch, look, sense, place_of, kinds, at, on, stub_frame, function_word, depth_of, enters_function, terminated}
 use Rattle.linear_forms.specs.Search.{found}
 use Rattle.linear_forms.specs.Unwinding.{pad_entered, unwound_by, unwound_at, unwound_above, unwind, doomed_by, doomed, raised_to, raise}
 use Rattle.linear_forms.specs.Forced.{forced_by, forced_at, forced_above, force}
 use Rattle.linear_forms.specs.Verdict.{pad_verdict, has_cleanup}
-use Rattle.linear_forms.specs.Operation.{performed, settled, wanted_by, returned, returned_with, jumped, jumped_zero, holds_number, resumed, number_of, act}
+use Rattle.linear_forms.specs.Operation.{may_free, performed, settled, wanted_by, returned, returned_with, jumped, jumped_zero, holds_number, resumed, number_of, act}
 use Rattle.linear_forms.specs.StubOperation.{is_bad, empty_call, checked, sense_held, given_back, newest_left, called_held, destroyed, act_stub}
 use Rattle.linear_forms.specs.Machine.{act_on, step}
 use Rattle.turn_weights.specs.Turns.{flag, is_terminating, begins_terminate}
@@ -212,6 +213,11 @@ module _ (code : Code) (a : Activation) (fs : List Activation) (w : World) where
   abbrev C : Next → Type 0
   C next = Calm w.ending next
 
+  -- what is defined only where a test holds
+  where_defined : (b : Bool) (next : Next) → C next → C (next_if b w next)
+  where_defined true next h = h
+  where_defined false next h = tt
+
   goes_on : (x : Frame) (v : World) → v.ending ≡ w.ending → C (on a x fs v)
   goes_on x v same = calm_on w.ending a x fs v same
 
@@ -236,7 +242,8 @@ module _ (code : Code) (a : Activation) (fs : List Activation) (w : World) where
   act_calm (jump_zero v l) there = zero_calm v l there (value_in (kinds code a.function) a.frame w v)
   act_calm (pad o s) there = tt
   act_calm (jump_filter s n l) there = either w.ending (holds_number (a.frame.slots s) n) (jumped code l a fs w) (on a a.frame fs w) (jump_calm (jump_filter s n l) l there) (goes_on a.frame w refl)
-  act_calm (free s) there = goes_on a.frame (freed (exception_in_slot a.frame s) w) refl
+  act_calm (free s) there =
+      let e = exception_in_slot a.frame s in where_defined (may_free a.function w e) (on a a.frame fs (freed e w)) (goes_on a.frame (freed e w) refl)
   act_calm (resume s) there = resume_calm (a.frame.slots s)
   act_calm (unexpected o s) there = calm_at w.ending call_unexpected 0 (stub_frame (a.frame.slots o) (a.frame.slots s) (function_word (number_of a.function))) (a ∷ fs) w refl refl
   act_calm (return r) there = back_calm code w.ending (result_in r a.frame w (kinds code a.function)) fs w refl
@@ -267,8 +274,9 @@ module _ (code : Code) (a : Activation) (fs : List Activation) (w : World) where
   destroyed_calm (unwinding z) y = emptied y
 
   newest_calm : (o d l : ℕ) → Here (runtime (leave_newest o d l)) → C (newest_left o d l a fs w)
-  newest_calm o d l there =
-      either w.ending (gives_back w.caught) (given_back (exception_at w (newest_of w.caught)) (newest_of w.caught) o d l a fs (left_world w)) (at a.function l a.frame fs (left_world w)) (by (exception_at w (newest_of w.caught)) (newest_of w.caught) (left_world w) refl) (at_label (left_world w) refl)
+  newest_calm o d l there = where_defined (may_leave w w.caught)
+      (if gives_back w.caught then given_back (exception_at w (newest_of w.caught)) (newest_of w.caught) o d l a fs (left_world w) else at a.function l a.frame fs (left_world w))
+      (either w.ending (gives_back w.caught) (given_back (exception_at w (newest_of w.caught)) (newest_of w.caught) o d l a fs (left_world w)) (at a.function l a.frame fs (left_world w)) (by (exception_at w (newest_of w.caught)) (newest_of w.caught) (left_world w) refl) (at_label (left_world w) refl))
     where
       at_label : (v : World) → v.ending ≡ w.ending → C (at a.function l a.frame fs v)
       at_label v same = calm_at w.ending a.function l a.frame fs v (not_there code a.function a.place (runtime (leave_newest o d l)) there (λ x. x)) same
@@ -282,7 +290,10 @@ module _ (code : Code) (a : Activation) (fs : List Activation) (w : World) where
   stub_calm (leave_newest o d l) there = newest_calm o d l there
   stub_calm (destroy_held s o) there = destroyed_calm (a.frame.slots s) (a.frame.slots o)
   stub_calm (call_held s) there = held_calm (a.frame.slots s)
-  stub_calm (begin_unexpected o s) there = goes_on (with_slot s (function_word (kept_with (exception_at w (exception_in_slot a.frame o))).unexpected_handler) a.frame) (entered (exception_in_slot a.frame o) w) refl
+  stub_calm (begin_unexpected o s) there =
+      let e = exception_in_slot a.frame o in
+      let x = with_slot s (function_word (kept_with (exception_at w e)).unexpected_handler) a.frame in
+      where_defined (is_native (exception_at w e) && may_enter w e) (on a x fs (entered e w)) (goes_on x (entered e w) refl)
   stub_calm (check_unexpected s f o x) there = goes_on
       (with_slot x (number_word (checked code.rows (sense_held code (a.frame.slots f) (a.frame.slots s)) (type_at w (exception_in_slot a.frame o)))) a.frame) w refl
   stub_calm construct_bad there = goes_on a.frame (empty_call fs w) refl
