@@ -45,8 +45,8 @@ use Rattle.operation_simulation.proofs.Quiet.{moved, step_is, plain_is}
 use Rattle.operation_simulation.proofs.Holding.{same_number}
 use Rattle.operation_simulation.proofs.Lines.{matches_alike}
 use Rattle.exception_operations.specs.Objects.{HoldsObject}
-use Rattle.exception_operations.specs.Enters.{is_crowded as is_crowded_in, EntersRun}
-use Rattle.exception_operations.proofs.Travels.{IsThrown, CanEnter, can_enter}
+use Rattle.exception_operations.specs.Enters.{IsThrown, is_crowded as is_crowded_in, EntersRun}
+use Rattle.exception_operations.proofs.Travels.{CanEnter, can_enter}
 use Rattle.exception_operations.proofs.Finding.{live_header, object_found}
 use Rattle.exception_operations.proofs.Freed.{slots_alike}
 use Rattle.exception_operations.proofs.CaughtLists.{others_alike, front_alike, counts_small, entered_alike, begun_live, begun_once, begun_counted}

@@ -8,7 +8,7 @@ use Rattle.region_forms.specs.World.{World, Exception, Live, building, native, f
 use Rattle.region_forms.specs.Lives.{is_live, is_built, is_being_built, can_travel, is_on_top, may_enter}
 use Rattle.linear_forms.specs.Activation.{Activation}
 use Rattle.operation_simulation.specs.Exceptions.{destroyed, live_in}
-use Rattle.exception_operations.specs.Enters.{handlers_of, MayEnter}
+use Rattle.exception_operations.specs.Enters.{handlers_of, IsThrown, MayEnter}
 
 -- ---- tests
 
@@ -61,10 +61,6 @@ is_handled (x ∷ xs) e = if x.number == e then true else is_handled xs e
 abbrev pub is_in_front : List Entry → ℕ → Bool
 is_in_front [] e = true
 is_in_front (x ∷ xs) e = if x.number == e then true else not (is_handled xs e)
-
-abbrev pub IsThrown : Exception → Type 0
-IsThrown building = ⊥
-IsThrown x = Unit {0}
 
 handled_alike : (xs : List Entry) (e : ℕ) → some_of (λ y. y.number == e) xs ≡ is_handled xs e
 handled_alike [] e = refl

@@ -6,7 +6,7 @@ use Rattle.cxa_runtime.specs.World as abi
 use Rattle.cxa_runtime.specs.Raising.{Image}
 use Rattle.region_forms.specs.Form.{enter}
 use Rattle.region_forms.specs.Caught.{Entry, holds_other}
-use Rattle.region_forms.specs.World.{World, exception_at}
+use Rattle.region_forms.specs.World.{Exception, building, World, exception_at}
 use Rattle.region_forms.specs.Effect.{is_foreign}
 use Rattle.linear_forms.specs.Linear.{plain}
 use Rattle.linear_forms.specs.Activation.{Activation, State}
@@ -22,6 +22,11 @@ use Rattle.exception_operations.specs.Objects.{HoldsObject, Shows}
 abbrev pub handlers_of : List Entry → ℕ → ℕ
 handlers_of [] e = 0
 handlers_of (x ∷ xs) e = if x.number == e then suc x.more else handlers_of xs e
+
+-- an exception is built
+abbrev pub IsThrown : Exception → Type 0
+IsThrown building = ⊥
+IsThrown x = Unit {0}
 
 -- no destructor of an exception runs, and fewer than 2^62 handlers have it
 pub record MayEnter (fs : List Activation) (v : World) (e : ℕ) : Type 0 where
