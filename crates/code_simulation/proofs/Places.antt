@@ -19,7 +19,7 @@ use Rattle.emission_forms.specs.PlaceCode.{within, root_loaded, slot_loaded}
 use Rattle.code_simulation.specs.Numbers.{extended, int_bits}
 use Rattle.code_simulation.specs.Standing.{Ground, address, PieceAt, PiecesAt}
 use Rattle.code_simulation.specs.Going.{Computes, Gives}
-use Rattle.code_simulation.specs.Frames.{Setting, byte_of, IntAt, AddressAt, WordHolds, Reached, SlotFits, RootFits, FrameHolds, Ready}
+use Rattle.code_simulation.specs.Frames.{Setting, byte_of, IntAt, AddressAt, WordHolds, Reached, SlotFits, RootFits, RootIsLive, FrameHolds, Ready}
 use Rattle.code_simulation.proofs.Storing.{loads_done}
 use Rattle.code_simulation.proofs.Numbers.{int_loaded}
 use Rattle.code_simulation.proofs.Going.{sets_value, computes_then}
@@ -138,14 +138,14 @@ slot_loads t f kinds frame w k here slot n s z h small fits code at e =
     }
 
 through_loads : (t : Setting) (f : Shape) (kinds : Kinds) (frame : Frame) (w : World) (k here slot n : ℕ) (s : State) (z : ℤ) → Ready t f kinds frame w s → k < 15 →
-    RootFits t f kinds frame (through slot) n → PiecesAt s.memory t.ground here (root_loaded f (register k) (through slot) n) → s.pc ≡ address t.ground here →
+    RootFits t f kinds frame (through slot) n → RootIsLive t frame (through slot) → PiecesAt s.memory t.ground here (root_loaded f (register k) (through slot) n) → s.pc ≡ address t.ground here →
     (o : Option Address) → address_in (frame.slots slot) ≡ o → with_some (location_behind n o) (read_location frame w) ≡ Some z → Gives t.ground here 2 k s z
-through_loads t f kinds frame w k here slot n s z h small fits code at None o e = absurd (cc e)
-through_loads t f kinds frame w k here slot n s z h small fits code at (Some b) o e =
+through_loads t f kinds frame w k here slot n s z h small fits live code at None o e = absurd (cc e)
+through_loads t f kinds frame w k here slot n s z h small fits live code at (Some b) o e =
     let rd : ℕ = register k in
     let g : Ground = t.ground in
     let first = through_address t f kinds frame w k here slot s b h small fits.0 fits.1 code.0 at o in
-    let there : IntAt s.memory (byte_of t b + n) z = subst (λ a. IntAt s.memory a z) (omega arith) (h.holds.ints (behind b n) z (fits.3 b o) (read_there (is_there w b.base) (w.memory (behind b n)) z e)) in
+    let there : IntAt s.memory (byte_of t b + n) z = subst (λ a. IntAt s.memory a z) (omega arith) (h.holds.ints (behind b n) z (live b o) (read_there (is_there w b.base) (w.memory (behind b n)) z e)) in
     let m : State = first.goes.after in
     let base : x m rd ≡ byte_of t b = first.is in
     let place : add (x m rd) (imm12 (immediate (pos n))) ≡ byte_of t b + n = ap (λ a. add a (imm12 (immediate (pos n)))) base ∙ near_address (byte_of t b) n fits.2 there.below in
@@ -187,8 +187,8 @@ global_loads t f kinds frame w k here n o s z h small fits code at e =
 
 -- what a place holds, in the k-th register for values
 pub place_loads : (t : Setting) (f : Shape) (kinds : Kinds) (frame : Frame) (w : World) (k here : ℕ) (s : State) (z : ℤ) (root : Root) (n : ℕ) → Ready t f kinds frame w s → k < 15 →
-    RootFits t f kinds frame root n → PiecesAt s.memory t.ground here (root_loaded f (register k) root n) → s.pc ≡ address t.ground here →
+    RootFits t f kinds frame root n → RootIsLive t frame root → PiecesAt s.memory t.ground here (root_loaded f (register k) root n) → s.pc ≡ address t.ground here →
     with_some (root_location kinds frame root n) (read_location frame w) ≡ Some z → Gives t.ground here (length (root_loaded f (register k) root n)) k s z
-place_loads t f kinds frame w k here s z (in_slot slot) n h small fits code at e = slot_loads t f kinds frame w k here slot n s z h small fits code at e
-place_loads t f kinds frame w k here s z (through slot) n h small fits code at e = through_loads t f kinds frame w k here slot n s z h small fits code at (address_in (frame.slots slot)) refl e
-place_loads t f kinds frame w k here s z (in_global g) n h small fits code at e = global_loads t f kinds frame w k here g n s z h small fits code at e
+place_loads t f kinds frame w k here s z (in_slot slot) n h small fits live code at e = slot_loads t f kinds frame w k here slot n s z h small fits code at e
+place_loads t f kinds frame w k here s z (through slot) n h small fits live code at e = through_loads t f kinds frame w k here slot n s z h small fits live code at (address_in (frame.slots slot)) refl e
+place_loads t f kinds frame w k here s z (in_global g) n h small fits live code at e = global_loads t f kinds frame w k here g n s z h small fits code at e

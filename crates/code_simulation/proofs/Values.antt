@@ -343,7 +343,7 @@ value_evaluates t f kinds frame w (number v) z stands e =
           };
     }
 value_evaluates t f kinds frame w (load p) z stands e = record {
-  run = λ k here s fits short code at ready. place_loads t f kinds frame w k here s z p.root p.offset ready (omega (arith, fits)) stands code at e;
+  run = λ k here s fits short code at ready. place_loads t f kinds frame w k here s z p.root p.offset ready (omega (arith, fits)) stands.0 stands.1 code at e;
 }
 value_evaluates t f kinds frame w (unary o v) z stands e =
     unary_evaluates t f kinds frame w o (λ k. value_code f k v) (needs v) (value_in kinds frame w v) z (λ u h. value_evaluates t f kinds frame w v u stands h) (needs_some v) e

@@ -57,17 +57,22 @@ SlotFits address_slot n = n ≡ 0
 SlotFits object_slot n = ⊤
 SlotFits help_slot n = n ≡ 0
 
--- offsets into a frame and behind an address fit 12 bits, the address that a slot holds is one of live bytes, and a global is an int
+-- offsets into a frame and behind an address fit 12 bits, and a global is an int
 abbrev pub RootFits : Setting → Shape → Kinds → Frame → Root → ℕ → Type 0
 RootFits t f kinds frame (in_slot s) n = (s < length f.slots) × (slot_offset f s + n < 2 ^ 11) × SlotFits (kinds s) n
-RootFits t f kinds frame (through s) n =
-    (s < length f.slots) × (slot_offset f s < 2 ^ 11) × (n < 2 ^ 11) × ((b : Address) → address_in (frame.slots s) ≡ Some b → t.live b.base ≡ true)
+RootFits t f kinds frame (through s) n = (s < length f.slots) × (slot_offset f s < 2 ^ 11) × (n < 2 ^ 11)
 RootFits t f kinds frame (in_global g) n = (g < t.globals) × (n ≡ 0)
 
--- the numbers of a value are ints, and its places fit
+-- what the address in a slot begins at is live
+abbrev pub RootIsLive : Setting → Frame → Root → Type 0
+RootIsLive t frame (in_slot s) = ⊤
+RootIsLive t frame (through s) = (b : Address) → address_in (frame.slots s) ≡ Some b → t.live b.base ≡ true
+RootIsLive t frame (in_global g) = ⊤
+
+-- the numbers of a value are ints, and its places fit and are of what is live
 abbrev pub ValueStands : Setting → Shape → Kinds → Frame → Value → Type 0
 ValueStands t f kinds frame (number v) = IsInt v
-ValueStands t f kinds frame (load p) = RootFits t f kinds frame p.root p.offset
+ValueStands t f kinds frame (load p) = RootFits t f kinds frame p.root p.offset × RootIsLive t frame p.root
 ValueStands t f kinds frame (unary o v) = ValueStands t f kinds frame v
 ValueStands t f kinds frame (binary o a b) = ValueStands t f kinds frame a × ValueStands t f kinds frame b
 ValueStands t f kinds frame (call_value c args) = ⊤
