@@ -1,4 +1,4 @@
--- What is asked of a program is all that is needed, since what a call's slots hold the address of is live.
+-- What is asked of a program is all that is needed, since all but exceptions whose address a call's slots hold is live.
 use Rattle.std.proofs.Common.{◌≡◌, ◌∙◌, refl, ap, subst, ℕ, ◌<◌, ◌≤◌, List, length, Option, Some, None}
 use Rattle.std.specs.Prelude.{true}
 use Rattle.rv64_isa.specs.State.{Part}
@@ -6,14 +6,14 @@ use Rattle.region_forms.specs.Form.{SlotKind, int_slot, address_slot, object_slo
 use Rattle.region_forms.specs.World.{Base, of_global, of_variable, of_exception, Address, address_in, behind, Frame, World}
 use Rattle.region_forms.specs.Evaluation.{Location, in_memory, in_frame, slot_location, location_behind, root_location, with_some, location_address, locate}
 use Rattle.linear_forms.specs.Linear.{LinearOp, plain, label, jump, jump_zero}
-use Rattle.code_simulation.specs.Frames.{RootFits, ValueStands}
+use Rattle.code_simulation.specs.Frames.{RootFits, RootIsLive, ValueStands}
 use Rattle.operation_simulation.specs.Plan.{Plan, shape, slot_kinds, setting}
 use Rattle.operation_simulation.specs.Extents.{AddressStands, LocationStands}
 use Rattle.operation_simulation.specs.Calls.{HeldBy, CallStands}
 use Rattle.operation_simulation.specs.Operations.{IsQuiet, PlaceStands, OperationStands}
 use Rattle.operation_simulation.specs.Returns.{WantedStands}
 use Rattle.operation_simulation.specs.Entering.{AddressFits, ArgumentStands, ArgumentsStand, ObjectStands}
-use Rattle.operation_simulation.specs.Asked.{RootAsked, ValueAsked, LocationAsked, TargetAsked, WantedAsked, AddressAsked, ArgumentAsked, ArgumentsAsked, ObjectAsked, OperationAsked}
+use Rattle.operation_simulation.specs.Asked.{RootAsked, LiveAsked, ValueAsked, LocationAsked, TargetAsked, WantedAsked, AddressAsked, ArgumentAsked, ArgumentsAsked, ObjectAsked, OperationAsked}
 
 module _ (p : Plan) (n : ℕ) (frame : Frame) (v : World) (memory : List Part) (stack back : ℕ) (st : CallStands p n frame v memory stack back) where
   held_live : (s : ℕ) → ((e k : ℕ) → address_in (frame.slots s) ≡ Some (record { base = of_exception e; offset = k }) → p.live (of_exception e) ≡ true) → (b : Base) (k : ℕ) →
@@ -24,12 +24,17 @@ module _ (p : Plan) (n : ℕ) (frame : Frame) (v : World) (memory : List Part) (
 
   root_fits : (root : Root) (o : ℕ) → RootAsked p n frame root o → RootFits (setting p n) (shape p n) (slot_kinds p n) frame root o
   root_fits (in_slot s) o h = h
-  root_fits (through s) o h = (h.0, h.1, h.2, λ b e. held_live s h.3 b.base b.offset e (st.held s b h.0 e))
+  root_fits (through s) o h = h
   root_fits (in_global g) o h = h
+
+  root_lives : (root : Root) (o : ℕ) → RootAsked p n frame root o → LiveAsked p frame root → RootIsLive (setting p n) frame root
+  root_lives (in_slot s) o h live = tt
+  root_lives (through s) o h live = λ b e. held_live s live b.base b.offset e (st.held s b h.0 e)
+  root_lives (in_global g) o h live = tt
 
   pub value_stands : (e : Value) → ValueAsked p n frame e → ValueStands (setting p n) (shape p n) (slot_kinds p n) frame e
   value_stands (number z) h = h
-  value_stands (load q) h = root_fits q.root q.offset h
+  value_stands (load q) h = (root_fits q.root q.offset h.0, root_lives q.root q.offset h.0 h.1)
   value_stands (unary o e) h = value_stands e h
   value_stands (binary o a b) h = (value_stands a h.0, value_stands b h.1)
   value_stands (call_value c args) h = tt
@@ -41,36 +46,31 @@ module _ (p : Plan) (n : ℕ) (frame : Frame) (v : World) (memory : List Part) (
   slot_live address_slot s o a inside e = absurd (cc e)
   slot_live help_slot s o a inside e = absurd (cc e)
 
-  located_live : (root : Root) (o : ℕ) (a : Address) → RootAsked p n frame root o → root_location (slot_kinds p n) frame root o ≡ Some (in_memory a) → p.live a.base ≡ true
-  located_live (in_slot s) o a h e = let same : slot_location (slot_kinds p n s) frame.call s o ≡ in_memory a = cc e in slot_live (slot_kinds p n s) s o a h.0 same
-  located_live (through s) o a h e = by (address_in (frame.slots s)) refl e
+  located_live : (root : Root) (o : ℕ) (a : Address) → RootAsked p n frame root o → LiveAsked p frame root → root_location (slot_kinds p n) frame root o ≡ Some (in_memory a) → p.live a.base ≡ true
+  located_live (in_slot s) o a h live e = let same : slot_location (slot_kinds p n s) frame.call s o ≡ in_memory a = cc e in slot_live (slot_kinds p n s) s o a h.0 same
+  located_live (through s) o a h live e = by (address_in (frame.slots s)) refl e
     where
       by : (b : Option Address) → address_in (frame.slots s) ≡ b → location_behind o b ≡ Some (in_memory a) → p.live a.base ≡ true
       by None is got = absurd (cc got)
       by (Some b) is got =
           let same : behind b o ≡ a = cc got in
-          subst (λ (c : Address). p.live c.base ≡ true) same (held_live s h.3 b.base b.offset is (st.held s b h.0 is))
-  located_live (in_global g) o a h e =
+          subst (λ (c : Address). p.live c.base ≡ true) same (held_live s live b.base b.offset is (st.held s b h.0 is))
+  located_live (in_global g) o a h live e =
       let same : record { base = of_global g; offset = o } ≡ a = cc e in subst (λ (c : Address). p.live c.base ≡ true) same (st.holds.all_globals g h.0)
 
-  location_stands : (q : Place) (l : Location) → RootAsked p n frame q.root q.offset → locate (slot_kinds p n) frame q ≡ Some l → LocationAsked p n l → LocationStands p (shape p n) (slot_kinds p n) l
-  location_stands q (in_memory a) root e h = (located_live q.root q.offset a root e, h.0, h.1, h.2)
-  location_stands q (in_frame s) root e h = h
+  location_stands : (q : Place) (l : Location) → RootAsked p n frame q.root q.offset → LiveAsked p frame q.root → locate (slot_kinds p n) frame q ≡ Some l → LocationAsked p n l → LocationStands p (shape p n) (slot_kinds p n) l
+  location_stands q (in_memory a) root live e h = (located_live q.root q.offset a root live e, h.0, h.1, h.2)
+  location_stands q (in_frame s) root live e h = h
 
   target_stands : (q : Place) → TargetAsked p n frame q → PlaceStands p n frame q
-  target_stands q h = (root_fits q.root q.offset h.0, λ l e. location_stands q l h.0 e (h.1 l e))
+  target_stands q h = (root_fits q.root q.offset h.0, λ l e. location_stands q l h.0 h.2 e (h.1 l e))
 
   pub wanted_stands : (q : Option Place) → WantedAsked p n frame q → WantedStands p n frame q
   wanted_stands None h = tt
   wanted_stands (Some q) h = target_stands q h
 
   address_stands : (q : Place) → AddressAsked p n frame q → AddressFits p n frame q
-  address_stands q h = (root_fits q.root q.offset h.0, λ b e. by (locate (slot_kinds p n) frame q) refl b e (h.1 b e))
-    where
-      by : (l : Option Location) → locate (slot_kinds p n) frame q ≡ l → (b : Address) → with_some l location_address ≡ Some b → b.offset ≤ p.size b.base → AddressStands p b
-      by None is b e small = absurd (cc e)
-      by (Some (in_frame s)) is b e small = absurd (cc e)
-      by (Some (in_memory a)) is b e small = let same : a ≡ b = cc e in (located_live q.root q.offset b h.0 (is ∙ ap (λ c. Some (in_memory c)) same), small)
+  address_stands q h = (root_fits q.root q.offset h.0, h.1)
 
   argument_stands : (a : Argument) → ArgumentAsked p n frame a → ArgumentStands p n frame a
   argument_stands (int_argument e) h = value_stands e h

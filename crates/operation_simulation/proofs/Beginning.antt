@@ -104,6 +104,7 @@ beneath_first u base tables s input replies place value h low high = record {
     made = λ e live. absurd (cc live);
     fresh = λ e o more. refl;
     away = λ b live plain. inl (away_at b (live_global u b live));
+    placed = λ e. omega arith;
   };
   may = stack_stays s.memory new w h.may;
   end = omega arith;
@@ -238,7 +239,7 @@ first_begins u base tables s input replies h =
       frame = omega (arith, frame_is.small);
       room = omega (arith, frame_is.small);
       passed = tt;
-      lives = λ j word b got found. absurd (cc got);
+      may = λ j word b got found. absurd (cc got);
       few = omega arith;
       fits = tt;
       saved = record {

@@ -12,7 +12,7 @@ use Rattle.emission_forms.specs.Shape.{return_offset}
 use Rattle.code_simulation.specs.Frames.{Reached, AddressAt, WordHolds}
 use Rattle.operation_simulation.specs.Plan.{Plan, shape, slot_kinds, setting}
 use Rattle.operation_simulation.specs.Extents.{newer, StandApart, IntsInside}
-use Rattle.operation_simulation.specs.Calls.{IsBegun, stack_end}
+use Rattle.operation_simulation.specs.Calls.{HeldBy, IsBegun, stack_end}
 use Rattle.operation_simulation.specs.Matches.{UnitStands, StackMay, StillFresh, ObjectsStand, MemoryMatches}
 use Rattle.operation_simulation.specs.Entering.{WordFits, WordsFit}
 use Rattle.operation_simulation.proofs.Keeping.{IntsHold}
@@ -82,6 +82,23 @@ beneath_call p n frame fs v memory stack back h = record {
   all_globals = h.top.holds.all_globals;
 }
 
+-- What a new call may be passed the address of: a global or a variable that is live, and an exception that was made.
+abbrev pub MayPass : Plan → World → Base → Type 0
+MayPass p v (of_global g) = p.live (of_global g) ≡ true
+MayPass p v (of_variable d s) = (p.live (of_variable d s) ≡ true) × (d < v.calls)
+MayPass p v (of_exception e) = e ≤ v.last_number
+
+pub passed_begun : (p : Plan) (v : World) (b : Base) → MayPass p v b → IsBegun v b
+passed_begun p v (of_global g) h = tt
+passed_begun p v (of_variable d s) h = h.1
+passed_begun p v (of_exception e) h = h
+
+-- what an open call may hold the address of
+pub held_passes : (p : Plan) (v : World) (c : ℕ) (b : Base) → c < v.calls → HeldBy p v c b → MayPass p v b
+held_passes p v c (of_global g) there h = h
+held_passes p v c (of_variable d s) there h = (h.0, omega (arith, there, h.1))
+held_passes p v c (of_exception e) there h = h
+
 -- What is there when a new call begins: words passed below its frame, and the return address.
 pub record Begins (p : Plan) (n m : ℕ) (v : World) (memory : List Part) (stack low back : ℕ) (given : List Word) : Type 0 where
   pub below : Beneath p v memory stack
@@ -89,7 +106,7 @@ pub record Begins (p : Plan) (n m : ℕ) (v : World) (memory : List Part) (stack
   pub frame : low + (shape p m).size ≡ stack
   pub room : 0x7000_1000 ≤ low
   pub passed : PassedAt (setting p n) memory stack 0 given
-  pub lives : (j : ℕ) (word : Word) (b : Address) → slice_get given j ≡ Some word → address_in word ≡ Some b → p.live b.base ≡ true
+  pub may : (j : ℕ) (word : Word) (b : Address) → slice_get given j ≡ Some word → address_in word ≡ Some b → MayPass p v b.base
   pub few : length given ≤ length (shape p m).slots
   pub fits : WordsFit (slot_kinds p m) 0 given
   pub saved : AddressAt memory (low + return_offset) back

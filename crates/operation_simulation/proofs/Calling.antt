@@ -30,12 +30,13 @@ use Rattle.code_simulation.proofs.Stepping.{steps_then}
 use Rattle.stub_simulation.specs.Stretches.{frame_size}
 use Rattle.operation_simulation.specs.Plan.{Plan, function, shape, slot_kinds, routine, first_word, setting}
 use Rattle.operation_simulation.specs.StubCalls.{DestructorWaits, UnexpectedWaits, LeavingWaits, StubWaits}
-use Rattle.operation_simulation.specs.Calls.{CallOf, call_of, stored_behind, stack_end, CallsWait, frame_of, open_bytes}
+use Rattle.operation_simulation.specs.Calls.{HeldBy, CallOf, call_of, stored_behind, stack_end, CallsWait, frame_of, open_bytes}
 use Rattle.operation_simulation.specs.Exceptions.{LinearExceptions, addresses_of, exceptions_in, kept_by, destroyed, ExceptionsMatch, PlanHas}
 use Rattle.operation_simulation.specs.Matches.{RuntimeMatches, FrameIs, MemoryMatches, Matches}
 use Rattle.operation_simulation.specs.Operations.{Matched}
 use Rattle.operation_simulation.specs.Entering.{opened, frame_for, ObjectStands, ArgumentsStand, with_object, given_to, CallFits, CallsRun}
 use Rattle.operation_simulation.proofs.Asked.{object_stands, arguments_stand}
+use Rattle.operation_simulation.proofs.Held.{address_held, address_below}
 use Rattle.operation_simulation.proofs.Words.{OperationAt, operation_at, word_below}
 use Rattle.operation_simulation.proofs.Matching.{Stands, stands_by, Arrives, matched}
 use Rattle.operation_simulation.proofs.Passing.{address_passed, Passes, word_passed, passes_then, arguments_pass}
@@ -78,11 +79,11 @@ all_pass addresses p n frame fs v back here (Some q) args given s h regs at code
         let parts = pieces_split s.memory g here first_pieces rear code in
         let heads = pieces_split s.memory g here front (passed a0 0 ∷ []) parts.0 in
         let ready : Ready (setting p n) (shape p n) (slot_kinds p n) frame v s = record { registers = regs; holds = h.top.holds } in
-        let ok = object.1 b e in
-        let below : byte_of (setting p n) b < 2 ^ 64 = omega (arith, h.apart.below b.base ok.0, ok.1) in
+        let may_hold : HeldBy p v frame.call b.base = address_held p n frame v s.memory (x s sp) back h.top q b object.0 e in
+        let below : byte_of (setting p n) b < 2 ^ 64 = address_below p n frame fs v s.memory (x s sp) back b h may_hold (object.1 b e) in
         let value = addresses.place (setting p n) (shape p n) (slot_kinds p n) frame v 0 here s q b ready (omega arith) object.0 heads.0 at below e in
         let first = word_passed p n frame fs v back here (length front) 0 (address_word b) s value (address_passed (setting p n) b below)
-        (λ d is. let eq : b ≡ d = cc is in subst (λ (k : Address). p.live k.base ≡ true) eq ok.0) h (omega (arith, small, count)) (omega (arith, room, count)) heads.1.0 in
+        (λ d is. let eq : b ≡ d = cc is in subst (λ (k : Address). HeldBy p v frame.call k.base) eq may_hold) h (omega (arith, small, count)) (omega (arith, room, count)) heads.1.0 in
         let m : State = first.after in
         let code_m : PiecesAt m.memory g (here + (length front + 1)) rear
         = subst (λ k. PiecesAt m.memory g k rear) (omega (arith, one)) (pieces_still s.memory m.memory g (here + length first_pieces) rear first.written parts.1) in
@@ -178,7 +179,7 @@ call_arrives p n st w o c given back to stood there is fits code room h to_is re
     let behind : List Piece = stored_behind (shape p n) o in
     let pieces : linear_code (shape p n) o ≡ front ++ behind = code.pieces ∙ sym (append_assoc (passing (shape p n) c) (function_called (compiled m)) behind) in
     let here : ℕ = first_word p n + op_word (routine p n) st.top.place + length (passing (shape p n) c) + 2 in
-    let begun = call_begins p n m here st.top.frame st.frames st.world back given m1.memory stack h.passes.memory fits.known room h.passes.passed h.passes.lives fits.passed fits.words (subst (λ a. a < 2 ^ 64) ret_is small) in
+    let begun = call_begins p n m here st.top.frame st.frames st.world back given m1.memory stack h.passes.memory fits.known room h.passes.passed h.passes.held fits.passed fits.words (subst (λ a. a < 2 ^ 64) ret_is small) in
     let under = begun.0 in
     let q : Plan = opened p m st.world.calls low in
     let new_memory : List Part = with_value m1.memory (low + return_offset) 8 (address (setting p n).ground here) in

@@ -115,6 +115,7 @@ module _ (p : Plan) (over : Base → Bool) (c : ℕ) (narrows : Narrows over c) 
     made = λ e live. h.made e (live_before p over (of_exception e) live).0;
     fresh = h.fresh;
     away = λ b live. h.away b (live_before p over b live).0;
+    placed = h.placed;
   }
 
   pub unit_narrowed : (memory : List Part) → UnitStands p memory → UnitStands (narrowed p over) memory

@@ -20,13 +20,14 @@ use Rattle.code_simulation.proofs.Fetching.{pieces_split}
 use Rattle.code_simulation.proofs.Stepping.{steps_then}
 use Rattle.code_simulation.proofs.Framing.{function_calls, prologue_enters}
 use Rattle.operation_simulation.specs.Plan.{Plan, function, shape, slot_kinds, routine, first_word, setting}
+use Rattle.operation_simulation.specs.Calls.{HeldBy}
 use Rattle.operation_simulation.specs.Matches.{UnitStands, FrameIs, MemoryMatches}
 use Rattle.operation_simulation.specs.Entering.{WordsFit}
 use Rattle.operation_simulation.proofs.Words.{even_base}
 use Rattle.operation_simulation.proofs.Freeing.{free_matches}
 use Rattle.operation_simulation.proofs.Passing.{PassedAt, passed_still}
 use Rattle.operation_simulation.proofs.Slots.{given_bytes, bytes_most}
-use Rattle.operation_simulation.proofs.Beneath.{beneath_call, Begins}
+use Rattle.operation_simulation.proofs.Beneath.{beneath_call, held_passes, Begins}
 
 -- ---- where the function is
 
@@ -92,11 +93,11 @@ given_less p m given is few fits = omega (arith, given_bytes (function p m) give
 -- behind the prologue the new call begins
 pub call_begins : (p : Plan) (n m here : ℕ) (frame : Frame) (fs : List Activation) (v : World) (back : ℕ) (given : List Word) (memory : List Part) (stack : ℕ) → MemoryMatches p n frame fs v memory stack back →
     m < length p.unit.functions → 0x7000_1000 + (shape p m).size ≤ stack → PassedAt (setting p n) memory stack 0 given →
-    ((j : ℕ) (word : Word) (b : Address) → slice_get given j ≡ Some word → address_in word ≡ Some b → p.live b.base ≡ true) → length given ≤ length (shape p m).slots → WordsFit (slot_kinds p m) 0 given →
+    ((j : ℕ) (word : Word) (b : Address) → slice_get given j ≡ Some word → address_in word ≡ Some b → HeldBy p v frame.call b.base) → length given ≤ length (shape p m).slots → WordsFit (slot_kinds p m) 0 given →
     address (setting p n).ground here < 2 ^ 64 →
     let new = with_value memory (stack - (shape p m).size + return_offset) 8 (address (setting p n).ground here) in
     MemoryMatches p n frame fs v new stack back × Begins p n m v new stack (stack - (shape p m).size) (address (setting p n).ground here) given
-call_begins p n m here frame fs v back given memory stack h known room passed lives few fits small =
+call_begins p n m here frame fs v back given memory stack h known room passed held few fits small =
     let fm : Shape = shape p m in
     let low : ℕ = stack - fm.size in
     let ret : ℕ = address (setting p n).ground here in
@@ -114,7 +115,7 @@ call_begins p n m here frame fs v back given memory stack h known room passed li
         room = omega (arith, room);
         passed = passed_still (setting p n) memory new stack 0 given (λ b k z high holds. holds_apart memory (low + return_offset) 8 ret b k z (λ i j hi hj e. omega (arith, high, hi, most, room, e)) holds)
             (omega (arith, most, room)) passed;
-        lives = lives;
+        may = λ j word b e is. held_passes p v frame.call b.base h.newest (held j word b e is);
         few = few;
         fits = fits;
         saved = record {

@@ -55,11 +55,11 @@ stack_stays old new w h a n low high = may_still old new a n w (h a n low high)
 -- ---- exception objects
 
 pub objects_stay : (p : Plan) (v : World) (old new : List Part) → Written old new → ObjectsStand p v old → ObjectsStand p v new
-objects_stay p v old new w h = record { may = λ a n low high. may_still old new a n w (h.may a n low high); made = h.made; fresh = h.fresh; away = h.away }
+objects_stay p v old new w h = record { may = λ a n low high. may_still old new a n w (h.may a n low high); made = h.made; fresh = h.fresh; away = h.away; placed = h.placed }
 
 -- what is written is of an exception that was made
 objects_written : (p : Plan) (a : Address) (z : ℤ) (v : World) (memory : List Part) → p.live a.base ≡ true → ObjectsStand p v memory → ObjectsStand p (written a z v) memory
-objects_written p a z v memory live h = record { may = h.may; made = h.made; fresh = λ e o new. fresh_at e o new (same_address a (record { base = of_exception e; offset = o })) refl; away = h.away }
+objects_written p a z v memory live h = record { may = h.may; made = h.made; fresh = λ e o new. fresh_at e o new (same_address a (record { base = of_exception e; offset = o })) refl; away = h.away; placed = h.placed }
   where
     fresh_at : (e o : ℕ) → v.last_number < e → (t : Bool) → same_address a (record { base = of_exception e; offset = o }) ≡ t →
         (if t then Some z else v.memory (record { base = of_exception e; offset = o })) ≡ None
@@ -266,17 +266,11 @@ live_begun p v (of_global g) top made live begun old = tt
 live_begun p v (of_variable c s) top made live begun old = grind (arith, nat_tests, begun, old)
 live_begun p v (of_exception e) top made live begun old = made e live
 
--- and what is live in no newer call may be held
-pub held_by_live : (p : Plan) (v : World) (c : ℕ) (b : Base) → ((e : ℕ) → p.live (of_exception e) ≡ true → e ≤ v.last_number) → p.live b ≡ true → newer c b ≡ false → HeldBy p v c b
-held_by_live p v c (of_global g) made live old = live
-held_by_live p v c (of_variable d s) made live old = (live, grind (arith, nat_tests, old))
-held_by_live p v c (of_exception e) made live old = made e live
-
 -- an address is put in a slot
 pub address_matches : (p : Plan) (n : ℕ) (frame : Frame) (fs : List Activation) (v : World) (memory : List Part) (stack back s : ℕ) (b : Address) → MemoryMatches p n frame fs v memory stack back →
-    s < length (shape p n).slots → is_variable (slot_kinds p n s) ≡ false → byte_of (setting p n) b < 2 ^ 64 → p.live b.base ≡ true →
+    s < length (shape p n).slots → is_variable (slot_kinds p n s) ≡ false → byte_of (setting p n) b < 2 ^ 64 → HeldBy p v frame.call b.base →
     MemoryMatches p n (with_slot s (address_word b) frame) fs v (with_value memory (stack + slot_offset (shape p n) s) 8 (byte_of (setting p n) b)) stack back
-address_matches p n frame fs v memory stack back s b h there plain small live =
+address_matches p n frame fs v memory stack back s b h there plain small may_hold =
     let place : ℕ = stack + slot_offset (shape p n) s in
     let value : ℕ = byte_of (setting p n) b in
     let new : List Part = with_value memory place 8 value in
@@ -287,7 +281,7 @@ address_matches p n frame fs v memory stack back s b h there plain small live =
       below = omega (arith, bounds.1);
       holds = subst (Holds new place 8) whole (eight_stored memory place value (slot_may p n frame fs v memory stack back s 8 h there plain (omega arith)));
     } in
-    slot_matches p n frame fs v memory stack back s 8 value (address_word b) h there plain (omega arith) held (λ d is. let same : b ≡ d = cc is in subst (λ (k : Address). HeldBy p v frame.call k.base) same (held_by_live p v frame.call b.base h.objects.made live (h.last b.base live)))
+    slot_matches p n frame fs v memory stack back s 8 value (address_word b) h there plain (omega arith) held (λ d is. let same : b ≡ d = cc is in subst (λ (k : Address). HeldBy p v frame.call k.base) same may_hold)
 
 pub stores_stay_apart : StoresStayApart
 stores_stay_apart = record {
@@ -296,5 +290,5 @@ stores_stay_apart = record {
       let ok : StoreFits p memory c = record { apart = apart; live = live; inside = fits } in
       call_stays p n frame v v memory stack back c (same_number v) ok other (ints_stay p memory c v ok inside none st.holds.ints) st;
   int = λ p n frame new_frame fs v new_world memory stack back l z h int ok e. location_matches p n frame new_frame fs v new_world memory stack back l z h int ok e;
-  address = λ p n frame fs v memory stack back s b h there plain small live. address_matches p n frame fs v memory stack back s b h there plain small live;
+  address = λ p n frame fs v memory stack back s b h there plain small may_hold. address_matches p n frame fs v memory stack back s b h there plain small may_hold;
 }

@@ -2,6 +2,7 @@ pub mod Stored
 pub mod Bases
 pub mod StubKeeping
 pub mod Keeping
+pub mod Held
 pub mod Holding
 pub mod Words
 pub mod Matching

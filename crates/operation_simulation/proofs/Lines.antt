@@ -92,6 +92,7 @@ matches_alike p n frame fs v u memory stack back ints calls later h = record {
     made = λ e live. omega (arith, h.objects.made e live, later);
     fresh = λ e o more. ap (λ m. m (record { base = of_exception e; offset = o })) ints ∙ h.objects.fresh e o (omega (arith, more, later));
     away = h.objects.away;
+    placed = h.objects.placed;
   };
   unit = h.unit;
 }

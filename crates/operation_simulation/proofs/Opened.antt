@@ -21,7 +21,7 @@ use Rattle.operation_simulation.proofs.Keeping.{IntsHold, held_later}
 use Rattle.operation_simulation.proofs.Slots.{SlotPlace, slot_place_of, plain_room, word_fits, given_bytes, got_inside}
 use Rattle.operation_simulation.proofs.Given.{frame_call, slot_given, IntGiven, int_given, same_beside, number_beside}
 use Rattle.operation_simulation.proofs.Opening.{many, SlotOrNot, slot_or_not, begun_is_old, NewSlot, new_slot, OldBase, old_base, word_opened, unit_opened}
-use Rattle.operation_simulation.proofs.Beneath.{passed_there, not_newer, begun_last, no_word, none_by, Begins}
+use Rattle.operation_simulation.proofs.Beneath.{passed_there, not_newer, begun_last, no_word, none_by, MayPass, passed_begun, Begins}
 
 module _ (p : Plan) (n m : ℕ) (v : World) (memory : List Part) (stack low back : ℕ) (given : List Word) (h : Begins p n m v memory stack low back given) where
   abbrev c : ℕ
@@ -52,9 +52,9 @@ module _ (p : Plan) (n m : ℕ) (v : World) (memory : List Part) (stack low back
   inside_given : (j : ℕ) (word : Word) → slice_get given j ≡ Some word → j < length given
   inside_given j word e = got_inside given j word e
 
-  -- a base of something that was live is no slot of the new call
-  live_old : (b : Base) → p.live b ≡ true → is_slot c (many p m) b ≡ false
-  live_old b live = begun_is_old c (many p m) v b (omega arith) (h.below.begun b live)
+  -- a base whose address may be passed is no slot of the new call
+  passed_old : (b : Base) → MayPass p v b → is_slot c (many p m) b ≡ false
+  passed_old b may = begun_is_old c (many p m) v b (omega arith) (passed_begun p v b may)
 
   -- ---- ints
 
@@ -102,7 +102,7 @@ module _ (p : Plan) (n m : ℕ) (v : World) (memory : List Part) (stack low back
       slot_given (slot_kinds p m) 0 given (record { call = v.calls; slots = λ k. nothing }) s (λ word. WordHolds (setting q m) memory (low + slot_offset (shape p m) s) word)
       (λ j word e at other.
       let here = passed_there p n memory stack 0 j given word h.passed e in
-      let moved = word_opened p m c low n m memory (stack - 8 * (0 + j + 1)) word (λ b is. live_old b.base (h.lives j word b e is)) here in
+      let moved = word_opened p m c low n m memory (stack - 8 * (0 + j + 1)) word (λ b is. passed_old b.base (h.may j word b e is)) here in
       let same : j ≡ s = omega (arith, at) in
       subst (λ k. WordHolds (setting q m) memory (low + slot_offset (shape p m) k) word) same
       (subst (λ k. WordHolds (setting q m) memory k word) (sym (given_place j (inside_given j word e))) moved))
@@ -114,18 +114,18 @@ module _ (p : Plan) (n m : ℕ) (v : World) (memory : List Part) (stack low back
       (λ j word e at other. no_word (slot_kinds p m s) word variable other (subst (λ k. WordFits (slot_kinds p m k) word) (sym at) (word_fits (slot_kinds p m) 0 j given word h.fits e)))
       refl
 
-  held_new : (b : Base) → p.live b ≡ true → HeldBy q v c b
-  held_new b live = by b live (h.below.begun b live) (live_old b live)
+  held_new : (b : Base) → MayPass p v b → HeldBy q v c b
+  held_new b may = by b may (passed_old b may)
     where
-      by : (b : Base) → p.live b ≡ true → IsBegun v b → is_slot c (many p m) b ≡ false → HeldBy q v c b
-      by (of_global g) live begun old = live
-      by (of_variable d s) live begun old = ((old_base p m c low (of_variable d s) old).live ∙ live, omega (arith, begun))
-      by (of_exception e) live begun old = begun
+      by : (b : Base) → MayPass p v b → is_slot c (many p m) b ≡ false → HeldBy q v c b
+      by (of_global g) may old = may
+      by (of_variable d s) may old = ((old_base p m c low (of_variable d s) old).live ∙ may.0, omega (arith, may.1))
+      by (of_exception e) may old = may
 
   all_held : (s : ℕ) (b : Address) → address_in (frame.slots s) ≡ Some b → HeldBy q v c b.base
   all_held s b is =
       slot_given (slot_kinds p m) 0 given (record { call = v.calls; slots = λ k. nothing }) s (λ word. address_in word ≡ Some b → HeldBy q v c b.base)
-      (λ j word e at other found. held_new b.base (h.lives j word b e found)) (λ none. absurd (cc none)) is
+      (λ j word e at other found. held_new b.base (h.may j word b e found)) (λ none. absurd (cc none)) is
 
   -- ---- bytes of the new slots, and of all else
 
@@ -309,6 +309,7 @@ module _ (p : Plan) (n m : ℕ) (v : World) (memory : List Part) (stack low back
     fresh = λ e o more. none_by ((new_world (slot_kinds p m) given d v).memory (record { base = of_exception e; offset = o }))
         (λ z there. none_at e o z (omega (arith, more, same_number d)) (int_given (slot_kinds p m) c 0 given v (record { base = of_exception e; offset = o }) z there));
     away = λ b live plain. away_at b live plain (slot_or_not c (many p m) b);
+    placed = h.below.objects.placed;
   }
     where
       none_at : (e o : ℕ) (z : ℤ) → v.last_number < e → IntGiven (slot_kinds p m) c 0 given v (record { base = of_exception e; offset = o }) z → ⊥

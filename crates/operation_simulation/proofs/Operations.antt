@@ -41,7 +41,7 @@ use Rattle.code_simulation.proofs.Values.{ready_after, code_after}
 use Rattle.code_simulation.proofs.Testing.{values_are_computed}
 use Rattle.code_simulation.proofs.Framing.{label_jumps}
 use Rattle.operation_simulation.specs.Plan.{Plan, function, shape, slot_kinds, routine, first_word, setting}
-use Rattle.operation_simulation.specs.Extents.{AddressStands}
+use Rattle.operation_simulation.specs.Calls.{HeldBy}
 use Rattle.operation_simulation.specs.Matches.{Matches}
 use Rattle.operation_simulation.specs.Operations.{NoCall, IsQuiet, OperationStands, Matched}
 use Rattle.operation_simulation.specs.Laws.{OperationsRun}
@@ -49,6 +49,7 @@ use Rattle.operation_simulation.proofs.Words.{OperationAt, operation_at, place_b
 use Rattle.operation_simulation.proofs.Holding.{MayHold, location_may, location_matches, slot_may, slot_place, address_matches}
 use Rattle.operation_simulation.proofs.Matching.{Stands, stands_by, ready_here, some_steps, Arrives, matched, memory_at}
 use Rattle.operation_simulation.proofs.Asked.{operation_stands}
+use Rattle.operation_simulation.proofs.Held.{address_held, address_below}
 use Rattle.operation_simulation.proofs.Quiet.{moved, plain_whole, plain_dropped, plain_needs, store_step, bind_step, value_step, jump_step, label_step, test_step, runtime_stored}
 
 -- the first word of the next operation
@@ -120,10 +121,6 @@ sd_done : (base value imm : ℕ) (s : State) → done (Sd base value imm) s ≡ 
 unfolding done
 sd_done base value imm s = refl
 
--- an address of live bytes is below 2^64
-address_below : (p : Plan) (n : ℕ) (st : LinearState) (w : abi.World) (back : ℕ) (b : Address) → Stands p n st w back → AddressStands p b → byte_of (setting p n) b < 2 ^ 64
-address_below p n st w back b h ok = omega (arith, h.memory.apart.below b.base ok.0, ok.1)
-
 bind_runs : AddressesAreComputed → (image : Image) (p : Plan) (n : ℕ) (st next : LinearState) (w : abi.World) (back slot : ℕ) (q : Place) → Stands p n st w back →
     slice_get (function p n).ops st.top.place ≡ Some (plain (bind slot q)) → OperationStands p n st.top.frame (plain (bind slot q)) → step (code_of p.unit) st ≡ goes_to next →
     IsMatched image p n (plain (bind slot q)) next w
@@ -141,7 +138,8 @@ bind_runs addresses image p n st next w back slot q h there stands e =
     let went = bind_step p n st next slot q h.runs there e in
     let b : Address = went.address in
     let value : ℕ = byte_of t b in
-    let below : value < 2 ^ 64 = address_below p n st w back b h (stands.1 b went.is) in
+    let may_hold : HeldBy p st.world st.top.frame.call b.base = address_held p n st.top.frame st.world s.memory (x s sp) back h.memory.top q b stands.0 went.is in
+    let below : value < 2 ^ 64 = address_below p n st.top.frame st.frames st.world s.memory (x s sp) back b h.memory may_hold (stands.1 b went.is) in
     let ready = ready_here p n st w back h in
     let got = addresses.place t f (slot_kinds p n) st.top.frame st.world 0 here s q b ready (omega arith) stands.0 parts.0 h.pc below went.is in
     let m : State = got.goes.after in
@@ -162,7 +160,7 @@ bind_runs addresses image p n st next w back slot q h there stands e =
     let to : LinearState = moved st (st.top.place + 1) (with_slot slot (address_word b) st.top.frame) st.world in
     let pc : u.pc ≡ address g (first_word p n + op_word (routine p n) (st.top.place + 1)) = next_is g (here + length front) put m code got.goes.pc ∙ omega (arith, stood.next, sum) in
     let memory : u.memory ≡ with_value s.memory place 8 value = ap (λ ps. with_value ps place 8 value) got.goes.memory in
-    let held = address_matches p n st.top.frame st.frames st.world s.memory (x s sp) back slot b h.memory stands.2 stands.3 below (stands.1 b went.is).0 in
+    let held = address_matches p n st.top.frame st.frames st.world s.memory (x s sp) back slot b h.memory stands.2 stands.3 below may_hold in
     let there_u : Arrives p n to back u = record { runs = h.runs; registers = got.goes.registers; pc = pc; memory = memory_at p n to back (x s sp) (with_value s.memory place 8 value) u memory stack held } in
     subst (λ y. IsMatched image p n (plain (bind slot q)) y w) went.next_is
     (matched image p n to w back (length (linear_code f (plain (bind slot q)))) k u (omega (arith, got.goes.most, sum))

@@ -31,8 +31,10 @@ use Rattle.code_simulation.proofs.Stepping.{no_steps, one_step, steps_then}
 use Rattle.code_simulation.proofs.Going.{next_is, kept_low}
 use Rattle.code_simulation.proofs.Testing.{values_are_computed}
 use Rattle.operation_simulation.specs.Plan.{Plan, shape, slot_kinds, setting}
+use Rattle.operation_simulation.specs.Calls.{HeldBy}
 use Rattle.operation_simulation.specs.Matches.{MemoryMatches}
 use Rattle.operation_simulation.specs.Entering.{ArgumentStands, ArgumentsStand}
+use Rattle.operation_simulation.proofs.Held.{address_held, address_below}
 use Rattle.operation_simulation.proofs.Freeing.{word_kept, free_matches}
 
 -- ---- a word in eight bytes
@@ -72,36 +74,36 @@ address_passed t b small = record {
 
 -- ---- an argument in a register
 
-pub record ArgumentComes (t : Setting) (here words : ℕ) (s : State) (word : Word) : Type 0 where
+pub record ArgumentComes (p : Plan) (v : World) (c : ℕ) (t : Setting) (here words : ℕ) (s : State) (word : Word) : Type 0 where
   pub computes : Computes t.ground here words 0 s (word_bits t word)
   pub passes : IsPassed t word
-  pub lives : (b : Address) → address_in word ≡ Some b → t.live b.base ≡ true
+  pub held : (b : Address) → address_in word ≡ Some b → HeldBy p v c b.base
 
 argument_comes : AddressesAreComputed → (p : Plan) (n : ℕ) (frame : Frame) (fs : List Activation) (v : World) (back here : ℕ) (s : State) (a : Argument) (word : Word) →
     MemoryMatches p n frame fs v s.memory (x s sp) back → length s.regs ≡ 32 → s.pc ≡ address (setting p n).ground here → PiecesAt s.memory (setting p n).ground here (argument_code (shape p n) 0 a) →
     length (argument_code (shape p n) 0 a) < 2 ^ 18 → ArgumentStands p n frame a → ArgumentFits 0 a → word_in (slot_kinds p n) frame v a ≡ Some word →
-    ArgumentComes (setting p n) here (length (argument_code (shape p n) 0 a)) s word
+    ArgumentComes p v frame.call (setting p n) here (length (argument_code (shape p n) 0 a)) s word
 argument_comes addresses p n frame fs v back here s (int_argument e) word h regs at code short stands few is = by (value_in (slot_kinds p n) frame v e) refl is
   where
-    by : (o : Option ℤ) → value_in (slot_kinds p n) frame v e ≡ o → with_some o (λ z. Some (number_word z)) ≡ Some word → ArgumentComes (setting p n) here (length (argument_code (shape p n) 0 (int_argument e))) s word
+    by : (o : Option ℤ) → value_in (slot_kinds p n) frame v e ≡ o → with_some o (λ z. Some (number_word z)) ≡ Some word → ArgumentComes p v frame.call (setting p n) here (length (argument_code (shape p n) 0 (int_argument e))) s word
     by None none got = absurd (cc got)
     by (Some z) some got =
         let same : number_word z ≡ word = cc got in
         let ready : Ready (setting p n) (shape p n) (slot_kinds p n) frame v s = record { registers = regs; holds = h.top.holds } in
         let value = values_are_computed.value (setting p n) (shape p n) (slot_kinds p n) frame v e z 0 here s stands some few short code at ready in
-        subst (ArgumentComes (setting p n) here (length (argument_code (shape p n) 0 (int_argument e))) s) same
-        (record { computes = value.computes; passes = number_passed (setting p n) z value.int; lives = λ b none. absurd (cc none) })
+        subst (ArgumentComes p v frame.call (setting p n) here (length (argument_code (shape p n) 0 (int_argument e))) s) same
+        (record { computes = value.computes; passes = number_passed (setting p n) z value.int; held = λ b none. absurd (cc none) })
 argument_comes addresses p n frame fs v back here s (address_argument q) word h regs at code short stands few is = by (address_of (slot_kinds p n) frame q) refl is
   where
-    by : (o : Option Address) → address_of (slot_kinds p n) frame q ≡ o → with_some o (λ b. Some (address_word b)) ≡ Some word → ArgumentComes (setting p n) here (length (argument_code (shape p n) 0 (address_argument q))) s word
+    by : (o : Option Address) → address_of (slot_kinds p n) frame q ≡ o → with_some o (λ b. Some (address_word b)) ≡ Some word → ArgumentComes p v frame.call (setting p n) here (length (argument_code (shape p n) 0 (address_argument q))) s word
     by None none got = absurd (cc got)
     by (Some b) some got =
         let same : address_word b ≡ word = cc got in
         let ready : Ready (setting p n) (shape p n) (slot_kinds p n) frame v s = record { registers = regs; holds = h.top.holds } in
-        let ok = stands.1 b some in
-        let small : byte_of (setting p n) b < 2 ^ 64 = omega (arith, h.apart.below b.base ok.0, ok.1) in
+        let may_hold : HeldBy p v frame.call b.base = address_held p n frame v s.memory (x s sp) back h.top q b stands.0 some in
+        let small : byte_of (setting p n) b < 2 ^ 64 = address_below p n frame fs v s.memory (x s sp) back b h may_hold (stands.1 b some) in
         let value = addresses.place (setting p n) (shape p n) (slot_kinds p n) frame v 0 here s q b ready (omega arith) stands.0 code at small some in
-        subst (ArgumentComes (setting p n) here (length (argument_code (shape p n) 0 (address_argument q))) s) same (record { computes = value; passes = address_passed (setting p n) b small; lives = λ d is. let eq : b ≡ d = cc is in subst (λ (k : Address). p.live k.base ≡ true) eq ok.0 })
+        subst (ArgumentComes p v frame.call (setting p n) here (length (argument_code (shape p n) 0 (address_argument q))) s) same (record { computes = value; passes = address_passed (setting p n) b small; held = λ d is. let eq : b ≡ d = cc is in subst (λ (k : Address). HeldBy p v frame.call k.base) eq may_hold })
 argument_comes addresses p n frame fs v back here s (handler_argument m) word h regs at code short stands few is = absurd stands
 
 -- ---- one word is passed
@@ -124,7 +126,7 @@ pub record Passes (p : Plan) (n : ℕ) (frame : Frame) (fs : List Activation) (v
   pub memory : MemoryMatches p n frame fs v after.memory (x s sp) back
   pub passed : PassedAt (setting p n) after.memory (x s sp) i given
   pub above : (a k z : ℕ) → x s sp ≤ a + 8 * i → Holds s.memory a k z → Holds after.memory a k z
-  pub lives : (j : ℕ) (word : Word) (b : Address) → slice_get given j ≡ Some word → address_in word ≡ Some b → p.live b.base ≡ true
+  pub held : (j : ℕ) (word : Word) (b : Address) → slice_get given j ≡ Some word → address_in word ≡ Some b → HeldBy p v frame.call b.base
 
 sd_done : (base value imm : ℕ) (s : State) → done (Sd base value imm) s ≡ stores s 8 (add (x s base) (imm12 imm)) (x s value)
 unfolding done
@@ -140,9 +142,9 @@ one_word P word other (suc j) b live e is = absurd (cc e)
 
 -- a value in the first register is passed
 pub word_passed : (p : Plan) (n : ℕ) (frame : Frame) (fs : List Activation) (v : World) (back here words i : ℕ) (word : Word) (s : State) (first : Computes (setting p n).ground here words 0 s (word_bits (setting p n) word)) →
-    IsPassed (setting p n) word → ((b : Address) → address_in word ≡ Some b → p.live b.base ≡ true) → MemoryMatches p n frame fs v s.memory (x s sp) back → 8 * i + 8 < 2 ^ 11 → 0x7000_0000 + 8 * (i + 1) ≤ x s sp →
+    IsPassed (setting p n) word → ((b : Address) → address_in word ≡ Some b → HeldBy p v frame.call b.base) → MemoryMatches p n frame fs v s.memory (x s sp) back → 8 * i + 8 < 2 ^ 11 → 0x7000_0000 + 8 * (i + 1) ≤ x s sp →
     PieceAt s.memory (setting p n).ground (here + words) (passed (register 0) i) → Passes p n frame fs v back here (words + 1) i (word ∷ []) s
-word_passed p n frame fs v back here words i word s first is_passed live h small room code =
+word_passed p n frame fs v back here words i word s first is_passed may_hold h small room code =
     let g : Ground = (setting p n).ground in
     let goes = first.goes in
     let m : State = goes.after in
@@ -165,7 +167,7 @@ word_passed p n frame fs v back here words i word s first is_passed live h small
     = piece_done g (here + words) y m code_m goes.pc ∙ sd_done sp (register 0) (immediate (negsuc (8 * i + 7))) m ∙ ap (λ b. stores m 8 b (x m (register 0))) target ∙ ap (stores m 8 a) first.is
     ∙ stores_done m 8 a bits (eq-eqb (a % 8) 0 even) may_m in
     let memory : u.memory ≡ new = ap (λ ps. with_value ps a 8 bits) goes.memory in
-    let held : WordHolds (setting p n) new a word = is_passed.holds s.memory a even below may4 may8 in
+    let word_there : WordHolds (setting p n) new a word = is_passed.holds s.memory a even below may4 may8 in
     record {
       steps = goes.steps + 1;
       most = omega (arith, goes.most);
@@ -177,10 +179,10 @@ word_passed p n frame fs v back here words i word s first is_passed live h small
       written = subst (Written s.memory) (sym memory) (value_written s.memory a 8 bits may8);
       memory = subst (λ ps. MemoryMatches p n frame fs v ps (x s sp) back) (sym memory)
           (free_matches p n frame fs v s.memory (x s sp) back a 8 bits h (record { low = low; high = omega (arith, room) }));
-      passed = (subst (λ ps. WordHolds (setting p n) ps a word) (sym memory) held, tt);
+      passed = (subst (λ ps. WordHolds (setting p n) ps a word) (sym memory) word_there, tt);
       above = λ b k z high holds. subst (λ ps. Holds ps b k z) (sym memory)
           (holds_apart s.memory a 8 bits b k z (λ i1 j1 hi hj e. omega (arith, high, hi, e, room)) holds);
-      lives = λ j other b e is. one_word (λ d. p.live d ≡ true) word other j b live e is;
+      held = λ j other b e is. one_word (λ d. HeldBy p v frame.call d) word other j b may_hold e is;
     }
 
 -- ---- words one after the other
@@ -205,12 +207,12 @@ passes_then p n frame fs v back here m k i word given s first room second =
         subst (λ a. PassedAt (setting p n) u.memory a (i + 1) given) first.stack second.passed,
       );
       above = λ a c z high holds. second.above a c z (omega (arith, first.stack, high)) (first.above a c z high holds);
-      lives = λ j other b e is. first_or_later j other b e is;
+      held = λ j other b e is. first_or_later j other b e is;
     }
   where
-    first_or_later : (j : ℕ) (other : Word) (b : Address) → slice_get (word ∷ given) j ≡ Some other → address_in other ≡ Some b → p.live b.base ≡ true
-    first_or_later zero other b e is = first.lives 0 other b e is
-    first_or_later (suc j) other b e is = second.lives j other b e is
+    first_or_later : (j : ℕ) (other : Word) (b : Address) → slice_get (word ∷ given) j ≡ Some other → address_in other ≡ Some b → HeldBy p v frame.call b.base
+    first_or_later zero other b e is = first.held 0 other b e is
+    first_or_later (suc j) other b e is = second.held j other b e is
 
 -- what keeps all that lies above the last word keeps the words
 pub passed_still : (t : Setting) (old new : List Part) (stack i : ℕ) (given : List Word) → ((a k z : ℕ) → stack ≤ a + 8 * (i + length given) → Holds old a k z → Holds new a k z) → 8 * (i + length given) ≤ stack →
@@ -239,7 +241,7 @@ arguments_pass addresses p n frame fs v back here i no_arguments given s h regs 
       memory = h;
       passed = tt;
       above = λ a k z high holds. holds;
-      lives = λ j word b e is. absurd (cc e);
+      held = λ j word b e is. absurd (cc e);
     })
 arguments_pass addresses p n frame fs v back here i (argument_then a args) given s h regs at code short stands few is small room =
     by (word_in (slot_kinds p n) frame v a) (words_in (slot_kinds p n) frame v args) refl refl is
@@ -264,7 +266,7 @@ arguments_pass addresses p n frame fs v back here i (argument_then a args) given
         let sum : length (front ++ passed (register 0) i ∷ rear) ≡ length front + (length rear + 1) = length-append front (passed (register 0) i ∷ rear) ∙ omega arith in
         let parts = pieces_split s.memory g here front (passed (register 0) i ∷ rear) code in
         let value = argument_comes addresses p n frame fs v back here s a word h regs at parts.0 (omega (arith, short, sum)) stands.0 few.0 e in
-        let first = word_passed p n frame fs v back here (length front) i word s value.computes value.passes value.lives h (omega (arith, small, count)) (omega (arith, room, count)) parts.1.0 in
+        let first = word_passed p n frame fs v back here (length front) i word s value.computes value.passes value.held h (omega (arith, small, count)) (omega (arith, room, count)) parts.1.0 in
         let m : State = first.after in
         let code_m : PiecesAt m.memory g (here + (length front + 1)) rear
         = subst (λ k. PiecesAt m.memory g k rear) (omega arith) (pieces_still s.memory m.memory g (here + length front + 1) rear first.written parts.1.1) in

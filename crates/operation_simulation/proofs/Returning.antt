@@ -116,7 +116,7 @@ result_is kinds (Some s) frame v = refl
 
 pub result_stands : (p : Plan) (n : ℕ) (frame : Frame) (r : Option ℕ) → ResultStands p n frame r → ValueStands (setting p n) (shape p n) (slot_kinds p n) frame (result_value r)
 result_stands p n frame None h = refl
-result_stands p n frame (Some s) h = h
+result_stands p n frame (Some s) h = (h, tt)
 
 pub result_needs : (r : Option ℕ) → 0 + needs (result_value r) ≤ 15
 result_needs None = omega arith

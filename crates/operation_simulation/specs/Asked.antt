@@ -1,5 +1,5 @@
 -- What is asked of a program where an operation is made. Well-formed regions give all of it but three things: that an exception whose
--- address is used is live, that an int behind an address lies inside what the address begins at, as the types of references say, and at a
+-- ints are read or written is live, that an int behind an address lies inside what the address begins at, as the types of references say, and at a
 -- multiple of 4, as the layout of classes has it. That every global and variable whose address is used is live need not be asked.
 use Rattle.std.specs.Prelude.{◌≡◌, ℕ, ◌+◌, ◌%◌, ◌^◌, ◌<◌, ◌≤◌, true, false, length, Option, Some, None}
 use Rattle.region_forms.specs.Form.{Root, in_slot, through, in_global, Place, Value, number, load, unary, binary, call_value, Argument, int_argument, address_argument, handler_argument, Arguments, no_arguments, argument_then, store, bind}
@@ -17,12 +17,17 @@ abbrev pub RootAsked : Plan → ℕ → Frame → Root → ℕ → Type 0
 RootAsked p n frame (in_slot s) o = (s < length (shape p n).slots) × (slot_offset (shape p n) s + o < 2 ^ 11) × SlotFits (slot_kinds p n s) o
 RootAsked p n frame (through s) o =
     (s < length (shape p n).slots) × (slot_offset (shape p n) s < 2 ^ 11) × (o < 2 ^ 11)
-    × ((e k : ℕ) → address_in (frame.slots s) ≡ Some (record { base = of_exception e; offset = k }) → p.live (of_exception e) ≡ true)
 RootAsked p n frame (in_global g) o = (g < length p.unit.globals) × (o ≡ 0)
+
+-- an exception is live whose address a slot holds
+abbrev pub LiveAsked : Plan → Frame → Root → Type 0
+LiveAsked p frame (in_slot s) = Unit {0}
+LiveAsked p frame (through s) = (e k : ℕ) → address_in (frame.slots s) ≡ Some (record { base = of_exception e; offset = k }) → p.live (of_exception e) ≡ true
+LiveAsked p frame (in_global g) = Unit {0}
 
 abbrev pub ValueAsked : Plan → ℕ → Frame → Value → Type 0
 ValueAsked p n frame (number v) = IsInt v
-ValueAsked p n frame (load q) = RootAsked p n frame q.root q.offset
+ValueAsked p n frame (load q) = RootAsked p n frame q.root q.offset × LiveAsked p frame q.root
 ValueAsked p n frame (unary o v) = ValueAsked p n frame v
 ValueAsked p n frame (binary o a b) = ValueAsked p n frame a × ValueAsked p n frame b
 ValueAsked p n frame (call_value c args) = Unit {0}
@@ -33,7 +38,7 @@ LocationAsked p n (in_memory a) = (p.ints a.base ≡ true) × (a.offset + 4 ≤ 
 LocationAsked p n (in_frame s) = (s < length (shape p n).slots) × (is_variable (slot_kinds p n s) ≡ false)
 
 abbrev pub TargetAsked : Plan → ℕ → Frame → Place → Type 0
-TargetAsked p n frame q = RootAsked p n frame q.root q.offset × ((l : Location) → locate (slot_kinds p n) frame q ≡ Some l → LocationAsked p n l)
+TargetAsked p n frame q = RootAsked p n frame q.root q.offset × ((l : Location) → locate (slot_kinds p n) frame q ≡ Some l → LocationAsked p n l) × LiveAsked p frame q.root
 
 abbrev pub WantedAsked : Plan → ℕ → Frame → Option Place → Type 0
 WantedAsked p n frame None = Unit {0}

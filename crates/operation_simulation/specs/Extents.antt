@@ -36,7 +36,7 @@ pub record SlotsStand (p : Plan) (f : Shape) (kinds : Kinds) (frame : Frame) : T
 
 -- an address is inside what it begins at, or just behind
 abbrev pub AddressStands : Plan → Address → Type 0
-AddressStands p a = (p.live a.base ≡ true) × (a.offset ≤ p.size a.base)
+AddressStands p a = a.offset ≤ p.size a.base
 
 -- an int may be written at a location: inside live bytes for ints, or in a slot of the frame that is no variable
 abbrev pub LocationStands : Plan → Shape → Kinds → Location → Type 0

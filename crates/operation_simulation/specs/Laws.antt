@@ -18,7 +18,7 @@ use Rattle.code_simulation.specs.Numbers.{IsInt, extended}
 use Rattle.code_simulation.specs.Frames.{byte_of, location_byte}
 use Rattle.operation_simulation.specs.Plan.{Plan, function, shape, slot_kinds, setting}
 use Rattle.operation_simulation.specs.Extents.{StandApart, IntsInside, LocationStands}
-use Rattle.operation_simulation.specs.Calls.{CallStands}
+use Rattle.operation_simulation.specs.Calls.{HeldBy, CallStands}
 use Rattle.operation_simulation.specs.Matches.{MemoryMatches, Matches}
 use Rattle.operation_simulation.specs.Operations.{IsQuiet, Matched}
 use Rattle.operation_simulation.specs.Asked.{OperationAsked}
@@ -34,7 +34,7 @@ pub record StoresStayApart : Type 0 where
       MemoryMatches p n frame fs v memory stack back → IsInt z → LocationStands p (shape p n) (slot_kinds p n) l → stored_at l z frame v ≡ goes new_frame new_world →
       MemoryMatches p n new_frame fs new_world (with_value memory (location_byte (setting p n) (shape p n) stack l) 4 (extended z)) stack back
   pub address : (p : Plan) (n : ℕ) (frame : Frame) (fs : List Activation) (v : World) (memory : List Part) (stack back s : ℕ) (b : Address) →
-      MemoryMatches p n frame fs v memory stack back → s < length (shape p n).slots → is_variable (slot_kinds p n s) ≡ false → byte_of (setting p n) b < 2 ^ 64 → p.live b.base ≡ true →
+      MemoryMatches p n frame fs v memory stack back → s < length (shape p n).slots → is_variable (slot_kinds p n s) ≡ false → byte_of (setting p n) b < 2 ^ 64 → HeldBy p v frame.call b.base →
       MemoryMatches p n (with_slot s (address_word b) frame) fs v (with_value memory (stack + slot_offset (shape p n) s) 8 (byte_of (setting p n) b)) stack back
 
 -- One step of the machine for linear code at an operation that calls nothing is matched by at most as many turns of the ABI machine as the

@@ -67,12 +67,13 @@ is_exception (of_variable c s) = false
 is_exception (of_exception e) = true
 
 -- exception objects may be written; those that are live were made, those that are still to come have no ints yet, and nothing else that is
--- live lies among them
+-- live lies among them. Where an exception was is known after it is freed.
 pub record ObjectsStand (p : Plan) (v : World) (memory : List Part) : Type 0 where
   pub may : ObjectsMay memory
   pub made : (e : ℕ) → p.live (of_exception e) ≡ true → e ≤ v.last_number
   pub fresh : (e o : ℕ) → v.last_number < e → v.memory (record { base = of_exception e; offset = o }) ≡ None
   pub away : (b : Base) → p.live b ≡ true → is_exception b ≡ false → IsAway (p.at b) (p.size b)
+  pub placed : (e : ℕ) → p.at (of_exception e) + p.size (of_exception e) < 2 ^ 64
 
 -- what is outside, the last number of an exception, whether terminate runs, and what the runtime keeps of exceptions
 pub record RuntimeMatches (p : Plan) (fs : List Activation) (v : World) (w : abi.World) : Type 0 where

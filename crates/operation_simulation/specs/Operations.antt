@@ -36,7 +36,7 @@ PlaceFits p n frame q = RootFits (setting p n) (shape p n) (slot_kinds p n) fram
 abbrev pub PlaceStands : Plan → ℕ → Frame → Place → Type 0
 PlaceStands p n frame q = PlaceFits p n frame q × ((l : Location) → locate (slot_kinds p n) frame q ≡ Some l → LocationStands p (shape p n) (slot_kinds p n) l)
 
--- What is needed in a frame where an operation is made; what addresses begin at is live.
+-- what is needed in a frame where an operation is made
 abbrev pub OperationStands : Plan → ℕ → Frame → LinearOp → Type 0
 OperationStands p n frame (plain (store q v)) = ValueStands (setting p n) (shape p n) (slot_kinds p n) frame v × PlaceStands p n frame q
 OperationStands p n frame (plain (bind s q)) =
