@@ -28,7 +28,7 @@ use Rattle.operation_simulation.specs.Matches.{UnitStands, FrameIs, StackMay, Me
 use Rattle.operation_simulation.specs.Entering.{opened}
 use Rattle.operation_simulation.proofs.Words.{operation_at}
 use Rattle.operation_simulation.proofs.Given.{number_beside}
-use Rattle.operation_simulation.proofs.Beneath.{Beneath, beneath_call, Begins}
+use Rattle.operation_simulation.proofs.Beneath.{Beneath, beneath_call, MayPass, Begins}
 use Rattle.operation_simulation.proofs.Opening.{many, slot_or_not, frame_apart, call_opened, waits_opened}
 use Rattle.operation_simulation.proofs.Opened.{opened_matches}
 use Rattle.exception_operations.specs.Destroys.{waiting_catch, object_passed, MayDestroy}
@@ -110,7 +110,7 @@ destructor_matches p n d e depth top fs active v memory stack back outer h ok ru
       frame = omega (arith, h.low);
       room = omega (arith, h.low);
       passed = (passed, tt);
-      lives = λ j word b got found. lives_at j word b got found;
+      may = λ j word b got found. may_at j word b got found;
       few = ok.passed;
       fits = ok.words;
       saved = h.returns;
@@ -151,13 +151,13 @@ destructor_matches p n d e depth top fs active v memory stack back outer h ok ru
       ),
     )))
   where
-    lives_at : (j : ℕ) (word : Word) (b : Address) → slice_get (object_passed e) j ≡ Some word → address_in word ≡ Some b → p.live b.base ≡ true
-    lives_at zero word b got found =
+    may_at : (j : ℕ) (word : Word) (b : Address) → slice_get (object_passed e) j ≡ Some word → address_in word ≡ Some b → MayPass p v b.base
+    may_at zero word b got found =
         let same : address_word (object_address e) ≡ word = cc got in
         let both : Some (object_address e) ≡ Some b = ap address_in same ∙ found in
         let at : object_address e ≡ b = cc both in
-        subst (λ (k : Address). p.live k.base ≡ true) at h.live
-    lives_at (suc j) word b got found = absurd (cc got)
+        subst (λ (k : Address). MayPass p v k.base) at (h.matches.objects.made e h.live)
+    may_at (suc j) word b got found = absurd (cc got)
 
     stub_alone : (b : Base) → p.live b ≡ true → Apart (p.at b) (p.size b) (stack - 48) 48
     stub_alone b live i j hi hj same = by (h.matches.top.clear b live (h.matches.last b live))

@@ -84,7 +84,7 @@ filters_run image p n s l filter selector st next w h at ok is int =
     let parts = pieces_split s0.memory g here front rear own.code in
     let ready = ready_here p n st w h.back stood in
     let near = ok.near in
-    let loaded = value_evaluates (setting p n) (shape p n) (slot_kinds p n) st.top.frame st.world slot selector (ok.inside, omega (arith, near), slot_fits (slot_kinds p n s)) (slot_read (slot_kinds p n s) st.top.frame st.world s selector ok.plain is) in
+    let loaded = value_evaluates (setting p n) (shape p n) (slot_kinds p n) st.top.frame st.world slot selector ((ok.inside, omega (arith, near), slot_fits (slot_kinds p n s)), tt) (slot_read (slot_kinds p n s) st.top.frame st.world s selector ok.plain is) in
     let set = value_evaluates (setting p n) (shape p n) (slot_kinds p n) st.top.frame st.world (number filter) filter int refl in
     let two = both (setting p n) (shape p n) (slot_kinds p n) st.top.frame st.world (λ k. value_code (shape p n) k slot) (λ k. value_code (shape p n) k (number filter)) 1 1 selector filter loaded set 0 here s0
     (omega arith) (omega arith) (omega arith) (omega arith) short parts.0 h_pc ready in

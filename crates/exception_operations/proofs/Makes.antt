@@ -170,7 +170,7 @@ make_runs turns made image pick p n s st next w back h at ok free =
     let put = slot_put q n st.top.frame st.frames u back (here + 2) a0 s object s2 held2 (record { inside = ok.inside; plain = ok.plain; near = ok.near }) code2 (ec.pc ∙ omega arith) given_a0 in
     let last = executes_turns image 1 w2 s2 put.after refl put.runs in
     let value : byte_of (setting q n) (object_address e) ≡ object = omega (arith, object_there) in
-    let stored = address_matches q n st.top.frame st.frames u s2.memory (x s2 sp) back s (object_address e) held2 ok.inside ok.plain (omega (arith, value, small)) (new_at p e slot (of_exception e) refl).live in
+    let stored = address_matches q n st.top.frame st.frames u s2.memory (x s2 sp) back s (object_address e) held2 ok.inside ok.plain (omega (arith, value, small)) (omega (arith, making.number)) in
     let to : LinearState = moved st (st.top.place + 1) (made_frame v s st.top.frame) u in
     let memory : put.after.memory ≡ with_value s2.memory (x s2 sp + slot_offset (shape p n) s) 8 (byte_of (setting q n) (object_address e))
     = put.memory ∙ ap (with_value s2.memory (x s2 sp + slot_offset (shape p n) s) 8) (sym value) in

@@ -240,8 +240,13 @@ module _ (p : Plan) (e slot : ℕ) (v u : World) (h : Making p e slot v u) where
     made = λ d live. made_at d live (one_or_not e (of_exception d));
     fresh = λ d o more. ap (λ m. m (record { base = of_exception d; offset = o })) h.memory ∙ objects.fresh d o (omega (arith, more, later));
     away = away_at;
+    placed = λ d. placed_at d (one_or_not e (of_exception d));
   }
     where
+      placed_at : (d : ℕ) → OneOrNot e (of_exception d) → (with_object p e slot).at (of_exception d) + (with_object p e slot).size (of_exception d) < 2 ^ 64
+      placed_at d (inl x) = let new = new_at p e slot (of_exception d) x in omega (arith, new.at, new.size, h.below)
+      placed_at d (inr x) = let old = old_at p e slot (of_exception d) x in omega (arith, old.at, old.size, objects.placed d)
+
       made_at : (d : ℕ) → (with_object p e slot).live (of_exception d) ≡ true → OneOrNot e (of_exception d) → d ≤ u.last_number
       made_at d live (inl x) = let same : d ≡ e = cc x in omega (arith, same, h.number)
       made_at d live (inr x) = let old = old_at p e slot (of_exception d) x in omega (arith, objects.made d (sym old.live ∙ live), later)
