@@ -22,3 +22,4 @@ pub mod Resuming
 pub mod Again
 pub mod Rethrowing
 pub mod Forcing
+pub mod Cancelling

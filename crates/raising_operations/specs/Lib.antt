@@ -4,4 +4,5 @@ pub mod Throws
 pub mod Resumes
 pub mod Rethrows
 pub mod Forced
+pub mod Cancels
 pub mod Pads

@@ -1,4 +1,5 @@
 // Laws of raises in words: calls of no effect, whose contracts state what holds of every unit.
+ghost use Rattle.raising_operations.specs.Cancels.{CancelsRun};
 ghost use Rattle.raising_operations.specs.Forced.{ForcedRun};
 ghost use Rattle.raising_operations.specs.Pads.{PadsRun};
 ghost use Rattle.raising_operations.specs.Resumes.{ResumesRun};
@@ -6,7 +7,7 @@ ghost use Rattle.raising_operations.specs.Rethrows.{RethrowsRun};
 ghost use Rattle.raising_operations.specs.Stacks.{StacksStand};
 ghost use Rattle.raising_operations.specs.Throws.{ThrowsRun};
 
-use code_simulation::laws::calls_are_turns;
+use code_simulation::laws::{calls_are_turns, values_are_computed};
 use raise_simulation::laws::{forced_agree, raises_agree, resumes_agree};
 use stub_simulation::laws::calls_are_made;
 
@@ -54,5 +55,15 @@ pub fn forced_run()
 {
     calls_are_turns();
     calls_are_made();
+    forced_agree();
+}
+
+/// A forced unwind that begins comes to the landing pad on the ABI machine that it comes to on the machine for linear code.
+pub fn cancels_run()
+    ensures { CancelsRun }
+{
+    calls_are_turns();
+    calls_are_made();
+    values_are_computed();
     forced_agree();
 }
