@@ -36,7 +36,7 @@ use Rattle.operation_simulation.proofs.Matching.{Stands, stands_by}
 use Rattle.exception_operations.specs.Terminates.{AtTerminating, RunAborts, LinearAborts}
 use Rattle.exception_operations.proofs.DestructorsEnd.{CameBack, returns_value}
 use Rattle.exception_operations.proofs.GivingBack.{gives_back_frame}
-use Rattle.exception_operations.proofs.Terminating.{terminating_op}
+use Rattle.exception_operations.proofs.Terminating.{terminating_step}
 use Rattle.exception_operations.proofs.Terminates.{called}
 
 -- ---- behind turns that show nothing
@@ -61,7 +61,7 @@ linear_aborts image p n st at none = by none st.world.ending refl
         else linear_at terminating 0 (stub_frame (function_word st.world.installed.terminate_handler) nothing nothing) (st.top ∷ st.frames) (record st.world { ending = is_some st.world.installed.terminate_handler })
 
     first : (b : Bool) → st.world.ending ≡ b → step (code_of p.unit) st ≡ after_step b
-    first b is = (terminating_op image p n st at).step ∙ ap after_step is
+    first b is = terminating_step image p n st at ∙ ap after_step is
 
     running : st.world.ending ≡ true → LinearAborts p 3 st
     running is = (st.world, ap (go_on (exec (code_of p.unit) 2)) (first true is), refl)
@@ -74,7 +74,7 @@ linear_aborts image p n st at none = by none st.world.ending refl
         (record st.world { ending = false }, ap (go_on (exec (code_of p.unit) 2)) (first false same ∙ ap behind none), refl)
 
 pub aborts : CallsAreTurns → CallsTerminate → (image : Image) (pick : ℕ → ℕ) (k : ℕ) (p : Plan) (n : ℕ) (st : LinearState) (w : abi.World) → Matches p st w → (at : AtTerminating image p n st) →
-    (st.world.ending ≡ true) ⊎ (st.world.installed.terminate_handler ≡ None) → length (linear_code (shape p n) at.operation) + 9 ≤ k → LinearAborts p 3 st × RunAborts image pick k w
+    (st.world.ending ≡ true) ⊎ (st.world.installed.terminate_handler ≡ None) → length (linear_code (shape p n) at.operation) + 10 ≤ k → LinearAborts p 3 st × RunAborts image pick k w
 aborts turns laws image pick k p n st w h at none many =
     let stood = stands_by p n st w h at.runs in
     let c = called turns image p n st w h.back stood at in

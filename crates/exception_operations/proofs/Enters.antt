@@ -4,6 +4,7 @@ use Rattle.std.specs.Prelude.{nat_lt, ◌||◌, if◌then◌else◌}
 use Rattle.scope_rules.specs.Class.{some_of}
 use Rattle.std.proofs.lemmas.Bool.Decides.{nat_tests}
 use Rattle.run_items.specs.declared.item.Item.TheVariants.{Enter}
+use Rattle.rv64_isa.specs.State.{State}
 use Rattle.rv64_isa.specs.Step.{x}
 use Rattle.caught_stack.specs.declared.header.Header.{Header}
 use Rattle.caught_stack.specs.Begin.{begun}
@@ -20,7 +21,7 @@ use Rattle.cxa_runtime.specs.Call.{call_effect, numbered}
 use Rattle.cxa_runtime.specs.Run.{counted}
 use Rattle.region_forms.specs.Form.{enter}
 use Rattle.region_forms.specs.Caught.{entered_on, holds_other}
-use Rattle.region_forms.specs.World.{World, Exception, Live, building, native, foreign, exception_in, exception_at, exception_of, exception_in_slot}
+use Rattle.region_forms.specs.World.{of_exception, World, Exception, Live, building, native, foreign, exception_in, exception_at, exception_of, exception_in_slot}
 use Rattle.region_forms.specs.Effect.{goes, terminates, is_foreign, entered, enters, only_where, Effect}
 use Rattle.linear_forms.specs.Linear.{plain}
 use Rattle.linear_forms.specs.Activation.{Code, Activation, State as LinearState, goes_to}
@@ -157,6 +158,56 @@ all_three true true false x y z = absurd (cc z)
 all_three true false c x y z = absurd (cc y)
 all_three false b c x y z = absurd (cc x)
 
+-- the exception's object is found, and the runtime enters it
+record CanBegin (p : Plan) (st : LinearState) (e : ℕ) (at : abi.World) : Type 0 where
+  slot : ℕ
+  has : HasHeader at.exceptions.live e slot
+  object : p.at (of_exception e) ≡ object_of slot
+  thrown : is_thrown has.header.kind ≡ true
+  found : object_where is_thrown at.exceptions.live (p.at (of_exception e)) ≡ Some (record { slot = slot; header = has.header })
+  front : is_front_slot at.exceptions.caught slot ≡ true
+  may : may_begin at.exceptions slot ≡ true
+  crowded : (is_foreign_kind has.header.kind && holds_other_slot at.exceptions.caught slot) ≡ is_crowded_in st.world e
+
+can_begin : (p : Plan) (st : LinearState) (e : ℕ) (at : abi.World) → ExceptionsMatch (addresses_of p) (destroyed st.frames) (exceptions_in st.world) (kept_by at) → CanEnter st.frames st.world e → CanBegin p st e at
+can_begin p st e at m ok =
+    let v : World = st.world in
+    let places : Addresses = addresses_of p in
+    let gone : List ℕ = destroyed st.frames in
+    let k : KeptExceptions = kept_by at in
+    let live = live_header places gone (exceptions_in v) k e ok.exception m ok.live in
+    let slot : ℕ = live.slot in
+    let header : Header = live.has.header in
+    let is : HeaderIs places false ok.exception header = subst (λ b. HeaderIs places b ok.exception header) ok.whole live.is in
+    let thrown = thrown_kind places ok.exception header ok.thrown is in
+    let unique : (a : ℕ) → HasHeader at.exceptions.live e a → slot ≡ a = λ a b. slots_alike places gone (exceptions_in v) k e slot a m live.has b in
+    let front = front_alike at.exceptions.live e slot live.has unique v.caught at.exceptions.caught m.caught ok.front in
+    let some : nat_lt 0 at.exceptions.uncaught ≡ true = grind (arith, nat_tests, m.uncaught, ok.travels) in
+    record {
+      slot = slot;
+      has = live.has;
+      object = live.object;
+      thrown = thrown;
+      found = ap (object_where is_thrown at.exceptions.live) live.object ∙ object_found is_thrown at.exceptions.live slot header live.below live.has.there thrown;
+      front = front;
+      may = all_three (nat_lt 0 at.exceptions.uncaught) (is_small (handler_count at.exceptions.caught slot)) (is_front_slot at.exceptions.caught slot) some
+          (counts_small at.exceptions.live e slot live.has unique v.caught at.exceptions.caught m.caught ok.few) front;
+      crowded = ap (λ b. b && holds_other_slot at.exceptions.caught slot) (foreign_kind places ok.exception header ok.thrown is ∙ ap is_foreign (sym (exception_is v.live e ok.exception ok.live)))
+          ∙ ap (λ b. is_foreign (exception_at v e) && b) (sym (others_alike at.exceptions.live e slot live.has unique v.caught at.exceptions.caught m.caught));
+    }
+
+-- or it terminates, where the exception is foreign and another is handled
+pub crowded_call : (image : Image) (p : Plan) (st : LinearState) (e : ℕ) (behind : State) (at : abi.World) → ExceptionsMatch (addresses_of p) (destroyed st.frames) (exceptions_in st.world) (kept_by at) → CanEnter st.frames st.world e →
+    is_crowded_in st.world e ≡ true → argument (asked behind at) 10 ≡ p.at (of_exception e) → (wish : ℕ) → call_effect 6 image wish (asked behind at) ≡ terminates_now image.places (asked behind at)
+crowded_call image p st e behind at m ok crowd given wish =
+    let t : abi.World = asked behind at in
+    let c = can_begin p st e at m ok in
+    let o : Object = record { slot = c.slot; header = c.has.header } in
+    let end : abi.World = gives 10 (object_of c.slot) (runtime_entered o t) in
+    begin_is image wish t ∙ ap (λ k. needs t k (begins_catch image.places t)) (ap (object_where is_thrown at.exceptions.live) given ∙ c.found)
+    ∙ ap (λ b. if b then (if is_crowded t o then terminates_now image.places t else abi.goes end) else refused t) c.may
+    ∙ ap (λ b. if b then terminates_now image.places t else abi.goes end) (c.crowded ∙ crowd)
+
 enter_runs : CallsAreTurns → CallsAreMade → (image : Image) (p : Plan) (n s e : ℕ) (st next : LinearState) (w : abi.World) (back : ℕ) → Stands p n st w back → StepAt p st next n (plain (enter s)) →
     HoldsObject p n st.top.frame s e → CanEnter st.frames st.world e → is_crowded_in st.world e ≡ false →
     Matched image (length (linear_code (shape p n) (plain (enter s)))) w (Enter e ∷ []) (λ v. Matches p (moved st (st.top.place + 1) st.top.frame (entered e st.world)) v)
@@ -173,25 +224,13 @@ enter_runs turns made image p n s e st next w back h at holds ok alone_here =
     let places : Addresses = addresses_of p in
     let gone : List ℕ = destroyed st.frames in
     let k : KeptExceptions = kept_by ec.at in
-    let live = live_header places gone (exceptions_in v) k e ok.exception m ok.live in
-    let slot : ℕ = live.slot in
-    let header : Header = live.has.header in
-    let is : HeaderIs places false ok.exception header = subst (λ b. HeaderIs places b ok.exception header) ok.whole live.is in
-    let thrown = thrown_kind places ok.exception header ok.thrown is in
-    let unique : (a : ℕ) → HasHeader ec.at.exceptions.live e a → slot ≡ a = λ a b. slots_alike places gone (exceptions_in v) k e slot a m live.has b in
-    let given : argument t 10 ≡ object_of slot = ec.kept a0 (λ d. absurd (omega (arith, d))) ∙ first.is ∙ omega arith ∙ live.object in
-    let found : object_where is_thrown t.exceptions.live (argument t 10) ≡ Some (record { slot = slot; header = header })
-    = ap (object_where is_thrown ec.at.exceptions.live) given ∙ object_found is_thrown ec.at.exceptions.live slot header live.below live.has.there thrown in
-    let front = front_alike ec.at.exceptions.live e slot live.has unique v.caught ec.at.exceptions.caught m.caught ok.front in
-    let some : nat_lt 0 ec.at.exceptions.uncaught ≡ true = grind (arith, nat_tests, m.uncaught, ok.travels) in
-    let may : may_begin t.exceptions slot ≡ true
-    = all_three (nat_lt 0 ec.at.exceptions.uncaught) (is_small (handler_count ec.at.exceptions.caught slot)) (is_front_slot ec.at.exceptions.caught slot) some
-    (counts_small ec.at.exceptions.live e slot live.has unique v.caught ec.at.exceptions.caught m.caught ok.few) front in
-    let alone : (is_foreign_kind header.kind && holds_other_slot ec.at.exceptions.caught slot) ≡ false
-    = ap (λ b. b && holds_other_slot ec.at.exceptions.caught slot) (foreign_kind places ok.exception header ok.thrown is ∙ ap is_foreign (sym (exception_is v.live e ok.exception ok.live)))
-    ∙ ap (λ b. is_foreign (exception_at v e) && b) (sym (others_alike ec.at.exceptions.live e slot live.has unique v.caught ec.at.exceptions.caught m.caught)) ∙ alone_here in
+    let c = can_begin p st e ec.at m ok in
+    let slot : ℕ = c.slot in
+    let header : Header = c.has.header in
+    let given : argument t 10 ≡ p.at (of_exception e) = ec.kept a0 (λ d. absurd (omega (arith, d))) ∙ first.is ∙ omega arith in
+    let found : object_where is_thrown t.exceptions.live (argument t 10) ≡ Some (record { slot = slot; header = header }) = ap (object_where is_thrown ec.at.exceptions.live) given ∙ c.found in
     let end : abi.World = gives 10 (object_of slot) (runtime_entered (record { slot = slot; header = header }) t) in
-    let effect : (wish : ℕ) → call_effect 6 image wish t ≡ abi.goes end = λ wish. begin_is image wish t ∙ begins_is image t slot header found may alone in
+    let effect : (wish : ℕ) → call_effect 6 image wish t ≡ abi.goes end = λ wish. begin_is image wish t ∙ begins_is image t slot header found c.may (c.crowded ∙ alone_here) in
     let to : LinearState = moved st (st.top.place + 1) st.top.frame (entered e v) in
     let held = matches_alike p n st.top.frame st.frames v (entered e v) w.hart.memory (x w.hart sp) back refl refl (same_number v) h.memory in
     let stack : x end.hart sp ≡ x w.hart sp = read_other ec.behind.regs 10 sp (object_of slot) (λ d. absurd (omega (arith, d))) ∙ ec.stack in
@@ -200,7 +239,7 @@ enter_runs turns made image p n s e st next w back h at holds ok alone_here =
       few = omega (arith, ec.few);
       some = λ some. omega arith;
       after = counted end;
-      runs = subst (λ i. Turns image (ec.turns + 1) w (counted end) (Enter i ∷ [])) live.has.number (call_made made image g here 1 6 w first.goes.after ec end effect);
+      runs = subst (λ i. Turns image (ec.turns + 1) w (counted end) (Enter i ∷ [])) c.has.number (call_made made image g here 1 6 w first.goes.after ec end effect);
       holds = record {
         number = n;
         back = back;
@@ -214,7 +253,7 @@ enter_runs turns made image p n s e st next w back h at holds ok alone_here =
           replies = r.replies;
           last_number = r.last_number;
           terminating = r.terminating;
-          exceptions = entered_match places gone (exceptions_in v) k e slot live.has m thrown front;
+          exceptions = entered_match places gone (exceptions_in v) k e slot c.has m c.thrown c.front;
           plan = r.plan;
         };
       };

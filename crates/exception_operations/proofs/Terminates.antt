@@ -1,17 +1,22 @@
 -- Terminating is matched.
-use Rattle.std.proofs.Common.{◌≡◌, ◌∙◌, refl, sym, ap, subst, arith, ℕ, ◌+◌, ◌-◌, ◌≤◌, false, List, [], ◌∷◌, length, Option, Some, is_some}
-use Rattle.std.specs.Prelude.{if◌then◌else◌}
+use Rattle.std.proofs.Common.{◌≡◌, ◌∙◌, refl, sym, ap, subst, arith, ℕ, ◌+◌, ◌-◌, ◌≤◌, false, List, [], ◌∷◌, length, Option, Some, is_some, inl, inr}
+use Rattle.std.specs.Prelude.{◌⊎◌, if◌then◌else◌}
 use Rattle.scope_rules.specs.Outcome.{aborted}
 use Rattle.rv64_isa.specs.State.{State}
 use Rattle.rv64_isa.specs.Step.{x}
 use Rattle.cxa_runtime.specs.World as abi
+use Rattle.cxa_runtime.specs.World.{argument}
+use Rattle.cxa_runtime.specs.Call.{call_effect}
+use Rattle.cxa_runtime.specs.Terminate.{terminates}
 use Rattle.cxa_runtime.specs.Raising.{Image}
-use Rattle.region_forms.specs.World.{World, nothing}
+use Rattle.region_forms.specs.World.{of_exception, World, nothing}
+use Rattle.region_forms.specs.Form.{enter}
+use Rattle.linear_forms.specs.Linear.{plain}
 use Rattle.region_forms.specs.Effect.{new_world}
 use Rattle.linear_forms.specs.Stub.{terminating}
 use Rattle.linear_forms.specs.Activation.{Activation, State as LinearState, Next, at as linear_at, finishes, by_program, stub_frame, function_word, depth_of}
 use Rattle.linear_forms.specs.UnitRun.{code_of}
-use Rattle.emission_forms.specs.Registers.{sp}
+use Rattle.emission_forms.specs.Registers.{sp, a0}
 use Rattle.emission_forms.specs.RuntimeCall.{runtime_call}
 use Rattle.emission_forms.specs.LinearCode.{linear_code}
 use Rattle.emission_forms.specs.Routine.{op_word}
@@ -37,10 +42,12 @@ use Rattle.operation_simulation.proofs.Lines.{matches_alike}
 use Rattle.operation_simulation.proofs.Freeing.{beside_matches}
 use Rattle.operation_simulation.proofs.Calling.{stack_at, runtime_opened, runtime_pushed}
 use Rattle.exception_operations.specs.Leaves.{StepsTo}
-use Rattle.exception_operations.specs.Terminates.{AtTerminating, waiting_terminate, ending_world, in_handler}
+use Rattle.exception_operations.specs.Terminates.{AtTerminating, TerminatesAtOnce, EntersCrowded, waiting_terminate, ending_world, in_handler}
 use Rattle.exception_operations.proofs.EndCatching.{room_below}
-use Rattle.exception_operations.proofs.Ecalls.{ecall_reached}
-use Rattle.exception_operations.proofs.Terminating.{terminating_op}
+use Rattle.exception_operations.proofs.Ecalls.{ecall_reached, object_loaded}
+use Rattle.exception_operations.proofs.Travels.{can_enter}
+use Rattle.exception_operations.proofs.Enters.{crowded_call}
+use Rattle.exception_operations.proofs.Terminating.{terminating_op, terminating_step}
 use Rattle.exception_operations.proofs.Handlers.{handler_entered, handler_matches}
 
 -- ---- the runtime call, from its ECALL on
@@ -48,7 +55,7 @@ use Rattle.exception_operations.proofs.Handlers.{handler_entered, handler_matche
 -- what stands where an operation makes a runtime call that terminates
 pub record Called (image : Image) (p : Plan) (n : ℕ) (st : LinearState) (w : abi.World) (back : ℕ) : Type 0 where
   pub turns : ℕ
-  pub few : turns ≤ 1
+  pub few : turns ≤ 2
   pub at : abi.World
   pub runs : Turns image turns w at []
   pub behind : State
@@ -59,9 +66,21 @@ pub record Called (image : Image) (p : Plan) (n : ℕ) (st : LinearState) (w : a
   pub may : MayTerminate p.unit p.base image (asked behind at)
   pub runtime : RuntimeMatches p st.frames st.world at
 
-pub called : CallsAreTurns → (image : Image) (p : Plan) (n : ℕ) (st : LinearState) (w : abi.World) (back : ℕ) → Stands p n st w back → (at : AtTerminating image p n st) → Called image p n st w back
-called turns image p n st w back h at =
-    let op = terminating_op image p n st at in
+-- where the ECALL is reached, the stack is that of the operation
+call_may : (image : Image) (p : Plan) (n : ℕ) (st : LinearState) (w : abi.World) (back : ℕ) (behind : State) (at : abi.World) → Stands p n st w back → image.places.terminate ≡ stub_word p.base terminating 0 → length behind.regs ≡ 32 →
+    behind.memory ≡ w.hart.memory → x behind sp ≡ x w.hart sp → MayTerminate p.unit p.base image (asked behind at)
+call_may image p n st w back behind at h named registers memory stack = record {
+  named = named;
+  registers = registers;
+  code = subst (StubAt p.unit p.base terminating) (sym memory) h.memory.unit.stubs.terminate;
+  deep = omega (arith, stack, h.memory.top.above);
+  room = room_below behind.memory (x behind sp) 32 (subst StackMay (sym memory) h.memory.may) (omega (arith, stack, h.memory.top.above)) (omega (arith, stack, h.memory.top.below))
+      (omega (arith, stack, h.memory.top.saved.aligned)) refl;
+}
+
+called_at_once : CallsAreTurns → (image : Image) (p : Plan) (n : ℕ) (st : LinearState) (w : abi.World) (back : ℕ) → Stands p n st w back → (at : AtTerminating image p n st) → TerminatesAtOnce st.world at.operation → Called image p n st w back
+called_at_once turns image p n st w back h at once =
+    let op = terminating_op image p n st at once in
     let g : Ground = (setting p n).ground in
     let here : ℕ = first_word p n + op_word (routine p n) st.top.place in
     let own = subst (OperationAt p w.hart.memory n st.top.place) op.pieces (operation_at p w.hart.memory n st.top.place at.operation h.memory.unit h.memory.top.known at.there) in
@@ -80,16 +99,45 @@ called turns image p n st w back h at =
       calls = record { behind = ec.behind; calls = ec.calls; asks = ec.asks; effect = λ wish. op.effect (addresses_of p) (destroyed st.frames) (kept_by ec.at) wish t refl r.exceptions };
       memory = ec.memory;
       stack = ec.stack;
-      may = record {
-        named = at.named;
-        registers = ec.registers;
-        code = subst (StubAt p.unit p.base terminating) (sym ec.memory) h.memory.unit.stubs.terminate;
-        deep = omega (arith, ec.stack, h.memory.top.above);
-        room = room_below ec.behind.memory (x ec.behind sp) 32 (subst StackMay (sym ec.memory) h.memory.may) (omega (arith, ec.stack, h.memory.top.above)) (omega (arith, ec.stack, h.memory.top.below))
-            (omega (arith, ec.stack, h.memory.top.saved.aligned)) refl;
-      };
+      may = call_may image p n st w back ec.behind ec.at h at.named ec.registers ec.memory ec.stack;
       runtime = r;
     }
+
+-- a foreign exception is entered while another is handled
+called_crowded : CallsAreTurns → (image : Image) (p : Plan) (n : ℕ) (st : LinearState) (w : abi.World) (back : ℕ) → Stands p n st w back → (at : AtTerminating image p n st) → EntersCrowded p n st at.operation → Called image p n st w back
+called_crowded turns image p n st w back h at c =
+    let g : Ground = (setting p n).ground in
+    let here : ℕ = first_word p n + op_word (routine p n) st.top.place in
+    let s : ℕ = c.slot in
+    let e : ℕ = c.number in
+    let own = operation_at p w.hart.memory n st.top.place (plain (enter s)) h.memory.unit h.memory.top.known (at.there ∙ ap (λ o. Some o) c.is) in
+    let first = object_loaded p n st w back here s e h c.holds own.code.0 h.pc in
+    let ec = ecall_reached turns image g here 1 0 6 w first.goes (omega arith) own.code.1 in
+    let t : abi.World = asked ec.behind ec.at in
+    let r = runtime_stays p st.frames st.world w ec.at ec.runtime h.runtime in
+    let given : argument t 10 ≡ p.at (of_exception e) = ec.kept a0 (λ d. absurd (omega (arith, d))) ∙ first.is ∙ omega arith in
+    let effect : (wish : ℕ) → call_effect 6 image wish t ≡ terminates image.places ec.at.terminate_handler t
+    = crowded_call image p st e ec.behind ec.at r.exceptions (can_enter st.frames st.world e c.may c.defined) c.crowded given in
+    record {
+      turns = ec.turns;
+      few = omega (arith, ec.few);
+      at = ec.at;
+      runs = ec.runs;
+      behind = ec.behind;
+      number = 6;
+      calls = record { behind = ec.behind; calls = ec.calls; asks = ec.asks; effect = effect };
+      memory = ec.memory;
+      stack = ec.stack;
+      may = call_may image p n st w back ec.behind ec.at h at.named ec.registers ec.memory ec.stack;
+      runtime = r;
+    }
+
+pub called : CallsAreTurns → (image : Image) (p : Plan) (n : ℕ) (st : LinearState) (w : abi.World) (back : ℕ) → Stands p n st w back → (at : AtTerminating image p n st) → Called image p n st w back
+called turns image p n st w back h at = by at.terminates
+  where
+    by : TerminatesAtOnce st.world at.operation ⊎ EntersCrowded p n st at.operation → Called image p n st w back
+    by (inl once) = called_at_once turns image p n st w back h at once
+    by (inr crowded) = called_crowded turns image p n st w back h at crowded
 
 -- ---- the handler begins
 
@@ -163,6 +211,6 @@ begins_in_two image p n m st at quiet installed =
     let fs : List Activation = st.top ∷ st.frames in
     let waiting : Option ℕ → Next = λ h. linear_at terminating 0 (stub_frame (function_word h) nothing nothing) fs (record v { ending = is_some h }) in (
       record { top = waiting_terminate m; frames = fs; world = ending_world v },
-      (terminating_op image p n st at).step ∙ ap (λ b. if b then finishes (by_program aborted) v else waiting v.installed.terminate_handler) quiet ∙ ap waiting installed,
+      terminating_step image p n st at ∙ ap (λ b. if b then finishes (by_program aborted) v else waiting v.installed.terminate_handler) quiet ∙ ap waiting installed,
       (in_handler p m st, refl, refl),
     )

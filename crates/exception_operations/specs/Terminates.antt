@@ -6,7 +6,8 @@ use Rattle.cxa_runtime.specs.declared.effect.End.TheVariants.{Aborted}
 use Rattle.cxa_runtime.specs.World as abi
 use Rattle.cxa_runtime.specs.Raising.{Image}
 use Rattle.cxa_runtime.specs.Run.{run}
-use Rattle.region_forms.specs.Form.{no_arguments, make, rethrow}
+use Rattle.region_forms.specs.Form.{no_arguments, make, rethrow, enter}
+use Rattle.region_forms.specs.Lives.{may_enter}
 use Rattle.region_forms.specs.Caught.{Entry}
 use Rattle.region_forms.specs.World.{World, nothing}
 use Rattle.region_forms.specs.Effect.{is_full, new_frame, new_world}
@@ -25,6 +26,8 @@ use Rattle.operation_simulation.specs.Runs.{StepAt}
 use Rattle.operation_simulation.specs.Entering.{opened, frame_for}
 use Rattle.operation_simulation.specs.Returns.{ResultStands}
 use Rattle.exception_operations.specs.Answers.{CallsBuiltin}
+use Rattle.exception_operations.specs.Objects.{HoldsObject}
+use Rattle.exception_operations.specs.Enters.{MayEnter, is_crowded}
 use Rattle.exception_operations.specs.Leaves.{StepsTo}
 
 -- no handler has an exception that could be thrown again
@@ -32,16 +35,26 @@ abbrev pub IsNothing : List Entry → Type 0
 IsNothing [] = Unit {0}
 IsNothing (x ∷ xs) = x.again ≡ true
 
--- An operation terminates: it calls terminate, makes an exception where as many as can be are live, or throws again what there is not.
-abbrev pub Terminating : World → LinearOp → Type 0
-Terminating v o = CallsBuiltin Terminate no_arguments None o ⊎ ((s : ℕ) × (o ≡ plain (make s)) × (is_full v ≡ true)) ⊎ ((o ≡ plain rethrow) × IsNothing v.caught)
+-- An operation terminates: it calls terminate, makes an exception where as many as can be are live, throws again what there is not, or enters
+-- a foreign exception while another is handled.
+abbrev pub TerminatesAtOnce : World → LinearOp → Type 0
+TerminatesAtOnce v o = CallsBuiltin Terminate no_arguments None o ⊎ ((s : ℕ) × (o ≡ plain (make s)) × (is_full v ≡ true)) ⊎ ((o ≡ plain rethrow) × IsNothing v.caught)
+
+pub record EntersCrowded (p : Plan) (n : ℕ) (st : State) (o : LinearOp) : Type 0 where
+  pub slot : ℕ
+  pub number : ℕ
+  pub is : o ≡ plain (enter slot)
+  pub holds : HoldsObject p n st.top.frame slot number
+  pub defined : may_enter st.world number ≡ true
+  pub may : MayEnter st.frames st.world number
+  pub crowded : is_crowded st.world number ≡ true
 
 -- a call of a compiled function is at such an operation
 pub record AtTerminating (image : Image) (p : Plan) (n : ℕ) (st : State) : Type 0 where
   pub operation : LinearOp
   pub runs : st.top.function ≡ compiled n
   pub there : slice_get (function p n).ops st.top.place ≡ Some operation
-  pub terminates : Terminating st.world operation
+  pub terminates : TerminatesAtOnce st.world operation ⊎ EntersCrowded p n st operation
   pub named : image.places.terminate ≡ stub_word p.base terminating 0
 
 -- terminate waits for its handler; the state in which the handler begins
@@ -73,6 +86,6 @@ pub record TerminatesRun : Type 0 where
       let active = waiting_terminate m ∷ st.top ∷ st.frames in open_bytes p active + (shape p m).size + 0x1000 ≤ 0x100_0000 → let next = in_handler p m st in
       StepsTo (code_of p.unit) 2 st next × (next.world.items ≡ st.world.items) × Reaches image (length (linear_code (shape p n) at.operation) + 13) w [] (λ u. Matches (opened p m st.world.calls (frame_for p m active)) next u)
   pub aborts : (image : Image) (pick : ℕ → ℕ) (k : ℕ) (p : Plan) (n : ℕ) (st : State) (w : abi.World) → Matches p st w → (at : AtTerminating image p n st) → (st.world.ending ≡ true) ⊎ (st.world.installed.terminate_handler ≡ None) →
-      length (linear_code (shape p n) at.operation) + 9 ≤ k → LinearAborts p 3 st × RunAborts image pick k w
+      length (linear_code (shape p n) at.operation) + 10 ≤ k → LinearAborts p 3 st × RunAborts image pick k w
   pub aborts_behind : (image : Image) (pick : ℕ → ℕ) (k : ℕ) (p : Plan) (n : ℕ) (st middle : State) (waiting : Activation) (fs : List Activation) (r : Option ℕ) (w : abi.World) → Matches p st w → StepAt p st middle n (return r) →
       st.frames ≡ waiting ∷ fs → waiting.function ≡ terminating → ResultStands p n st.top.frame r → 6 ≤ k → LinearAborts p 2 st × RunAborts image pick k w
