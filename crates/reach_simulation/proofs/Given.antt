@@ -18,7 +18,7 @@ use Rattle.reach_simulation.proofs.Places.{none_there, slots_in, place_lies}
 use Rattle.reach_simulation.proofs.Following.{WordComes, FrameComes}
 
 -- a location that has an address is in memory
-located : (l : Option Location) (a : Address) → with_some l location_address ≡ Some a → l ≡ Some (in_memory a)
+pub located : (l : Option Location) (a : Address) → with_some l location_address ≡ Some a → l ≡ Some (in_memory a)
 located (Some (in_memory b)) a e = ap (λ c. Some (in_memory c)) (cc e)
 located (Some (in_frame s)) a e = cc e
 located None a e = cc e
