@@ -5,6 +5,7 @@ use Rattle.cxx_ast.specs.declared.types.Ty.{Ty}
 use Rattle.cxx_ast.specs.declared.declaration.FuncKind.{FuncKind}
 use Rattle.cxx_ast.specs.declared.declaration.FuncKind.TheVariants.{Plain, Method, Constructor, Destructor}
 use Rattle.cxx_ast.specs.Plain.{Function, Class, Checked}
+use Rattle.cxx_ast.specs.Checked.{IsChecked}
 use Rattle.scope_rules.specs.Class.{class_at, no_class, parts_of}
 use Rattle.scope_rules.specs.Call.{statements_in}
 use Rattle.region_forms.specs.Form.{RegionFunction, in_order}
@@ -32,7 +33,7 @@ use Rattle.function_lengths.specs.Lengths.{CheckedFunctionsAreShort}
 use Rattle.function_lengths.proofs.Destructors.{destructors_are_short}
 
 -- a region so short that its function, with what stands around the body, is short
-abbrev IsShort : RegionFunction → Type 0
+abbrev pub IsShort : RegionFunction → Type 0
 IsShort f = region_words f.body + 10 < 262144
 
 specification_small : (o : Option (List Ty)) → specification_words o ≤ 273
@@ -100,8 +101,8 @@ all_short (f ∷ fs) few short =
     let r = function_routine (function_code f) in
     (omega (arith, functions_are_short f few.0, pieces_counted r, counted_once (routine_pieces r), short.0), all_short fs few.1 short.1)
 
-pub checked_functions_are_short : CheckedFunctionsAreShort
-checked_functions_are_short p h =
+pub checked_bodies_are_short : (p : Checked) → IsChecked p → AllByRecursion IsShort (regions_of p (layout_of p)).functions
+checked_bodies_are_short p h =
     let l = layout_of p in
     let rows = length (type_rows p) in
     let named = checked_named p h in
@@ -112,6 +113,8 @@ checked_functions_are_short p h =
       named = at_or (λ c. AllByRecursion (FunctionNamesRows rows) c.functions) p.classes i no_class named.methods tt;
       few = at_or (λ c. AllByRecursion (λ f. function_tokens f ≤ 2000) c.functions) p.classes i no_class few.methods tt;
     } in
-    all_short (regions_of p l).functions (checked_fine classes_fit p l h).few
-    (both_all IsShort (own_functions p l 0 p.functions) (functions_of_classes p l 0 (length p.classes)) (own_short rows p l 0 p.functions (no_own_parts p h) named.own few.own)
-    (classes_short rows p l 0 (length p.classes) classes))
+    both_all IsShort (own_functions p l 0 p.functions) (functions_of_classes p l 0 (length p.classes)) (own_short rows p l 0 p.functions (no_own_parts p h) named.own few.own)
+    (classes_short rows p l 0 (length p.classes) classes)
+
+pub checked_functions_are_short : CheckedFunctionsAreShort
+checked_functions_are_short p h = all_short (regions_of p (layout_of p)).functions (checked_fine classes_fit p (layout_of p) h).few (checked_bodies_are_short p h)
