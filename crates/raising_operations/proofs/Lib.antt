@@ -23,3 +23,4 @@ pub mod Again
 pub mod Rethrowing
 pub mod Forcing
 pub mod Cancelling
+pub mod ForeignMade

@@ -34,7 +34,7 @@ built_stays t gone v w e m there = by (contains gone e) refl
         let both : Some building ≡ Some (native left.type left.destructor left.kept) = sym there ∙ left.live in
         absurd (cc both)
 
-set_again : {A : Type 0} (xs : List A) (n : ℕ) (a b : A) → slice_set (slice_set xs n a) n b ≡ slice_set xs n b
+pub set_again : {A : Type 0} (xs : List A) (n : ℕ) (a b : A) → slice_set (slice_set xs n a) n b ≡ slice_set xs n b
 set_again [] n a b = refl
 set_again (x ∷ xs) zero a b = refl
 set_again (x ∷ xs) (suc n) a b = ap (λ ys. x ∷ ys) (set_again xs n a b)
