@@ -24,3 +24,4 @@ pub mod Rethrowing
 pub mod Forcing
 pub mod Cancelling
 pub mod ForeignMade
+pub mod Modules

@@ -5,4 +5,5 @@ pub mod Resumes
 pub mod Rethrows
 pub mod Forced
 pub mod Cancels
+pub mod Modules
 pub mod Pads

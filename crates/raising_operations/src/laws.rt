@@ -1,6 +1,7 @@
 // Laws of raises in words: calls of no effect, whose contracts state what holds of every unit.
 ghost use Rattle.raising_operations.specs.Cancels.{CancelsRun};
 ghost use Rattle.raising_operations.specs.Forced.{ForcedRun};
+ghost use Rattle.raising_operations.specs.Modules.{ModulesRaise};
 ghost use Rattle.raising_operations.specs.Pads.{PadsRun};
 ghost use Rattle.raising_operations.specs.Resumes.{ResumesRun};
 ghost use Rattle.raising_operations.specs.Rethrows.{RethrowsRun};
@@ -66,4 +67,15 @@ pub fn cancels_run()
     calls_are_made();
     values_are_computed();
     forced_agree();
+}
+
+/// An exception that a module raises comes to the landing pad on the ABI machine that it comes to on the machine for linear code, in whatever
+/// vacant slot.
+pub fn modules_raise()
+    ensures { ModulesRaise }
+{
+    calls_are_turns();
+    calls_are_made();
+    values_are_computed();
+    raises_agree();
 }
