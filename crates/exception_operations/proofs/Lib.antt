@@ -34,3 +34,6 @@ pub mod Handlers
 pub mod Terminates
 pub mod Aborts
 pub mod Ended
+pub mod Selectors
+pub mod Stopped
+pub mod Unexpected

@@ -23,7 +23,7 @@ use Rattle.operation_simulation.specs.Matches.{MemoryMatches}
 use Rattle.operation_simulation.proofs.Holding.{slot_may, slot_place}
 use Rattle.exception_operations.specs.Makes.{IsWordSlot}
 
-sd_done : (base value imm : ℕ) (s : State) → done (Sd base value imm) s ≡ stores s 8 (add (x s base) (imm12 imm)) (x s value)
+pub sd_done : (base value imm : ℕ) (s : State) → done (Sd base value imm) s ≡ stores s 8 (add (x s base) (imm12 imm)) (x s value)
 unfolding done
 sd_done base value imm s = refl
 

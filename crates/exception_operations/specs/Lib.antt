@@ -8,3 +8,4 @@ pub mod Destroys
 pub mod Filters
 pub mod Answers
 pub mod Terminates
+pub mod Unexpected

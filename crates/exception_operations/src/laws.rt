@@ -7,6 +7,7 @@ ghost use Rattle.exception_operations.specs.Frees.{FreesRun};
 ghost use Rattle.exception_operations.specs.Leaves.{LeavesRun};
 ghost use Rattle.exception_operations.specs.Makes.{MakesRun};
 ghost use Rattle.exception_operations.specs.Terminates.{TerminatesRun};
+ghost use Rattle.exception_operations.specs.Unexpected.{UnexpectedCalled};
 
 use code_simulation::laws::{calls_are_turns, places_are_written};
 use stub_simulation::laws::{
@@ -85,3 +86,8 @@ pub fn terminates_run()
     calls_terminate();
     terminate_runs();
 }
+
+/// Where a specification stops an exception, the ABI machine comes to the first word of call_unexpected, with what the machine for linear code passes.
+pub fn unexpected_called()
+    ensures { UnexpectedCalled }
+{}
