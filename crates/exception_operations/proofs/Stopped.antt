@@ -114,7 +114,7 @@ selector_passed p n frame fs v back here slot z s h holds is regs at code =
         passed = tt;
         above = λ b k c high there. subst (λ ps. Holds ps b k c) (sym memory)
             (holds_apart s.memory a 8 e.value b k c (λ i1 j1 hi hj same. omega (arith, high, hi, same, h.top.above)) there);
-        lives = λ j other b got named. absurd (cc got);
+        held = λ j other b got named. absurd (cc got);
       };
       selector = subst (λ ps. IntAt ps a z) (sym memory) held;
     }

@@ -1,5 +1,5 @@
 -- Terminating is matched.
-use Rattle.std.proofs.Common.{◌≡◌, ◌∙◌, refl, sym, ap, subst, arith, ℕ, ◌+◌, ◌-◌, ◌≤◌, false, List, [], ◌∷◌, length, Option, Some, is_some, inl, inr}
+use Rattle.std.proofs.Common.{◌≡◌, ◌∙◌, refl, sym, ap, subst, arith, ℕ, ◌+◌, ◌-◌, ◌≤◌, false, List, [], ◌∷◌, append-nil, length, Option, Some, is_some, inl, inr}
 use Rattle.std.specs.Prelude.{◌⊎◌, if◌then◌else◌}
 use Rattle.scope_rules.specs.Outcome.{aborted}
 use Rattle.rv64_isa.specs.State.{State}
@@ -13,7 +13,7 @@ use Rattle.region_forms.specs.World.{of_exception, World, nothing}
 use Rattle.region_forms.specs.Form.{enter}
 use Rattle.linear_forms.specs.Linear.{plain}
 use Rattle.region_forms.specs.Effect.{new_world}
-use Rattle.linear_forms.specs.Stub.{terminating}
+use Rattle.linear_forms.specs.Stub.{compiled, terminating}
 use Rattle.linear_forms.specs.Activation.{Activation, State as LinearState, Next, at as linear_at, finishes, by_program, stub_frame, function_word, depth_of}
 use Rattle.linear_forms.specs.UnitRun.{code_of}
 use Rattle.emission_forms.specs.Registers.{sp, a0}
@@ -144,54 +144,62 @@ called turns image p n st w back h at = by at.terminates
 handler_is : (t : Addresses) (h : Option ℕ) (m a : ℕ) → h ≡ Some m → IsFunction t h a → IsFunction t (Some m) a
 handler_is t h m a is f = subst (λ k. IsFunction t k a) is f
 
-pub handler_begins : CallsAreTurns → CallsTerminate → (image : Image) (p : Plan) (n m : ℕ) (st : LinearState) (w : abi.World) → Matches p st w → (at : AtTerminating image p n st) → st.world.ending ≡ false →
-    st.world.installed.terminate_handler ≡ Some m → p.hidden ≡ 0 → let active = waiting_terminate m ∷ st.top ∷ st.frames in open_bytes p active + (shape p m).size + 0x1000 ≤ 0x100_0000 →
-    Reaches image (length (linear_code (shape p n) at.operation) + 13) w [] (λ u. Matches (opened p m st.world.calls (frame_for p m active)) (in_handler p m st) u)
-handler_begins turns laws image p n m st w h at quiet installed hidden fits =
+-- where a runtime call terminates, with a handler that is a function of the unit, in a world that matches but for terminate
+pub record AtHandler (image : Image) (p : Plan) (n m : ℕ) (st : LinearState) (w : abi.World) (back : ℕ) : Type 0 where
+  pub turns : ℕ
+  pub at : abi.World
+  pub runs : Turns image turns w at []
+  pub to : abi.World
+  pub number : ℕ
+  pub handler : ℕ
+  pub calls : stubs.Terminates image number handler at to
+  pub may : MayTerminate p.unit p.base image to
+  pub known : IsFunction (addresses_of p) (Some m) handler
+  pub memory : MemoryMatches p n st.top.frame st.frames st.world to.hart.memory (x to.hart sp) back
+  pub runtime : RuntimeMatches p st.frames st.world to
+  pub end : x to.hart sp + open_bytes p (st.top ∷ st.frames) ≡ stack_end
+
+pub handler_from : CallsTerminate → (image : Image) (p : Plan) (n m : ℕ) (st : LinearState) (w : abi.World) (back : ℕ) (c : AtHandler image p n m st w back) → st.top.function ≡ compiled n → st.world.ending ≡ false → p.hidden ≡ 0 →
+    let active = waiting_terminate m ∷ st.top ∷ st.frames in open_bytes p active + (shape p m).size + 0x1000 ≤ 0x100_0000 →
+    Reaches image (c.turns + 11) w c.to.shown (λ u. Matches (opened p m st.world.calls (frame_for p m active)) (in_handler p m st) u)
+handler_from laws image p n m st w back c callee quiet hidden fits =
     let v : World = st.world in
     let ve : World = ending_world v in
     let active : List Activation = waiting_terminate m ∷ st.top ∷ st.frames in
     let depth : ℕ = depth_of active + 1 in
-    let stood = stands_by p n st w h at.runs in
-    let c = called turns image p n st w h.back stood at in
-    let r = c.runtime in
-    let t : abi.World = asked c.behind c.at in
+    let t : abi.World = c.to in
     let first : ℕ = address (setting p m).ground (first_word p m) in
-    let known = handler_is (addresses_of p) v.installed.terminate_handler m c.at.terminate_handler installed r.exceptions.terminate_handler in
-    let code = (stood.memory.unit.functions m known.1).0 in
-    let even = even_base p w.hart.memory stood.memory.unit in
-    let is : c.at.terminate_handler ≡ first = known.0 in
-    let calls = subst (λ k. stubs.Terminates image c.number k c.at t) is c.calls in
-    let come = laws.calls_the_handler image p.unit p.base c.number first c.at t calls (r.terminating ∙ quiet) c.may (λ zero. absurd (omega (arith, zero))) (omega (arith, even)) (omega (arith, code.word.below)) in
+    let code = (c.memory.unit.functions m c.known.1).0 in
+    let even = even_base p t.hart.memory c.memory.unit in
+    let calls = subst (λ k. stubs.Terminates image c.number k c.at t) c.known.0 c.calls in
+    let come = laws.calls_the_handler image p.unit p.base c.number first c.at t calls (c.runtime.terminating ∙ quiet) c.may (λ zero. absurd (omega (arith, zero))) (omega (arith, even)) (omega (arith, code.word.below)) in
     let v2 : abi.World = come.after in
     let ad = come.holds in
-    let stack : ℕ = x w.hart sp in
-    let low : ℕ = x c.behind sp - 32 in
-    let end : stack + open_bytes p (st.top ∷ st.frames) ≡ stack_end = stack_at p n st w h.back stood in
-    let held1 : MemoryMatches p n st.top.frame st.frames v c.behind.memory stack h.back = subst (λ ps. MemoryMatches p n st.top.frame st.frames v ps stack h.back) (sym c.memory) stood.memory in
-    let held2 = beside_matches p n st.top.frame st.frames v c.behind.memory v2.hart.memory stack h.back low 32 held1
-    (record { low = omega (arith, c.stack, stood.memory.top.above); high = omega (arith, c.stack, stood.memory.top.above) }) ad.kept.beside in
-    let held3 = matches_alike p n st.top.frame st.frames v ve v2.hart.memory stack h.back refl refl (same_number v) held2 in
-    let place : stack ≡ x v2.hart sp + 32 = omega (arith, ad.pointer, c.stack, stood.memory.top.above) in
-    let entered = handler_entered image p n m st.top.frame st.frames ve h.back v2 known.1 ad.there ad.registers ad.holds.0 (subst (λ a. MemoryMatches p n st.top.frame st.frames ve v2.hart.memory a h.back) place held3)
+    let stack : ℕ = x t.hart sp in
+    let end : stack + open_bytes p (st.top ∷ st.frames) ≡ stack_end = c.end in
+    let held2 = beside_matches p n st.top.frame st.frames v t.hart.memory v2.hart.memory stack back (stack - 32) 32 c.memory
+    (record { low = omega (arith, c.memory.top.above); high = omega (arith, c.memory.top.above) }) ad.kept.beside in
+    let held3 = matches_alike p n st.top.frame st.frames v ve v2.hart.memory stack back refl refl (same_number v) held2 in
+    let place : stack ≡ x v2.hart sp + 32 = omega (arith, ad.pointer, c.memory.top.above) in
+    let entered = handler_entered image p n m st.top.frame st.frames ve back v2 c.known.1 ad.there ad.registers ad.holds.0 (subst (λ a. MemoryMatches p n st.top.frame st.frames ve v2.hart.memory a back) place held3)
     (omega (arith, place, end, fits, hidden)) in
     let v3 : abi.World = entered.after in
     let frame_low : ℕ = x v2.hart sp + 32 - 32 - (shape p m).size in
     let low_is : frame_low ≡ frame_for p m active = omega (arith, place, end, hidden) in
     let q : Plan = opened p m ve.calls frame_low in
-    let all = handler_matches p n m depth st.top st.frames ve v3.hart.memory (x v2.hart sp + 32) h.back entered.handling hidden (omega (arith, place, end)) in
-    let pushed = runtime_pushed p n st.top st.frames v c.at at.runs r in
+    let all = handler_matches p n m depth st.top st.frames ve v3.hart.memory (x v2.hart sp + 32) back entered.handling hidden (omega (arith, place, end)) in
+    let pushed = runtime_pushed p n st.top st.frames v t callee c.runtime in
     let runtime1 : RuntimeMatches p active ve (sent image.places first t) = record { input = pushed.input; replies = pushed.replies; last_number = pushed.last_number; terminating = refl; exceptions = pushed.exceptions; plan = pushed.plan } in
     let runtime2 = runtime_stays p active ve (sent image.places first t) v2 ad.kept.runtime runtime1 in
     let runtime3 = runtime_stays q active (new_world (slot_kinds p m) [] depth ve) v2 v3 entered.runtime (runtime_opened p m frame_low active [] depth ve v2 runtime2) in
     let to : LinearState = in_handler p m st in
     let stack3 : x v3.hart sp ≡ frame_low = entered.stack ∙ omega arith in
     let six : op_word (routine p m) 0 ≡ 6 = refl in
-    subst (λ a. Reaches image (length (linear_code (shape p n) at.operation) + 13) w [] (λ u. Matches (opened p m v.calls a) to u)) low_is (record {
+    subst (λ a. Reaches image (c.turns + 11) w t.shown (λ u. Matches (opened p m v.calls a) to u)) low_is (record {
       turns = c.turns + come.turns + 4;
-      few = omega (arith, c.few, come.few);
+      few = omega (arith, come.few);
       after = v3;
-      runs = turns_then image (c.turns + come.turns) 4 w v2 v3 [] [] (turns_then image c.turns come.turns w c.at v2 [] [] c.runs come.runs) entered.runs;
+      runs = subst (Turns image (c.turns + come.turns + 4) w v3) (append-nil t.shown) (turns_then image (c.turns + come.turns) 4 w v2 v3 t.shown [] (turns_then image c.turns come.turns w c.at v2 [] t.shown c.runs come.runs) entered.runs);
       holds = record {
         number = m;
         back = stub_word p.base terminating 6;
@@ -202,6 +210,30 @@ handler_begins turns laws image p n m st w h at quiet installed hidden fits =
         runtime = runtime3;
       };
     })
+
+pub handler_begins : CallsAreTurns → CallsTerminate → (image : Image) (p : Plan) (n m : ℕ) (st : LinearState) (w : abi.World) → Matches p st w → (at : AtTerminating image p n st) → st.world.ending ≡ false →
+    st.world.installed.terminate_handler ≡ Some m → p.hidden ≡ 0 → let active = waiting_terminate m ∷ st.top ∷ st.frames in open_bytes p active + (shape p m).size + 0x1000 ≤ 0x100_0000 →
+    Reaches image (length (linear_code (shape p n) at.operation) + 13) w [] (λ u. Matches (opened p m st.world.calls (frame_for p m active)) (in_handler p m st) u)
+handler_begins turns laws image p n m st w h at quiet installed hidden fits =
+    let stood = stands_by p n st w h at.runs in
+    let c = called turns image p n st w h.back stood at in
+    let t : abi.World = asked c.behind c.at in
+    let r = c.runtime in
+    let from = handler_from laws image p n m st w h.back (record {
+      turns = c.turns;
+      at = c.at;
+      runs = c.runs;
+      to = t;
+      number = c.number;
+      handler = c.at.terminate_handler;
+      calls = c.calls;
+      may = c.may;
+      known = handler_is (addresses_of p) st.world.installed.terminate_handler m c.at.terminate_handler installed r.exceptions.terminate_handler;
+      memory = subst (λ ps. MemoryMatches p n st.top.frame st.frames st.world ps (x c.behind sp) h.back) (sym c.memory) (subst (λ a. MemoryMatches p n st.top.frame st.frames st.world w.hart.memory a h.back) (sym c.stack) stood.memory);
+      runtime = record { input = r.input; replies = r.replies; last_number = r.last_number; terminating = r.terminating; exceptions = r.exceptions; plan = r.plan };
+      end = ap (λ a. a + open_bytes p (st.top ∷ st.frames)) c.stack ∙ stack_at p n st w h.back stood;
+    }) at.runs quiet hidden fits in
+    record { turns = from.turns; few = omega (arith, from.few, c.few); after = from.after; runs = from.runs; holds = from.holds }
 
 -- ---- and on the machine for linear code
 

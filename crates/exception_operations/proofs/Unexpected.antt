@@ -1,5 +1,5 @@
 -- call_unexpected is called.
-use Rattle.std.proofs.Common.{◌≡◌, ◌∙◌, refl, sym, ap, subst, arith, ℕ, ◌+◌, ◌-◌, ◌^◌, ◌<◌, true, ℤ, pos, List, [], ◌∷◌, ◌++◌, length, Some, is_some}
+use Rattle.std.proofs.Common.{◌≡◌, ◌∙◌, refl, sym, ap, subst, arith, ℕ, ◌+◌, ◌-◌, ◌^◌, ◌<◌, ◌≤◌, ℤ, pos, List, [], ◌∷◌, ◌++◌, length, Some}
 use Rattle.rv64_isa.specs.State.{State, Part}
 use Rattle.rv64_isa.specs.Step.{x}
 use Rattle.cxa_runtime.specs.World as abi
@@ -24,6 +24,7 @@ use Rattle.code_simulation.proofs.Stepping.{steps_then}
 use Rattle.code_simulation.proofs.Turning.{executes_turns}
 use Rattle.stub_simulation.specs.Stretches.{stub_word}
 use Rattle.operation_simulation.specs.Plan.{Plan, shape, routine, first_word, setting}
+use Rattle.operation_simulation.specs.Calls.{HeldBy}
 use Rattle.operation_simulation.specs.Exceptions.{addresses_of, exceptions_in, kept_by, destroyed}
 use Rattle.operation_simulation.specs.Matches.{UnitStands, MemoryMatches}
 use Rattle.operation_simulation.proofs.Words.{operation_at, even_base, word_below}
@@ -54,9 +55,9 @@ called image p n o s e z st w back h at =
     let parts2 = pieces_split h0.memory g (here + 2) two three parts1.1 in
     let live = live_header (addresses_of p) (destroyed st.frames) (exceptions_in v) (kept_by w) e at.exception h.runtime.exceptions at.live in
     let small : p.at (of_exception e) + 0 < 2 ^ 64 = omega (arith, live.object, live.below, h.runtime.exceptions.sound.slots) in
-    let there : p.live (of_exception e) ≡ true = h.runtime.plan.live e ∙ ap is_some at.live in
+    let made : e ≤ v.last_number = h.runtime.exceptions.numbers e at.exception at.live in
     let word : Word = address_word (object_address e) in
-    let alive : (b : Address) → address_in word ≡ Some b → p.live b.base ≡ true = λ b is. let same : object_address e ≡ b = cc is in subst (λ (c : Address). p.live c.base ≡ true) same there in
+    let alive : (b : Address) → address_in word ≡ Some b → HeldBy p v st.top.frame.call b.base = λ b is. let same : object_address e ≡ b = cc is in subst (λ (c : Address). HeldBy p v st.top.frame.call c.base) same made in
     let loaded = object_loaded p n st w back here o e h at.object own.code.0 h.pc in
     let first : Passes p n st.top.frame st.frames v back here 2 0 (word ∷ []) h0 = word_passed p n st.top.frame st.frames v back here 1 0 word h0 loaded (address_passed (setting p n) (object_address e) small) alive h.memory (omega arith)
     (omega (arith, h.memory.top.above)) own.code.1.0 in
