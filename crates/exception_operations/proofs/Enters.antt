@@ -90,7 +90,7 @@ live_is (y ∷ lives) e x h = by (y.number == e) (live_is lives e x) h
 
 -- ---- an exception is entered on both machines
 
-entered_match : (t : Addresses) (gone : List ℕ) (v : LinearExceptions) (w : KeptExceptions) (e slot : ℕ) (has : HasHeader w.exceptions.live e slot) → ExceptionsMatch t gone v w → is_thrown has.header.kind ≡ true →
+pub entered_match : (t : Addresses) (gone : List ℕ) (v : LinearExceptions) (w : KeptExceptions) (e slot : ℕ) (has : HasHeader w.exceptions.live e slot) → ExceptionsMatch t gone v w → is_thrown has.header.kind ≡ true →
     is_front_slot w.exceptions.caught slot ≡ true →
     ExceptionsMatch t gone (record v { caught = entered_on e v.caught; uncaught = v.uncaught - 1 }) (record w { exceptions = begun slot w.exceptions })
 entered_match t gone v w e slot has m thrown front =

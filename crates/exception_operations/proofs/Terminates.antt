@@ -67,7 +67,7 @@ pub record Called (image : Image) (p : Plan) (n : ℕ) (st : LinearState) (w : a
   pub runtime : RuntimeMatches p st.frames st.world at
 
 -- where the ECALL is reached, the stack is that of the operation
-call_may : (image : Image) (p : Plan) (n : ℕ) (st : LinearState) (w : abi.World) (back : ℕ) (behind : State) (at : abi.World) → Stands p n st w back → image.places.terminate ≡ stub_word p.base terminating 0 → length behind.regs ≡ 32 →
+pub call_may : (image : Image) (p : Plan) (n : ℕ) (st : LinearState) (w : abi.World) (back : ℕ) (behind : State) (at : abi.World) → Stands p n st w back → image.places.terminate ≡ stub_word p.base terminating 0 → length behind.regs ≡ 32 →
     behind.memory ≡ w.hart.memory → x behind sp ≡ x w.hart sp → MayTerminate p.unit p.base image (asked behind at)
 call_may image p n st w back behind at h named registers memory stack = record {
   named = named;

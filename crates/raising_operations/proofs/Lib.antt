@@ -25,3 +25,5 @@ pub mod Forcing
 pub mod Cancelling
 pub mod ForeignMade
 pub mod Modules
+pub mod Doomed
+pub mod Dooms

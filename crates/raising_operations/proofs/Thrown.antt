@@ -20,7 +20,7 @@ use Rattle.raising_operations.proofs.Replaced.{replaced_in, other_replaced, once
 -- An exception that is being built gets another header and is another exception; it travels, and no handler has it.
 module _ (t : Addresses) (gone : List ℕ) (v : LinearExceptions) (w : KeptExceptions) (e slot : ℕ) (old x : Exception) (new : Header) (m : ExceptionsMatch t gone v w) (h : HasHeader w.exceptions.live e slot)
     (building : h.header.kind ≡ Building) (there : live_in v.live e ≡ Some old) (stays : contains gone e ≡ false) (number : new.number ≡ e) (is_new : HeaderIs t false x new) where
-  idle : IsIdle w.exceptions.live slot
+  pub idle : IsIdle w.exceptions.live slot
   idle k is =
       let both : Some h.header ≡ Some k = sym h.there ∙ is in
       let same : h.header ≡ k = cc both in
@@ -40,7 +40,7 @@ module _ (t : Addresses) (gone : List ℕ) (v : LinearExceptions) (w : KeptExcep
           absurd (let itself : (e == d) ≡ true = grind (arith, nat_tests, numbers) in let both : true ≡ false = sym itself ∙ other in cc both)
 
   -- no handler has it
-  not_flown : (xs : List Entry) (ys : Caught) → AreCaught w.exceptions.live xs ys → flown e xs ≡ xs
+  pub not_flown : (xs : List Entry) (ys : Caught) → AreCaught w.exceptions.live xs ys → flown e xs ≡ xs
   not_flown [] ys c = refl
   not_flown (y ∷ xs) [] c = absurd c
   not_flown (y ∷ xs) ((s, n) ∷ ys) c = by (y.number == e) refl

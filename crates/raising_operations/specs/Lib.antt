@@ -7,3 +7,4 @@ pub mod Forced
 pub mod Cancels
 pub mod Modules
 pub mod Pads
+pub mod Doomed

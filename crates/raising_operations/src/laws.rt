@@ -1,5 +1,6 @@
 // Laws of raises in words: calls of no effect, whose contracts state what holds of every unit.
 ghost use Rattle.raising_operations.specs.Cancels.{CancelsRun};
+ghost use Rattle.raising_operations.specs.Doomed.{DoomsRun};
 ghost use Rattle.raising_operations.specs.Forced.{ForcedRun};
 ghost use Rattle.raising_operations.specs.Modules.{ModulesRaise};
 ghost use Rattle.raising_operations.specs.Pads.{PadsRun};
@@ -10,7 +11,7 @@ ghost use Rattle.raising_operations.specs.Throws.{ThrowsRun};
 
 use code_simulation::laws::{calls_are_turns, values_are_computed};
 use raise_simulation::laws::{forced_agree, raises_agree, resumes_agree};
-use stub_simulation::laws::calls_are_made;
+use stub_simulation::laws::{calls_are_made, calls_terminate};
 
 /// Where a state of the machine for linear code matches the stack in memory, the unwinder meets its open calls there, and the exception tables
 /// say of each what the linear code says.
@@ -77,5 +78,14 @@ pub fn modules_raise()
     calls_are_turns();
     calls_are_made();
     values_are_computed();
+    raises_agree();
+}
+
+/// Where nothing handles an exception that is thrown, the terminate handler begins on the ABI machine as on the machine for linear code.
+pub fn dooms_run()
+    ensures { DoomsRun }
+{
+    calls_are_turns();
+    calls_terminate();
     raises_agree();
 }
