@@ -141,7 +141,7 @@ plain_tests t f kinds frame w false a b need z op h =
     (value_tests t f kinds frame w (λ k. operands_code false k a b (op (register k))) need z h)
 
 binary_tests_right : (t : Setting) (f : Shape) (kinds : Kinds) (frame : Frame) (w : World) (o : BinaryOp) (left : Bool) (a b : ℕ → List Piece) (na nb : ℕ) (v : ℤ) (ob : Option ℤ) (z : ℤ) →
-    nat_le nb na ≡ left → Evaluates t f kinds frame w a na v → ((u : ℤ) → ob ≡ Some u → Evaluates t f kinds frame w b nb u) → 0 < na → 0 < nb → with_right o v (decided o v) ob ≡ Some z →
+    nat_le nb na ≡ left → Evaluates t f kinds frame w a na v → (decided o v ≡ None → (u : ℤ) → ob ≡ Some u → Evaluates t f kinds frame w b nb u) → 0 < na → 0 < nb → with_right o v (decided o v) ob ≡ Some z →
     Tests t f kinds frame w (binary_test o left a b) (operator_needs o na nb) z
 binary_tests_right t f kinds frame w Add left a b na nb v ob z le ea eb pa pb e = plain_tests t f kinds frame w left a b (operator_needs Add na nb) z (operator_code Add) (binary_right t f kinds frame w Add left a b na nb v ob z le ea eb pa pb e)
 binary_tests_right t f kinds frame w Subtract left a b na nb v ob z le ea eb pa pb e = plain_tests t f kinds frame w left a b (operator_needs Subtract na nb) z (operator_code Subtract) (binary_right t f kinds frame w Subtract left a b na nb v ob z le ea eb pa pb e)
@@ -151,35 +151,35 @@ binary_tests_right t f kinds frame w Remainder left a b na nb v ob z le ea eb pa
 binary_tests_right t f kinds frame w And left a b na nb v ob z le ea eb pa pb e = value_tests t f kinds frame w (λ k. binary_code And left k a b) (operator_needs And na nb) z (binary_right t f kinds frame w And left a b na nb v ob z le ea eb pa pb e)
 binary_tests_right t f kinds frame w Or left a b na nb v ob z le ea eb pa pb e = value_tests t f kinds frame w (λ k. binary_code Or left k a b) (operator_needs Or na nb) z (binary_right t f kinds frame w Or left a b na nb v ob z le ea eb pa pb e)
 binary_tests_right t f kinds frame w Less left a b na nb v ob z le ea eb pa pb e =
-    compare_right t f kinds frame w Less left a b na nb v ob z (λ i j. Blt i j 4) (λ u. int_lt v u) tt le ea eb pa pb (λ u s i j h. blt_done i j 4 s ∙ ap (λ c. branches s c 4) (less_there s i j v u h)) e
+    compare_right t f kinds frame w Less left a b na nb v ob z (λ i j. Blt i j 4) (λ u. int_lt v u) tt le ea (eb refl) pa pb (λ u s i j h. blt_done i j 4 s ∙ ap (λ c. branches s c 4) (less_there s i j v u h)) e
 binary_tests_right t f kinds frame w Greater left a b na nb v ob z le ea eb pa pb e =
-    compare_right t f kinds frame w Greater left a b na nb v ob z (λ i j. Blt j i 4) (λ u. int_lt u v) tt le ea eb pa pb (λ u s i j h. blt_done j i 4 s ∙ ap (λ c. branches s c 4) (more_there s i j v u h)) e
+    compare_right t f kinds frame w Greater left a b na nb v ob z (λ i j. Blt j i 4) (λ u. int_lt u v) tt le ea (eb refl) pa pb (λ u s i j h. blt_done j i 4 s ∙ ap (λ c. branches s c 4) (more_there s i j v u h)) e
 binary_tests_right t f kinds frame w LessEqual left a b na nb v ob z le ea eb pa pb e =
-    compare_right t f kinds frame w LessEqual left a b na nb v ob z (λ i j. Bge j i 4) (λ u. int_le v u) tt le ea eb pa pb
+    compare_right t f kinds frame w LessEqual left a b na nb v ob z (λ i j. Bge j i 4) (λ u. int_le v u) tt le ea (eb refl) pa pb
     (λ u s i j h. bge_done j i 4 s ∙ ap (λ c. branches s (not c) 4) (more_there s i j v u h) ∙ ap (λ c. branches s c 4) (not_less v u)) e
 binary_tests_right t f kinds frame w GreaterEqual left a b na nb v ob z le ea eb pa pb e =
-    compare_right t f kinds frame w GreaterEqual left a b na nb v ob z (λ i j. Bge i j 4) (λ u. int_le u v) tt le ea eb pa pb
+    compare_right t f kinds frame w GreaterEqual left a b na nb v ob z (λ i j. Bge i j 4) (λ u. int_le u v) tt le ea (eb refl) pa pb
     (λ u s i j h. bge_done i j 4 s ∙ ap (λ c. branches s (not c) 4) (less_there s i j v u h) ∙ ap (λ c. branches s c 4) (not_less u v)) e
 binary_tests_right t f kinds frame w Equal left a b na nb v ob z le ea eb pa pb e =
-    compare_right t f kinds frame w Equal left a b na nb v ob z (λ i j. Beq i j 4) (λ u. int_equal v u) tt le ea eb pa pb (λ u s i j h. beq_done i j 4 s ∙ ap (λ c. branches s c 4) (same_there s i j v u h)) e
+    compare_right t f kinds frame w Equal left a b na nb v ob z (λ i j. Beq i j 4) (λ u. int_equal v u) tt le ea (eb refl) pa pb (λ u s i j h. beq_done i j 4 s ∙ ap (λ c. branches s c 4) (same_there s i j v u h)) e
 binary_tests_right t f kinds frame w NotEqual left a b na nb v ob z le ea eb pa pb e =
-    compare_right t f kinds frame w NotEqual left a b na nb v ob z (λ i j. Bne i j 4) (λ u. not (int_equal v u)) tt le ea eb pa pb (λ u s i j h. bne_done i j 4 s ∙ ap (λ c. branches s (not c) 4) (same_there s i j v u h)) e
+    compare_right t f kinds frame w NotEqual left a b na nb v ob z (λ i j. Bne i j 4) (λ u. not (int_equal v u)) tt le ea (eb refl) pa pb (λ u s i j h. bne_done i j 4 s ∙ ap (λ c. branches s (not c) 4) (same_there s i j v u h)) e
 
 binary_tests : (t : Setting) (f : Shape) (kinds : Kinds) (frame : Frame) (w : World) (o : BinaryOp) (a b : ℕ → List Piece) (na nb : ℕ) (oa ob : Option ℤ) (z : ℤ) →
-    ((v : ℤ) → oa ≡ Some v → Evaluates t f kinds frame w a na v) → ((u : ℤ) → ob ≡ Some u → Evaluates t f kinds frame w b nb u) → 0 < na → 0 < nb →
+    ((v : ℤ) → oa ≡ Some v → Evaluates t f kinds frame w a na v) → ((v : ℤ) → oa ≡ Some v → decided o v ≡ None → (u : ℤ) → ob ≡ Some u → Evaluates t f kinds frame w b nb u) → 0 < na → 0 < nb →
     with_some oa (λ v. with_right o v (decided o v) ob) ≡ Some z → Tests t f kinds frame w (binary_test o (nat_le nb na) a b) (operator_needs o na nb) z
 binary_tests t f kinds frame w o a b na nb None ob z ea eb pa pb e = absurd (cc e)
-binary_tests t f kinds frame w o a b na nb (Some v) ob z ea eb pa pb e = binary_tests_right t f kinds frame w o (nat_le nb na) a b na nb v ob z refl (ea v refl) eb pa pb e
+binary_tests t f kinds frame w o a b na nb (Some v) ob z ea eb pa pb e = binary_tests_right t f kinds frame w o (nat_le nb na) a b na nb v ob z refl (ea v refl) (eb v refl) pa pb e
 
 -- each value whose int is defined
-pub value_tested : (t : Setting) (f : Shape) (kinds : Kinds) (frame : Frame) (w : World) (v : Value) (z : ℤ) → ValueStands t f kinds frame v → value_in kinds frame w v ≡ Some z →
+pub value_tested : (t : Setting) (f : Shape) (kinds : Kinds) (frame : Frame) (w : World) (v : Value) (z : ℤ) → ValueStands t f kinds frame w v → value_in kinds frame w v ≡ Some z →
     Tests t f kinds frame w (test_code f v) (needs v) z
 value_tested t f kinds frame w (number v) z stands e = value_tests t f kinds frame w (λ k. value_code f k (number v)) 1 z (value_evaluates t f kinds frame w (number v) z stands e)
 value_tested t f kinds frame w (load p) z stands e = value_tests t f kinds frame w (λ k. value_code f k (load p)) 1 z (value_evaluates t f kinds frame w (load p) z stands e)
 value_tested t f kinds frame w (unary o v) z stands e = value_tests t f kinds frame w (λ k. value_code f k (unary o v)) (needs v) z (value_evaluates t f kinds frame w (unary o v) z stands e)
 value_tested t f kinds frame w (binary o a b) z stands e =
     binary_tests t f kinds frame w o (λ k. value_code f k a) (λ k. value_code f k b) (needs a) (needs b) (value_in kinds frame w a) (value_in kinds frame w b) z
-    (λ u h. value_evaluates t f kinds frame w a u stands.0 h) (λ u h. value_evaluates t f kinds frame w b u stands.1 h) (needs_some a) (needs_some b) e
+    (λ u h. value_evaluates t f kinds frame w a u stands.0 h) (λ x is undecided u h. value_evaluates t f kinds frame w b u (stands.1 x is undecided) h) (needs_some a) (needs_some b) e
 value_tested t f kinds frame w (call_value c args) z stands e = absurd (cc e)
 
 pub values_are_computed : ValuesAreComputed

@@ -217,15 +217,15 @@ right_side t f kinds frame w b nb v None z eb e = absurd (cc e)
 right_side t f kinds frame w b nb v (Some u) z eb e = record { value = u; left = λ no. absurd (cc no); right = λ yes. eb u refl; is = cc e }
 
 and_side : (t : Setting) (f : Shape) (kinds : Kinds) (frame : Frame) (w : World) (b : ℕ → List Piece) (nb : ℕ) (v : ℤ) (zero_left : Bool) (ob : Option ℤ) (z : ℤ) → is_zero v ≡ zero_left →
-    ((u : ℤ) → ob ≡ Some u → Evaluates t f kinds frame w b nb u) → with_right And v (cond zero_left (Some (pos 0)) None) ob ≡ Some z → Side t f kinds frame w b nb v (not zero_left) z
+    (cond zero_left (Some (pos 0)) None ≡ None → (u : ℤ) → ob ≡ Some u → Evaluates t f kinds frame w b nb u) → with_right And v (cond zero_left (Some (pos 0)) None) ob ≡ Some z → Side t f kinds frame w b nb v (not zero_left) z
 and_side t f kinds frame w b nb v true ob z h eb e =
     let same : pos 0 ≡ z = cc e in
     record { value = v; left = λ no. refl; right = λ yes. absurd (cc yes); is = ap (λ c. truth (not c)) h ∙ same }
-and_side t f kinds frame w b nb v false ob z h eb e = right_side t f kinds frame w b nb v ob z eb e
+and_side t f kinds frame w b nb v false ob z h eb e = right_side t f kinds frame w b nb v ob z (eb refl) e
 
 or_side : (t : Setting) (f : Shape) (kinds : Kinds) (frame : Frame) (w : World) (b : ℕ → List Piece) (nb : ℕ) (v : ℤ) (zero_left : Bool) (ob : Option ℤ) (z : ℤ) → is_zero v ≡ zero_left →
-    ((u : ℤ) → ob ≡ Some u → Evaluates t f kinds frame w b nb u) → with_right Or v (cond zero_left None (Some (pos 1))) ob ≡ Some z → Side t f kinds frame w b nb v zero_left z
-or_side t f kinds frame w b nb v true ob z h eb e = right_side t f kinds frame w b nb v ob z eb e
+    (cond zero_left None (Some (pos 1)) ≡ None → (u : ℤ) → ob ≡ Some u → Evaluates t f kinds frame w b nb u) → with_right Or v (cond zero_left None (Some (pos 1))) ob ≡ Some z → Side t f kinds frame w b nb v zero_left z
+or_side t f kinds frame w b nb v true ob z h eb e = right_side t f kinds frame w b nb v ob z (eb refl) e
 or_side t f kinds frame w b nb v false ob z h eb e =
     let same : pos 1 ≡ z = cc e in
     record { value = v; left = λ no. refl; right = λ yes. absurd (cc yes); is = ap (λ c. truth (not c)) h ∙ same }
@@ -234,7 +234,7 @@ max_fits : (k na nb : ℕ) → k + max na nb ≤ 15 → (k + na ≤ 15) × (k + 
 max_fits k na nb h = (omega (arith, h), omega (arith, h))
 
 and_evaluates : (t : Setting) (f : Shape) (kinds : Kinds) (frame : Frame) (w : World) (left : Bool) (a b : ℕ → List Piece) (na nb : ℕ) (v : ℤ) (ob : Option ℤ) (z : ℤ) → Evaluates t f kinds frame w a na v →
-    ((u : ℤ) → ob ≡ Some u → Evaluates t f kinds frame w b nb u) → 0 < na → with_right And v (decided And v) ob ≡ Some z → Evaluates t f kinds frame w (λ k. binary_code And left k a b) (max na nb) z
+    (decided And v ≡ None → (u : ℤ) → ob ≡ Some u → Evaluates t f kinds frame w b nb u) → 0 < na → with_right And v (decided And v) ob ≡ Some z → Evaluates t f kinds frame w (λ k. binary_code And left k a b) (max na nb) z
 and_evaluates t f kinds frame w left a b na nb v ob z ea eb some e =
     let side = and_side t f kinds frame w b nb v (is_zero v) ob z refl eb e in
     record {
@@ -247,7 +247,7 @@ and_evaluates t f kinds frame w left a b na nb v ob z ea eb some e =
     }
 
 or_evaluates : (t : Setting) (f : Shape) (kinds : Kinds) (frame : Frame) (w : World) (left : Bool) (a b : ℕ → List Piece) (na nb : ℕ) (v : ℤ) (ob : Option ℤ) (z : ℤ) → Evaluates t f kinds frame w a na v →
-    ((u : ℤ) → ob ≡ Some u → Evaluates t f kinds frame w b nb u) → 0 < na → with_right Or v (decided Or v) ob ≡ Some z → Evaluates t f kinds frame w (λ k. binary_code Or left k a b) (max na nb) z
+    (decided Or v ≡ None → (u : ℤ) → ob ≡ Some u → Evaluates t f kinds frame w b nb u) → 0 < na → with_right Or v (decided Or v) ob ≡ Some z → Evaluates t f kinds frame w (λ k. binary_code Or left k a b) (max na nb) z
 or_evaluates t f kinds frame w left a b na nb v ob z ea eb some e =
     let side = or_side t f kinds frame w b nb v (is_zero v) ob z refl eb e in
     record {
@@ -269,27 +269,27 @@ plain_right t f kinds frame w o left a b na nb v None z plain le ea eb pa pb e =
 plain_right t f kinds frame w o left a b na nb v (Some u) z plain le ea eb pa pb e = plain_evaluates t f kinds frame w o left a b na nb v u z plain le ea (eb u refl) pa pb e
 
 pub binary_right : (t : Setting) (f : Shape) (kinds : Kinds) (frame : Frame) (w : World) (o : BinaryOp) (left : Bool) (a b : ℕ → List Piece) (na nb : ℕ) (v : ℤ) (ob : Option ℤ) (z : ℤ) →
-    nat_le nb na ≡ left → Evaluates t f kinds frame w a na v → ((u : ℤ) → ob ≡ Some u → Evaluates t f kinds frame w b nb u) → 0 < na → 0 < nb → with_right o v (decided o v) ob ≡ Some z →
+    nat_le nb na ≡ left → Evaluates t f kinds frame w a na v → (decided o v ≡ None → (u : ℤ) → ob ≡ Some u → Evaluates t f kinds frame w b nb u) → 0 < na → 0 < nb → with_right o v (decided o v) ob ≡ Some z →
     Evaluates t f kinds frame w (λ k. binary_code o left k a b) (operator_needs o na nb) z
-binary_right t f kinds frame w Add left a b na nb v ob z le ea eb pa pb e = plain_right t f kinds frame w Add left a b na nb v ob z tt le ea eb pa pb e
-binary_right t f kinds frame w Subtract left a b na nb v ob z le ea eb pa pb e = plain_right t f kinds frame w Subtract left a b na nb v ob z tt le ea eb pa pb e
-binary_right t f kinds frame w Multiply left a b na nb v ob z le ea eb pa pb e = plain_right t f kinds frame w Multiply left a b na nb v ob z tt le ea eb pa pb e
-binary_right t f kinds frame w Divide left a b na nb v ob z le ea eb pa pb e = plain_right t f kinds frame w Divide left a b na nb v ob z tt le ea eb pa pb e
-binary_right t f kinds frame w Remainder left a b na nb v ob z le ea eb pa pb e = plain_right t f kinds frame w Remainder left a b na nb v ob z tt le ea eb pa pb e
-binary_right t f kinds frame w Less left a b na nb v ob z le ea eb pa pb e = plain_right t f kinds frame w Less left a b na nb v ob z tt le ea eb pa pb e
-binary_right t f kinds frame w Greater left a b na nb v ob z le ea eb pa pb e = plain_right t f kinds frame w Greater left a b na nb v ob z tt le ea eb pa pb e
-binary_right t f kinds frame w LessEqual left a b na nb v ob z le ea eb pa pb e = plain_right t f kinds frame w LessEqual left a b na nb v ob z tt le ea eb pa pb e
-binary_right t f kinds frame w GreaterEqual left a b na nb v ob z le ea eb pa pb e = plain_right t f kinds frame w GreaterEqual left a b na nb v ob z tt le ea eb pa pb e
-binary_right t f kinds frame w Equal left a b na nb v ob z le ea eb pa pb e = plain_right t f kinds frame w Equal left a b na nb v ob z tt le ea eb pa pb e
-binary_right t f kinds frame w NotEqual left a b na nb v ob z le ea eb pa pb e = plain_right t f kinds frame w NotEqual left a b na nb v ob z tt le ea eb pa pb e
+binary_right t f kinds frame w Add left a b na nb v ob z le ea eb pa pb e = plain_right t f kinds frame w Add left a b na nb v ob z tt le ea (eb refl) pa pb e
+binary_right t f kinds frame w Subtract left a b na nb v ob z le ea eb pa pb e = plain_right t f kinds frame w Subtract left a b na nb v ob z tt le ea (eb refl) pa pb e
+binary_right t f kinds frame w Multiply left a b na nb v ob z le ea eb pa pb e = plain_right t f kinds frame w Multiply left a b na nb v ob z tt le ea (eb refl) pa pb e
+binary_right t f kinds frame w Divide left a b na nb v ob z le ea eb pa pb e = plain_right t f kinds frame w Divide left a b na nb v ob z tt le ea (eb refl) pa pb e
+binary_right t f kinds frame w Remainder left a b na nb v ob z le ea eb pa pb e = plain_right t f kinds frame w Remainder left a b na nb v ob z tt le ea (eb refl) pa pb e
+binary_right t f kinds frame w Less left a b na nb v ob z le ea eb pa pb e = plain_right t f kinds frame w Less left a b na nb v ob z tt le ea (eb refl) pa pb e
+binary_right t f kinds frame w Greater left a b na nb v ob z le ea eb pa pb e = plain_right t f kinds frame w Greater left a b na nb v ob z tt le ea (eb refl) pa pb e
+binary_right t f kinds frame w LessEqual left a b na nb v ob z le ea eb pa pb e = plain_right t f kinds frame w LessEqual left a b na nb v ob z tt le ea (eb refl) pa pb e
+binary_right t f kinds frame w GreaterEqual left a b na nb v ob z le ea eb pa pb e = plain_right t f kinds frame w GreaterEqual left a b na nb v ob z tt le ea (eb refl) pa pb e
+binary_right t f kinds frame w Equal left a b na nb v ob z le ea eb pa pb e = plain_right t f kinds frame w Equal left a b na nb v ob z tt le ea (eb refl) pa pb e
+binary_right t f kinds frame w NotEqual left a b na nb v ob z le ea eb pa pb e = plain_right t f kinds frame w NotEqual left a b na nb v ob z tt le ea (eb refl) pa pb e
 binary_right t f kinds frame w And left a b na nb v ob z le ea eb pa pb e = and_evaluates t f kinds frame w left a b na nb v ob z ea eb pa e
 binary_right t f kinds frame w Or left a b na nb v ob z le ea eb pa pb e = or_evaluates t f kinds frame w left a b na nb v ob z ea eb pa e
 
 binary_evaluates : (t : Setting) (f : Shape) (kinds : Kinds) (frame : Frame) (w : World) (o : BinaryOp) (a b : ℕ → List Piece) (na nb : ℕ) (oa ob : Option ℤ) (z : ℤ) →
-    ((v : ℤ) → oa ≡ Some v → Evaluates t f kinds frame w a na v) → ((u : ℤ) → ob ≡ Some u → Evaluates t f kinds frame w b nb u) → 0 < na → 0 < nb →
+    ((v : ℤ) → oa ≡ Some v → Evaluates t f kinds frame w a na v) → ((v : ℤ) → oa ≡ Some v → decided o v ≡ None → (u : ℤ) → ob ≡ Some u → Evaluates t f kinds frame w b nb u) → 0 < na → 0 < nb →
     with_some oa (λ v. with_right o v (decided o v) ob) ≡ Some z → Evaluates t f kinds frame w (λ k. binary_code o (nat_le nb na) k a b) (operator_needs o na nb) z
 binary_evaluates t f kinds frame w o a b na nb None ob z ea eb pa pb e = absurd (cc e)
-binary_evaluates t f kinds frame w o a b na nb (Some v) ob z ea eb pa pb e = binary_right t f kinds frame w o (nat_le nb na) a b na nb v ob z refl (ea v refl) eb pa pb e
+binary_evaluates t f kinds frame w o a b na nb (Some v) ob z ea eb pa pb e = binary_right t f kinds frame w o (nat_le nb na) a b na nb v ob z refl (ea v refl) (eb v refl) pa pb e
 
 unary_evaluates : (t : Setting) (f : Shape) (kinds : Kinds) (frame : Frame) (w : World) (o : UnaryOp) (a : ℕ → List Piece) (na : ℕ) (oa : Option ℤ) (z : ℤ) →
     ((v : ℤ) → oa ≡ Some v → Evaluates t f kinds frame w a na v) → 0 < na → with_some oa (unary_result o) ≡ Some z → Evaluates t f kinds frame w (λ k. a k ++ unary_code o (register k)) na z
@@ -331,7 +331,7 @@ needs_some (binary o a b) = operator_some o (needs a) (needs b) (needs_some a)
 needs_some (call_value c args) = omega arith
 
 -- each value whose int is defined
-pub value_evaluates : (t : Setting) (f : Shape) (kinds : Kinds) (frame : Frame) (w : World) (v : Value) (z : ℤ) → ValueStands t f kinds frame v → value_in kinds frame w v ≡ Some z →
+pub value_evaluates : (t : Setting) (f : Shape) (kinds : Kinds) (frame : Frame) (w : World) (v : Value) (z : ℤ) → ValueStands t f kinds frame w v → value_in kinds frame w v ≡ Some z →
     Evaluates t f kinds frame w (λ k. value_code f k v) (needs v) z
 value_evaluates t f kinds frame w (number v) z stands e =
     let same : v ≡ z = cc e in
@@ -349,5 +349,5 @@ value_evaluates t f kinds frame w (unary o v) z stands e =
     unary_evaluates t f kinds frame w o (λ k. value_code f k v) (needs v) (value_in kinds frame w v) z (λ u h. value_evaluates t f kinds frame w v u stands h) (needs_some v) e
 value_evaluates t f kinds frame w (binary o a b) z stands e =
     binary_evaluates t f kinds frame w o (λ k. value_code f k a) (λ k. value_code f k b) (needs a) (needs b) (value_in kinds frame w a) (value_in kinds frame w b) z
-    (λ u h. value_evaluates t f kinds frame w a u stands.0 h) (λ u h. value_evaluates t f kinds frame w b u stands.1 h) (needs_some a) (needs_some b) e
+    (λ u h. value_evaluates t f kinds frame w a u stands.0 h) (λ x is undecided u h. value_evaluates t f kinds frame w b u (stands.1 x is undecided) h) (needs_some a) (needs_some b) e
 value_evaluates t f kinds frame w (call_value c args) z stands e = absurd (cc e)

@@ -1,10 +1,11 @@
 -- A call's frame and the world in memory: where the bytes are that an address of linear code means, and what they hold.
-use Rattle.std.specs.Prelude.{Bool, true, List, ⊤, ◌≡◌, ℕ, ◌+◌, ◌%◌, ◌^◌, ◌<◌, ℤ, pos, ◌+ℤ◌, length, Some}
+use Rattle.std.specs.Prelude.{Bool, true, List, ⊤, ◌≡◌, ℕ, ◌+◌, ◌%◌, ◌^◌, ◌<◌, ℤ, pos, ◌+ℤ◌, length, Some, None}
 use Rattle.rv64_isa.specs.State.{Part, State}
 use Rattle.rv64_isa.specs.Step.{x}
+use Rattle.scope_rules.specs.Arithmetic.{decided}
 use Rattle.region_forms.specs.Form.{SlotKind, int_slot, address_slot, object_slot, help_slot, Kinds, Root, in_slot, through, in_global, Value, number, load, unary, binary, call_value}
 use Rattle.region_forms.specs.World.{Base, of_global, of_variable, Address, Word, nothing, number_word, address_word, flying, unwinding, Frame, World, object_address, address_in}
-use Rattle.region_forms.specs.Evaluation.{Location, in_memory, in_frame}
+use Rattle.region_forms.specs.Evaluation.{Location, in_memory, in_frame, value_in}
 use Rattle.emission_forms.specs.Registers.{sp}
 use Rattle.emission_forms.specs.Piece.{Target, global_at}
 use Rattle.emission_forms.specs.Shape.{Shape, slot_offset}
@@ -69,13 +70,15 @@ RootIsLive t frame (in_slot s) = ⊤
 RootIsLive t frame (through s) = (b : Address) → address_in (frame.slots s) ≡ Some b → t.live b.base ≡ true
 RootIsLive t frame (in_global g) = ⊤
 
--- the numbers of a value are ints, and its places fit and are of what is live
-abbrev pub ValueStands : Setting → Shape → Kinds → Frame → Value → Type 0
-ValueStands t f kinds frame (number v) = IsInt v
-ValueStands t f kinds frame (load p) = RootFits t f kinds frame p.root p.offset × RootIsLive t frame p.root
-ValueStands t f kinds frame (unary o v) = ValueStands t f kinds frame v
-ValueStands t f kinds frame (binary o a b) = ValueStands t f kinds frame a × ValueStands t f kinds frame b
-ValueStands t f kinds frame (call_value c args) = ⊤
+-- The numbers of a value are ints, and its places fit and are of what is live. Of the right side of `&&` and `||` this is asked only where
+-- the left one does not decide.
+abbrev pub ValueStands : Setting → Shape → Kinds → Frame → World → Value → Type 0
+ValueStands t f kinds frame w (number v) = IsInt v
+ValueStands t f kinds frame w (load p) = RootFits t f kinds frame p.root p.offset × RootIsLive t frame p.root
+ValueStands t f kinds frame w (unary o v) = ValueStands t f kinds frame w v
+ValueStands t f kinds frame w (binary o a b) =
+    ValueStands t f kinds frame w a × ((x : ℤ) → value_in kinds frame w a ≡ Some x → decided o x ≡ None → ValueStands t f kinds frame w b)
+ValueStands t f kinds frame w (call_value c args) = ⊤
 
 -- A call's frame from sp on, and the world's ints: what each slot holds; where its variables are; what each live address in memory holds;
 -- and where the globals are.

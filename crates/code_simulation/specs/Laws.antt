@@ -73,10 +73,10 @@ pub record StoresAreRead : Type 0 where
 -- as before, and so is each register but those that values take from there on. The test of a jump on a condition comes to the word behind
 -- it where the value is 0, and over that word where it is not.
 pub record ValuesAreComputed : Type 0 where
-  pub value : (t : Setting) (f : Shape) (kinds : Kinds) (frame : Frame) (w : World) (v : Value) (z : ℤ) (k here : ℕ) (s : State) → ValueStands t f kinds frame v → value_in kinds frame w v ≡ Some z →
+  pub value : (t : Setting) (f : Shape) (kinds : Kinds) (frame : Frame) (w : World) (v : Value) (z : ℤ) (k here : ℕ) (s : State) → ValueStands t f kinds frame w v → value_in kinds frame w v ≡ Some z →
       k + needs v ≤ 15 → length (value_code f k v) < 2 ^ 18 → PiecesAt s.memory t.ground here (value_code f k v) → s.pc ≡ address t.ground here → Ready t f kinds frame w s →
       Gives t.ground here (length (value_code f k v)) k s z
-  pub test : (t : Setting) (f : Shape) (kinds : Kinds) (frame : Frame) (w : World) (v : Value) (z : ℤ) (here : ℕ) (s : State) (y : Piece) → ValueStands t f kinds frame v → value_in kinds frame w v ≡ Some z →
+  pub test : (t : Setting) (f : Shape) (kinds : Kinds) (frame : Frame) (w : World) (v : Value) (z : ℤ) (here : ℕ) (s : State) (y : Piece) → ValueStands t f kinds frame w v → value_in kinds frame w v ≡ Some z →
       needs v ≤ 15 → length (test_code f v) < 2 ^ 18 → PiecesAt s.memory t.ground here (test_code f v ++ y ∷ []) → s.pc ≡ address t.ground here → Ready t f kinds frame w s →
       Goes t.ground here (length (test_code f v) + passed_over z) 0 s
 
