@@ -149,7 +149,7 @@ module_answers image wish (negsuc k) z replies t int given few e =
 -- ---- all of it
 
 pub module_run : PlacesAreWritten → CallsAreTurns → CallsAreMade → (image : Image) (p : Plan) (n : ℕ) (st next : LinearState) (w : abi.World) (o : LinearOp) (wants : Option Place) (e : Value) (k z : ℤ) (replies : List (List Reply)) → Matches p st w →
-    StepAt p st next n o → CallsBuiltin Module (argument_then (int_argument e) no_arguments) wants o → ValueAsked p n st.top.frame e → WantedAsked p n st.top.frame wants → value_in (slot_kinds p n) st.top.frame st.world e ≡ Some k →
+    StepAt p st next n o → CallsBuiltin Module (argument_then (int_argument e) no_arguments) wants o → ValueAsked p n st.top.frame st.world e → WantedAsked p n st.top.frame wants → value_in (slot_kinds p n) st.top.frame st.world e ≡ Some k →
     length st.world.replies ≤ 2 ^ 31 → answer_of k st.world.replies ≡ Some (z, replies) → IsInt z → Matched image (length (linear_code (shape p n) o)) w [] (λ u. Matches p next u)
 module_run places turns made image p n st next w o wants e k z replies h at calls asked_value asks is few answers int =
     let stood = stands_by p n st w h at.runs in

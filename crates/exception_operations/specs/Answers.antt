@@ -47,5 +47,5 @@ pub record AnswersRun : Type 0 where
   pub unexpected_set : (image : Image) (p : Plan) (n m : ℕ) (st next : State) (w : abi.World) (o : LinearOp) → Matches p st w → StepAt p st next n o → CallsBuiltin SetUnexpected (argument_then (handler_argument m) no_arguments) None o →
       m < length p.unit.functions → Matched image (length (linear_code (shape p n) o)) w [] (λ u. Matches p next u)
   pub module_called : (image : Image) (p : Plan) (n : ℕ) (st next : State) (w : abi.World) (o : LinearOp) (wants : Option Place) (e : Value) (k z : ℤ) (replies : List (List Reply)) → Matches p st w → StepAt p st next n o →
-      CallsBuiltin Module (argument_then (int_argument e) no_arguments) wants o → ValueAsked p n st.top.frame e → WantedAsked p n st.top.frame wants → value_in (slot_kinds p n) st.top.frame st.world e ≡ Some k →
+      CallsBuiltin Module (argument_then (int_argument e) no_arguments) wants o → ValueAsked p n st.top.frame st.world e → WantedAsked p n st.top.frame wants → value_in (slot_kinds p n) st.top.frame st.world e ≡ Some k →
       length st.world.replies ≤ 2 ^ 31 → answer_of k st.world.replies ≡ Some (z, replies) → IsInt z → Matched image (length (linear_code (shape p n) o)) w [] (λ u. Matches p next u)

@@ -32,11 +32,11 @@ module _ (p : Plan) (n : ℕ) (frame : Frame) (v : World) (memory : List Part) (
   root_lives (through s) o h live = λ b e. held_live s live b.base b.offset e (st.held s b h.0 e)
   root_lives (in_global g) o h live = tt
 
-  pub value_stands : (e : Value) → ValueAsked p n frame e → ValueStands (setting p n) (shape p n) (slot_kinds p n) frame e
+  pub value_stands : (e : Value) → ValueAsked p n frame v e → ValueStands (setting p n) (shape p n) (slot_kinds p n) frame v e
   value_stands (number z) h = h
   value_stands (load q) h = (root_fits q.root q.offset h.0, root_lives q.root q.offset h.0 h.1)
   value_stands (unary o e) h = value_stands e h
-  value_stands (binary o a b) h = (value_stands a h.0, value_stands b h.1)
+  value_stands (binary o a b) h = (value_stands a h.0, λ x is undecided. value_stands b (h.1 x is undecided))
   value_stands (call_value c args) h = tt
 
   -- what a place's address begins at is live
@@ -72,12 +72,12 @@ module _ (p : Plan) (n : ℕ) (frame : Frame) (v : World) (memory : List Part) (
   address_stands : (q : Place) → AddressAsked p n frame q → AddressFits p n frame q
   address_stands q h = (root_fits q.root q.offset h.0, h.1)
 
-  argument_stands : (a : Argument) → ArgumentAsked p n frame a → ArgumentStands p n frame a
+  argument_stands : (a : Argument) → ArgumentAsked p n frame v a → ArgumentStands p n frame v a
   argument_stands (int_argument e) h = value_stands e h
   argument_stands (address_argument q) h = address_stands q h
   argument_stands (handler_argument m) h = absurd h
 
-  pub arguments_stand : (args : Arguments) → ArgumentsAsked p n frame args → ArgumentsStand p n frame args
+  pub arguments_stand : (args : Arguments) → ArgumentsAsked p n frame v args → ArgumentsStand p n frame v args
   arguments_stand no_arguments h = tt
   arguments_stand (argument_then a args) h = (argument_stands a h.0, arguments_stand args h.1)
 
@@ -85,7 +85,7 @@ module _ (p : Plan) (n : ℕ) (frame : Frame) (v : World) (memory : List Part) (
   object_stands None h = tt
   object_stands (Some q) h = address_stands q h
 
-  pub operation_stands : (o : LinearOp) → IsQuiet o → OperationAsked p n frame o → OperationStands p n frame o
+  pub operation_stands : (o : LinearOp) → IsQuiet o → OperationAsked p n frame v o → OperationStands p n frame v o
   operation_stands (plain (evaluate e)) quiet h = tt
   operation_stands (plain (store q e)) quiet h = (value_stands e h.0, target_stands q h.1)
   operation_stands (plain (bind s q)) quiet h = let both = address_stands q h.0 in (both.0, both.1, h.1, h.2, h.3)

@@ -53,7 +53,7 @@ use Rattle.operation_simulation.proofs.Entered.{CalleeEntered, callee_entered, g
 all_pass : AddressesAreComputed → (p : Plan) (n : ℕ) (frame : Frame) (fs : List Activation) (v : World) (back here : ℕ) (object : Option Place) (args : Arguments) (given : List Word) (s : State) →
     MemoryMatches p n frame fs v s.memory (x s sp) back → length s.regs ≡ 32 → s.pc ≡ address (setting p n).ground here →
     PiecesAt s.memory (setting p n).ground here (object_passed (shape p n) object ++ arguments_passed (shape p n) (before object) args) →
-    length (object_passed (shape p n) object ++ arguments_passed (shape p n) (before object) args) < 2 ^ 18 → ObjectStands p n frame object → ArgumentsStand p n frame args →
+    length (object_passed (shape p n) object ++ arguments_passed (shape p n) (before object) args) < 2 ^ 18 → ObjectStands p n frame object → ArgumentsStand p n frame v args →
     ArgumentsFit 0 0 args → with_object object (slot_kinds p n) frame (words_in (slot_kinds p n) frame v args) ≡ Some given →
     8 * length given < 2 ^ 11 → 0x7000_0000 + 8 * length given ≤ x s sp →
     Passes p n frame fs v back here (length (object_passed (shape p n) object ++ arguments_passed (shape p n) (before object) args)) 0 given s
@@ -164,7 +164,7 @@ record AllPassed (p : Plan) (n m here : ℕ) (st : LinearState) (back : ℕ) (gi
   enters : CalleeEntered p n m (here + length front) passes.after
 
 call_arrives : (p : Plan) (n : ℕ) (st : LinearState) (w : abi.World) (o : LinearOp) (c : CallOf) (given : List Word) (back : ℕ) (to : LinearState) → Stands p n st w back →
-    slice_get (function p n).ops st.top.place ≡ Some o → call_of o ≡ Some c → CallFits p n st.top.frame (st.top ∷ st.frames) c given → CallCode (shape p n) o c → 0x7000_1000 + (shape p c.number).size ≤ x w.hart sp →
+    slice_get (function p n).ops st.top.place ≡ Some o → call_of o ≡ Some c → CallFits p n st.top.frame st.world (st.top ∷ st.frames) c given → CallCode (shape p n) o c → 0x7000_1000 + (shape p c.number).size ≤ x w.hart sp →
     (h : AllPassed p n c.number (first_word p n + op_word (routine p n) st.top.place) st back given (passing (shape p n) c) w.hart) →
     to ≡ enters_to p c.number given st → (ret : ℕ) → ret ≡ address (setting p n).ground (first_word p n + op_word (routine p n) st.top.place + length (passing (shape p n) c) + 2) → ret < 2 ^ 64 →
     Arrives (opened p c.number st.world.calls (x w.hart sp - (shape p c.number).size)) c.number to ret h.enters.after
@@ -217,7 +217,7 @@ call_arrives p n st w o c given back to stood there is fits code room h to_is re
 
 call_runs : AddressesAreComputed → (image : Image) (p : Plan) (n : ℕ) (st next : LinearState) (w : abi.World) (o : LinearOp) (c : CallOf) (given : List Word) (back : ℕ) → Stands p n st w back →
     slice_get (function p n).ops st.top.place ≡ Some o → call_of o ≡ Some c → given_to (slot_kinds p n) st.top.frame st.world c ≡ Some given →
-    CallFits p n st.top.frame (st.top ∷ st.frames) c given → step (code_of p.unit) st ≡ goes_to next →
+    CallFits p n st.top.frame st.world (st.top ∷ st.frames) c given → step (code_of p.unit) st ≡ goes_to next →
     Matched image (length (linear_code (shape p n) o) + 4) w [] (λ v. Matches (opened p c.number st.world.calls (frame_for p c.number (st.top ∷ st.frames))) next v)
 call_runs addresses image p n st next w o c given back h there is given_is fits e =
     let m : ℕ = c.number in

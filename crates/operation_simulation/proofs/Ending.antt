@@ -105,7 +105,7 @@ back_at_start p n st w back r z h there result value_is back_is small =
     let own : OperationAt p s.memory n st.top.place (front ++ epilogue f) = subst (OperationAt p s.memory n st.top.place) code_is stood in
     let one : length front ≡ 1 = result_words f r in
     let parts = pieces_split s.memory g here front (epilogue f) own.code in
-    let value = values_are_computed.value (setting p n) f (slot_kinds p n) st.top.frame st.world (result_value r) z 0 here s (result_stands p n st.top.frame r result) value_is (result_needs r)
+    let value = values_are_computed.value (setting p n) f (slot_kinds p n) st.top.frame st.world (result_value r) z 0 here s (result_stands p n st.top.frame st.world r result) value_is (result_needs r)
     (omega (arith, one)) parts.0 h.pc (ready_here p n st w back h) in
     let first = value.computes.goes in
     let m1 : State = first.after in

@@ -85,7 +85,7 @@ pub exit_world : (p : Plan) (n : ℕ) (e : Value) (st : LinearState) (o : Linear
 exit_world p n e st o z v runs there calls h = (exit_step p n e st o z v (exit_op p n e st o runs there calls) h).world
 
 exit_runs : CallsAreTurns → (image : Image) (pick : ℕ → ℕ) (k : ℕ) (p : Plan) (n : ℕ) (st : LinearState) (w : abi.World) (back : ℕ) (o : LinearOp) (e : Value) (z : ℤ) → Stands p n st w back →
-    slice_get (function p n).ops st.top.place ≡ Some o → ExitOp p n e st o → ValueStands (setting p n) (shape p n) (slot_kinds p n) st.top.frame e → value_in (slot_kinds p n) st.top.frame st.world e ≡ Some z →
+    slice_get (function p n).ops st.top.place ≡ Some o → ExitOp p n e st o → ValueStands (setting p n) (shape p n) (slot_kinds p n) st.top.frame st.world e → value_in (slot_kinds p n) st.top.frame st.world e ≡ Some z →
     length (linear_code (shape p n) o) ≤ k → ((run image pick k w).items ≡ []) × ((run image pick k w).end ≡ Exit z)
 exit_runs turns image pick k p n st w back o e z h there op stands is enough =
     let g : Ground = (setting p n).ground in

@@ -140,7 +140,7 @@ line_step p n v st next o h e = by (value_in (slot_kinds p n) st.top.frame st.wo
 -- ---- a line
 
 line_runs : CallsAreTurns → (image : Image) (p : Plan) (n : ℕ) (st next : LinearState) (w : abi.World) (back : ℕ) (o : LinearOp) (v : Value) → Stands p n st w back → slice_get (function p n).ops st.top.place ≡ Some o →
-    LineOp p n v st o → ValueStands (setting p n) (shape p n) (slot_kinds p n) st.top.frame v → (went : LineStep p n v st next) →
+    LineOp p n v st o → ValueStands (setting p n) (shape p n) (slot_kinds p n) st.top.frame st.world v → (went : LineStep p n v st next) →
     Matched image (length (linear_code (shape p n) o)) w (Line went.value ∷ []) (λ u. Matches p next u)
 line_runs turns image p n st next w back o v h there line stands went =
     let f : Shape = shape p n in

@@ -69,7 +69,7 @@ here_at p n st w back o h there = operation_at p w.hart.memory n st.top.place o 
 -- ---- a value is stored
 
 store_runs : PlacesAreWritten → (image : Image) (p : Plan) (n : ℕ) (st next : LinearState) (w : abi.World) (back : ℕ) (q : Place) (v : Value) → Stands p n st w back →
-    slice_get (function p n).ops st.top.place ≡ Some (plain (store q v)) → NoCall v → OperationStands p n st.top.frame (plain (store q v)) → step (code_of p.unit) st ≡ goes_to next →
+    slice_get (function p n).ops st.top.place ≡ Some (plain (store q v)) → NoCall v → OperationStands p n st.top.frame st.world (plain (store q v)) → step (code_of p.unit) st ≡ goes_to next →
     IsMatched image p n (plain (store q v)) next w
 store_runs places image p n st next w back q v h there no_call stands e =
     let t : Setting = setting p n in
@@ -122,7 +122,7 @@ unfolding done
 sd_done base value imm s = refl
 
 bind_runs : AddressesAreComputed → (image : Image) (p : Plan) (n : ℕ) (st next : LinearState) (w : abi.World) (back slot : ℕ) (q : Place) → Stands p n st w back →
-    slice_get (function p n).ops st.top.place ≡ Some (plain (bind slot q)) → OperationStands p n st.top.frame (plain (bind slot q)) → step (code_of p.unit) st ≡ goes_to next →
+    slice_get (function p n).ops st.top.place ≡ Some (plain (bind slot q)) → OperationStands p n st.top.frame st.world (plain (bind slot q)) → step (code_of p.unit) st ≡ goes_to next →
     IsMatched image p n (plain (bind slot q)) next w
 bind_runs addresses image p n st next w back slot q h there stands e =
     let t : Setting = setting p n in
@@ -201,7 +201,7 @@ jump_runs image p n st w back l h there =
     matched image p n to w back 1 1 u (omega arith) (λ some. omega arith) runs there_u h.runtime
 
 test_runs : (image : Image) (p : Plan) (n : ℕ) (st next : LinearState) (w : abi.World) (back l : ℕ) (v : Value) → Stands p n st w back → slice_get (function p n).ops st.top.place ≡ Some (jump_zero v l) →
-    OperationStands p n st.top.frame (jump_zero v l) → step (code_of p.unit) st ≡ goes_to next → IsMatched image p n (jump_zero v l) next w
+    OperationStands p n st.top.frame st.world (jump_zero v l) → step (code_of p.unit) st ≡ goes_to next → IsMatched image p n (jump_zero v l) next w
 test_runs image p n st next w back l v h there stands e =
     let t : Setting = setting p n in
     let f : Shape = shape p n in
@@ -256,7 +256,7 @@ test_runs image p n st next w back l v h there stands e =
 -- ---- all of them
 
 operation_runs : PlacesAreWritten → AddressesAreComputed → (image : Image) (p : Plan) (n : ℕ) (st next : LinearState) (w : abi.World) (back : ℕ) (o : LinearOp) → Stands p n st w back →
-    slice_get (function p n).ops st.top.place ≡ Some o → IsQuiet o → OperationStands p n st.top.frame o → step (code_of p.unit) st ≡ goes_to next → IsMatched image p n o next w
+    slice_get (function p n).ops st.top.place ≡ Some o → IsQuiet o → OperationStands p n st.top.frame st.world o → step (code_of p.unit) st ≡ goes_to next → IsMatched image p n o next w
 operation_runs places addresses image p n st next w back (plain (evaluate v)) h there quiet stands e =
     subst (λ y. IsMatched image p n (plain (evaluate v)) y w) (value_step p n st next v h.runs there quiet e)
     (same_place image p n st w back (plain (evaluate v)) h there (ap length (plain_dropped (shape p n) v quiet)))

@@ -81,7 +81,7 @@ pub record ArgumentComes (p : Plan) (v : World) (c : ℕ) (t : Setting) (here wo
 
 argument_comes : AddressesAreComputed → (p : Plan) (n : ℕ) (frame : Frame) (fs : List Activation) (v : World) (back here : ℕ) (s : State) (a : Argument) (word : Word) →
     MemoryMatches p n frame fs v s.memory (x s sp) back → length s.regs ≡ 32 → s.pc ≡ address (setting p n).ground here → PiecesAt s.memory (setting p n).ground here (argument_code (shape p n) 0 a) →
-    length (argument_code (shape p n) 0 a) < 2 ^ 18 → ArgumentStands p n frame a → ArgumentFits 0 a → word_in (slot_kinds p n) frame v a ≡ Some word →
+    length (argument_code (shape p n) 0 a) < 2 ^ 18 → ArgumentStands p n frame v a → ArgumentFits 0 a → word_in (slot_kinds p n) frame v a ≡ Some word →
     ArgumentComes p v frame.call (setting p n) here (length (argument_code (shape p n) 0 a)) s word
 argument_comes addresses p n frame fs v back here s (int_argument e) word h regs at code short stands few is = by (value_in (slot_kinds p n) frame v e) refl is
   where
@@ -225,7 +225,7 @@ passed_still t old new stack i (word ∷ given) keep room h = (
 
 pub arguments_pass : AddressesAreComputed → (p : Plan) (n : ℕ) (frame : Frame) (fs : List Activation) (v : World) (back here i : ℕ) (args : Arguments) (given : List Word) (s : State) →
     MemoryMatches p n frame fs v s.memory (x s sp) back → length s.regs ≡ 32 → s.pc ≡ address (setting p n).ground here → PiecesAt s.memory (setting p n).ground here (arguments_passed (shape p n) i args) →
-    length (arguments_passed (shape p n) i args) < 2 ^ 18 → ArgumentsStand p n frame args → ArgumentsFit 0 0 args → words_in (slot_kinds p n) frame v args ≡ Some given →
+    length (arguments_passed (shape p n) i args) < 2 ^ 18 → ArgumentsStand p n frame v args → ArgumentsFit 0 0 args → words_in (slot_kinds p n) frame v args ≡ Some given →
     8 * (i + length given) < 2 ^ 11 → 0x7000_0000 + 8 * (i + length given) ≤ x s sp → Passes p n frame fs v back here (length (arguments_passed (shape p n) i args)) i given s
 arguments_pass addresses p n frame fs v back here i no_arguments given s h regs at code short stands few is small room =
     let none : [] ≡ given = cc is in

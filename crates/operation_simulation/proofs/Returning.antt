@@ -114,9 +114,9 @@ pub result_is : (kinds : Kinds) (r : Option ℕ) (frame : Frame) (v : World) →
 result_is kinds None frame v = refl
 result_is kinds (Some s) frame v = refl
 
-pub result_stands : (p : Plan) (n : ℕ) (frame : Frame) (r : Option ℕ) → ResultStands p n frame r → ValueStands (setting p n) (shape p n) (slot_kinds p n) frame (result_value r)
-result_stands p n frame None h = refl
-result_stands p n frame (Some s) h = (h, tt)
+pub result_stands : (p : Plan) (n : ℕ) (frame : Frame) (v : World) (r : Option ℕ) → ResultStands p n frame r → ValueStands (setting p n) (shape p n) (slot_kinds p n) frame v (result_value r)
+result_stands p n frame v None h = refl
+result_stands p n frame v (Some s) h = (h, tt)
 
 pub result_needs : (r : Option ℕ) → 0 + needs (result_value r) ≤ 15
 result_needs None = omega arith
@@ -219,7 +219,7 @@ return_runs places image p n m st next w a fs r o back outer h there frames wait
     let total : length (linear_code f (return r)) ≡ 4 = ap length code_is ∙ sum ∙ omega (arith, one) in
     let parts = pieces_split s.memory g here front (epilogue f) own.code in
     let ready = ready_here p n st w back h in
-    let value = values_are_computed.value (setting p n) f (slot_kinds p n) st.top.frame st.world (result_value r) went.value 0 here s (result_stands p n st.top.frame r result) went.value_is (result_needs r)
+    let value = values_are_computed.value (setting p n) f (slot_kinds p n) st.top.frame st.world (result_value r) went.value 0 here s (result_stands p n st.top.frame st.world r result) went.value_is (result_needs r)
     (omega (arith, one)) parts.0 h.pc ready in
     let first = value.computes.goes in
     let m1 : State = first.after in

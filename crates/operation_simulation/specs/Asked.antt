@@ -1,11 +1,12 @@
 -- What is asked of a program where an operation is made. Well-formed regions give all of it but three things: that an exception whose
 -- ints are read or written is live, that an int behind an address lies inside what the address begins at, as the types of references say, and at a
 -- multiple of 4, as the layout of classes has it. That every global and variable whose address is used is live need not be asked.
-use Rattle.std.specs.Prelude.{◌≡◌, ℕ, ◌+◌, ◌%◌, ◌^◌, ◌<◌, ◌≤◌, true, false, length, Option, Some, None}
+use Rattle.std.specs.Prelude.{◌≡◌, ℕ, ◌+◌, ◌%◌, ◌^◌, ◌<◌, ◌≤◌, ℤ, true, false, length, Option, Some, None}
+use Rattle.scope_rules.specs.Arithmetic.{decided}
 use Rattle.region_forms.specs.Form.{Root, in_slot, through, in_global, Place, Value, number, load, unary, binary, call_value, Argument, int_argument, address_argument, handler_argument, Arguments, no_arguments, argument_then, store, bind}
-use Rattle.region_forms.specs.World.{of_exception, Address, address_in, Frame}
+use Rattle.region_forms.specs.World.{of_exception, Address, address_in, Frame, World}
 use Rattle.region_forms.specs.WellFormed.{is_variable}
-use Rattle.region_forms.specs.Evaluation.{Location, in_memory, in_frame, locate, address_of}
+use Rattle.region_forms.specs.Evaluation.{Location, in_memory, in_frame, locate, address_of, value_in}
 use Rattle.linear_forms.specs.Linear.{LinearOp, plain, jump_zero}
 use Rattle.emission_forms.specs.Shape.{slot_offset}
 use Rattle.code_simulation.specs.Numbers.{IsInt}
@@ -25,12 +26,14 @@ LiveAsked p frame (in_slot s) = Unit {0}
 LiveAsked p frame (through s) = (e k : ℕ) → address_in (frame.slots s) ≡ Some (record { base = of_exception e; offset = k }) → p.live (of_exception e) ≡ true
 LiveAsked p frame (in_global g) = Unit {0}
 
-abbrev pub ValueAsked : Plan → ℕ → Frame → Value → Type 0
-ValueAsked p n frame (number v) = IsInt v
-ValueAsked p n frame (load q) = RootAsked p n frame q.root q.offset × LiveAsked p frame q.root
-ValueAsked p n frame (unary o v) = ValueAsked p n frame v
-ValueAsked p n frame (binary o a b) = ValueAsked p n frame a × ValueAsked p n frame b
-ValueAsked p n frame (call_value c args) = Unit {0}
+-- of the right side of `&&` and `||` something is asked only where the left one does not decide
+abbrev pub ValueAsked : Plan → ℕ → Frame → World → Value → Type 0
+ValueAsked p n frame w (number v) = IsInt v
+ValueAsked p n frame w (load q) = RootAsked p n frame q.root q.offset × LiveAsked p frame q.root
+ValueAsked p n frame w (unary o v) = ValueAsked p n frame w v
+ValueAsked p n frame w (binary o a b) =
+    ValueAsked p n frame w a × ((x : ℤ) → value_in (slot_kinds p n) frame w a ≡ Some x → decided o x ≡ None → ValueAsked p n frame w b)
+ValueAsked p n frame w (call_value c args) = Unit {0}
 
 -- an int may be written there
 abbrev pub LocationAsked : Plan → ℕ → Location → Type 0
@@ -48,23 +51,23 @@ WantedAsked p n frame (Some q) = TargetAsked p n frame q
 abbrev pub AddressAsked : Plan → ℕ → Frame → Place → Type 0
 AddressAsked p n frame q = RootAsked p n frame q.root q.offset × ((b : Address) → address_of (slot_kinds p n) frame q ≡ Some b → b.offset ≤ p.size b.base)
 
-abbrev pub ArgumentAsked : Plan → ℕ → Frame → Argument → Type 0
-ArgumentAsked p n frame (int_argument v) = ValueAsked p n frame v
-ArgumentAsked p n frame (address_argument q) = AddressAsked p n frame q
-ArgumentAsked p n frame (handler_argument m) = ⊥
+abbrev pub ArgumentAsked : Plan → ℕ → Frame → World → Argument → Type 0
+ArgumentAsked p n frame w (int_argument v) = ValueAsked p n frame w v
+ArgumentAsked p n frame w (address_argument q) = AddressAsked p n frame q
+ArgumentAsked p n frame w (handler_argument m) = ⊥
 
-abbrev pub ArgumentsAsked : Plan → ℕ → Frame → Arguments → Type 0
-ArgumentsAsked p n frame no_arguments = Unit {0}
-ArgumentsAsked p n frame (argument_then a args) = ArgumentAsked p n frame a × ArgumentsAsked p n frame args
+abbrev pub ArgumentsAsked : Plan → ℕ → Frame → World → Arguments → Type 0
+ArgumentsAsked p n frame w no_arguments = Unit {0}
+ArgumentsAsked p n frame w (argument_then a args) = ArgumentAsked p n frame w a × ArgumentsAsked p n frame w args
 
 abbrev pub ObjectAsked : Plan → ℕ → Frame → Option Place → Type 0
 ObjectAsked p n frame None = Unit {0}
 ObjectAsked p n frame (Some q) = AddressAsked p n frame q
 
 -- of an operation that makes no call
-abbrev pub OperationAsked : Plan → ℕ → Frame → LinearOp → Type 0
-OperationAsked p n frame (plain (store q v)) = ValueAsked p n frame v × TargetAsked p n frame q
-OperationAsked p n frame (plain (bind s q)) =
+abbrev pub OperationAsked : Plan → ℕ → Frame → World → LinearOp → Type 0
+OperationAsked p n frame w (plain (store q v)) = ValueAsked p n frame w v × TargetAsked p n frame q
+OperationAsked p n frame w (plain (bind s q)) =
     AddressAsked p n frame q × (s < length (shape p n).slots) × (is_variable (slot_kinds p n s) ≡ false) × (slot_offset (shape p n) s < 2 ^ 11)
-OperationAsked p n frame (jump_zero v l) = ValueAsked p n frame v
-OperationAsked p n frame o = Unit {0}
+OperationAsked p n frame w (jump_zero v l) = ValueAsked p n frame w v
+OperationAsked p n frame w o = Unit {0}

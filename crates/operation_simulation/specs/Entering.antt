@@ -50,14 +50,14 @@ opened p n c stack = record p {
 abbrev pub AddressFits : Plan → ℕ → Frame → Place → Type 0
 AddressFits p n frame q = PlaceFits p n frame q × ((b : Address) → address_of (slot_kinds p n) frame q ≡ Some b → AddressStands p b)
 
-abbrev pub ArgumentStands : Plan → ℕ → Frame → Argument → Type 0
-ArgumentStands p n frame (int_argument v) = ValueStands (setting p n) (shape p n) (slot_kinds p n) frame v
-ArgumentStands p n frame (address_argument q) = AddressFits p n frame q
-ArgumentStands p n frame (handler_argument m) = ⊥
+abbrev pub ArgumentStands : Plan → ℕ → Frame → World → Argument → Type 0
+ArgumentStands p n frame w (int_argument v) = ValueStands (setting p n) (shape p n) (slot_kinds p n) frame w v
+ArgumentStands p n frame w (address_argument q) = AddressFits p n frame q
+ArgumentStands p n frame w (handler_argument m) = ⊥
 
-abbrev pub ArgumentsStand : Plan → ℕ → Frame → Arguments → Type 0
-ArgumentsStand p n frame no_arguments = Unit {0}
-ArgumentsStand p n frame (argument_then a args) = ArgumentStands p n frame a × ArgumentsStand p n frame args
+abbrev pub ArgumentsStand : Plan → ℕ → Frame → World → Arguments → Type 0
+ArgumentsStand p n frame w no_arguments = Unit {0}
+ArgumentsStand p n frame w (argument_then a args) = ArgumentStands p n frame w a × ArgumentsStand p n frame w args
 
 abbrev pub ObjectStands : Plan → ℕ → Frame → Option Place → Type 0
 ObjectStands p n frame None = Unit {0}
@@ -85,9 +85,9 @@ WordsFit kinds s (x ∷ given) = WordFits (kinds s) x × WordsFit kinds (s + 1) 
 -- What is asked where a function is called: places and values of arguments fit; the function is there, its first slots are for what it is
 -- passed; and the 16 MiB of the stack have room for its frame above the lowest 4 KiB. All but the last is what well-formed regions ask of a
 -- call, and there is room as long as at most 8,190 calls are open.
-pub record CallFits (p : Plan) (n : ℕ) (frame : Frame) (active : List Activation) (c : CallOf) (given : List Word) : Type 0 where
+pub record CallFits (p : Plan) (n : ℕ) (frame : Frame) (w : World) (active : List Activation) (c : CallOf) (given : List Word) : Type 0 where
   pub object : ObjectAsked p n frame c.object
-  pub arguments : ArgumentsAsked p n frame c.arguments
+  pub arguments : ArgumentsAsked p n frame w c.arguments
   pub known : c.number < length p.unit.functions
   pub passed : length given ≤ length (shape p c.number).slots
   pub words : WordsFit (slot_kinds p c.number) 0 given
@@ -102,5 +102,5 @@ frame_for p n active = stack_end - (open_bytes p active + (shape p n).size)
 abbrev pub CallsRun : Type 0
 CallsRun = (image : Image) (p : Plan) (n : ℕ) (st next : State) (w : abi.World) (o : LinearOp) (c : CallOf) (given : List Word) → Matches p st w → st.top.function ≡ compiled n →
     slice_get (function p n).ops st.top.place ≡ Some o → call_of o ≡ Some c → given_to (slot_kinds p n) st.top.frame st.world c ≡ Some given →
-    CallFits p n st.top.frame (st.top ∷ st.frames) c given → step (code_of p.unit) st ≡ goes_to next →
+    CallFits p n st.top.frame st.world (st.top ∷ st.frames) c given → step (code_of p.unit) st ≡ goes_to next →
     Matched image (length (linear_code (shape p n) o) + 4) w [] (λ v. Matches (opened p c.number st.world.calls (frame_for p c.number (st.top ∷ st.frames))) next v)

@@ -26,5 +26,5 @@ CallsExit v o = (o ≡ plain (call (builtin ExitCall) (argument_then (int_argume
 -- turns as the operation has words, shows nothing more and exits with the same number.
 abbrev pub ExitsEnd : Type 0
 ExitsEnd = (image : Image) (pick : ℕ → ℕ) (k : ℕ) (p : Plan) (n : ℕ) (st : State) (w : abi.World) (o : LinearOp) (e : Value) (z : ℤ) (v : World) → Matches p st w → st.top.function ≡ compiled n →
-    slice_get (function p n).ops st.top.place ≡ Some o → CallsExit e o → ValueAsked p n st.top.frame e → step (code_of p.unit) st ≡ finishes (by_program (exit z)) v → length (linear_code (shape p n) o) ≤ k →
+    slice_get (function p n).ops st.top.place ≡ Some o → CallsExit e o → ValueAsked p n st.top.frame st.world e → step (code_of p.unit) st ≡ finishes (by_program (exit z)) v → length (linear_code (shape p n) o) ≤ k →
     ((run image pick k w).items ≡ []) × ((run image pick k w).end ≡ Exit z)

@@ -41,5 +41,5 @@ pub record StoresStayApart : Type 0 where
 -- operation has words, and at least one if it has any. They show nothing, and the state and the world behind them match.
 abbrev pub OperationsRun : Type 0
 OperationsRun = (image : Image) (p : Plan) (n : ℕ) (st next : State) (w : abi.World) (o : LinearOp) → Matches p st w → st.top.function ≡ compiled n → slice_get (function p n).ops st.top.place ≡ Some o →
-    IsQuiet o → OperationAsked p n st.top.frame o → step (code_of p.unit) st ≡ goes_to next →
+    IsQuiet o → OperationAsked p n st.top.frame st.world o → step (code_of p.unit) st ≡ goes_to next →
     Matched image (length (linear_code (shape p n) o)) w [] (λ v. Matches p next v)

@@ -32,5 +32,5 @@ pub record LineIs (p : Plan) (n : ℕ) (v : Value) (st next : State) (items : Li
 
 abbrev pub LinesRun : Type 0
 LinesRun = (image : Image) (p : Plan) (n : ℕ) (st next : State) (w : abi.World) (o : LinearOp) (v : Value) → Matches p st w → st.top.function ≡ compiled n → slice_get (function p n).ops st.top.place ≡ Some o →
-    Writes v o → ValueAsked p n st.top.frame v → step (code_of p.unit) st ≡ goes_to next →
+    Writes v o → ValueAsked p n st.top.frame st.world v → step (code_of p.unit) st ≡ goes_to next →
     (items : List Item) × LineIs p n v st next items × Matched image (length (linear_code (shape p n) o)) w items (λ u. Matches p next u)

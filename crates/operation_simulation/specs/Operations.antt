@@ -4,7 +4,7 @@ use Rattle.run_items.specs.declared.item.Item.{Item}
 use Rattle.cxa_runtime.specs.World.{World}
 use Rattle.cxa_runtime.specs.Raising.{Image}
 use Rattle.region_forms.specs.Form.{Place, Value, call_value, evaluate, store, bind}
-use Rattle.region_forms.specs.World.{Address, Frame}
+use Rattle.region_forms.specs.World.{Address, Frame, World as SourceWorld}
 use Rattle.region_forms.specs.WellFormed.{is_variable}
 use Rattle.region_forms.specs.Evaluation.{Location, locate, address_of}
 use Rattle.linear_forms.specs.Linear.{LinearOp, plain, label, jump, jump_zero}
@@ -37,13 +37,13 @@ abbrev pub PlaceStands : Plan → ℕ → Frame → Place → Type 0
 PlaceStands p n frame q = PlaceFits p n frame q × ((l : Location) → locate (slot_kinds p n) frame q ≡ Some l → LocationStands p (shape p n) (slot_kinds p n) l)
 
 -- what is needed in a frame where an operation is made
-abbrev pub OperationStands : Plan → ℕ → Frame → LinearOp → Type 0
-OperationStands p n frame (plain (store q v)) = ValueStands (setting p n) (shape p n) (slot_kinds p n) frame v × PlaceStands p n frame q
-OperationStands p n frame (plain (bind s q)) =
+abbrev pub OperationStands : Plan → ℕ → Frame → SourceWorld → LinearOp → Type 0
+OperationStands p n frame w (plain (store q v)) = ValueStands (setting p n) (shape p n) (slot_kinds p n) frame w v × PlaceStands p n frame q
+OperationStands p n frame w (plain (bind s q)) =
     PlaceFits p n frame q × ((b : Address) → address_of (slot_kinds p n) frame q ≡ Some b → AddressStands p b)
     × (s < length (shape p n).slots) × (is_variable (slot_kinds p n s) ≡ false) × (slot_offset (shape p n) s < 2 ^ 11)
-OperationStands p n frame (jump_zero v l) = ValueStands (setting p n) (shape p n) (slot_kinds p n) frame v
-OperationStands p n frame o = Unit {0}
+OperationStands p n frame w (jump_zero v l) = ValueStands (setting p n) (shape p n) (slot_kinds p n) frame w v
+OperationStands p n frame w o = Unit {0}
 
 -- the turns that match one step, of an operation of so many words: no more than there are words, and at least one if there is a word
 pub record Matched (image : Image) (words : ℕ) (w : World) (items : List Item) (P : World → Type 0) : Type 0 where

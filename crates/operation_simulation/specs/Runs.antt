@@ -38,7 +38,7 @@ pub record QuietStep (p : Plan) (st next : State) (q : Plan) (most : ℕ) (items
   pub operation : LinearOp
   pub at : StepAt p st next number operation
   pub quiet : IsQuiet operation
-  pub asked : OperationAsked p number st.top.frame operation
+  pub asked : OperationAsked p number st.top.frame st.world operation
   pub plan : q ≡ p
   pub turns : most ≡ length (linear_code (shape p number) operation)
   pub nothing_shown : items ≡ []
@@ -50,7 +50,7 @@ pub record LineStep (p : Plan) (st next : State) (q : Plan) (most : ℕ) (items 
   pub at : StepAt p st next number operation
   pub value : Value
   pub writes : Writes value operation
-  pub asked : ValueAsked p number st.top.frame value
+  pub asked : ValueAsked p number st.top.frame st.world value
   pub plan : q ≡ p
   pub turns : most ≡ length (linear_code (shape p number) operation)
   pub line : LineIs p number value st next items
@@ -77,7 +77,7 @@ pub record CallStep (p : Plan) (st next : State) (q : Plan) (most : ℕ) (items 
   pub given : List Word
   pub is : call_of operation ≡ Some call
   pub passed : given_to (slot_kinds p number) st.top.frame st.world call ≡ Some given
-  pub fits : CallFits p number st.top.frame (st.top ∷ st.frames) call given
+  pub fits : CallFits p number st.top.frame st.world (st.top ∷ st.frames) call given
   pub plan : q ≡ opened p call.number st.world.calls (frame_for p call.number (st.top ∷ st.frames))
   pub turns : most ≡ length (linear_code (shape p number) operation) + 4
   pub nothing_shown : items ≡ []
@@ -130,7 +130,7 @@ pub record ExitCalled (p : Plan) (st : State) (turns : ℕ) (z : ℤ) (v : World
   pub runs : st.top.function ≡ compiled number
   pub there : slice_get (function p number).ops st.top.place ≡ Some operation
   pub calls : CallsExit value operation
-  pub asked : ValueAsked p number st.top.frame value
+  pub asked : ValueAsked p number st.top.frame st.world value
   pub ends : step (code_of p.unit) st ≡ finishes (by_program (exit z)) v
   pub words : turns ≡ length (linear_code (shape p number) operation)
 

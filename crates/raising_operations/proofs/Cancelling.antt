@@ -99,7 +99,7 @@ cancel_step p n v st next o h e = by (value_in (slot_kinds p n) st.top.frame st.
 
 -- ---- the turns
 cancel_runs : CallsAreTurns → CallsAreMade → ValuesAreComputed → ForcedAgree → (i : CleanImage) (p : Plan) (n m : ℕ) (st next : LinearState) (w : abi.World) (back : ℕ) (o : LinearOp) (v : Value) → Stands p n st w back → IsRunning p i w.hart →
-    StepAt p st next n o → CancelOp p n v st o → ValueStands (setting p n) (shape p n) (slot_kinds p n) st.top.frame v → (went : CancelStep p n v st next) → PadsArePlain p → FiltersAreInts p → next.top.function ≡ compiled m →
+    StepAt p st next n o → CancelOp p n v st o → ValueStands (setting p n) (shape p n) (slot_kinds p n) st.top.frame st.world v → (went : CancelStep p n v st next) → PadsArePlain p → FiltersAreInts p → next.top.function ≡ compiled m →
     (next.world ≡ st.world) × Cancelled p i st next w (length (linear_code (shape p n) o)) went.value
 cancel_runs turns made values agree i p n m st next w back o v h running at op stands went plains ints callee =
     let image : Image = (program_of i).image in

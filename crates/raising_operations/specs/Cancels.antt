@@ -30,5 +30,5 @@ pub record Cancelled (p : Plan) (i : CleanImage) (st next : State) (w : abi.Worl
 
 -- A step that begins a forced unwind, and comes to a pad of a compiled function.
 abbrev pub CancelsRun : Type 0
-CancelsRun = (i : CleanImage) (p : Plan) (n m : ℕ) (st next : State) (w : abi.World) (o : LinearOp) (v : Value) → Matches p st w → IsRunning p i w.hart → StepAt p st next n o → Cancels v o → ValueAsked p n st.top.frame v → PadsArePlain p →
+CancelsRun = (i : CleanImage) (p : Plan) (n m : ℕ) (st next : State) (w : abi.World) (o : LinearOp) (v : Value) → Matches p st w → IsRunning p i w.hart → StepAt p st next n o → Cancels v o → ValueAsked p n st.top.frame st.world v → PadsArePlain p →
     FiltersAreInts p → next.top.function ≡ compiled m → Shows st next [] × (k : ℤ) × (value_in (slot_kinds p n) st.top.frame st.world v ≡ Some k) × Cancelled p i st next w (length (linear_code (shape p n) o)) k
