@@ -1,10 +1,9 @@
 -- What both machines have of an exception that is thrown and for which there is no handler: it is entered.
-use Rattle.std.proofs.Common.{◌≡◌, ◌∙◌, refl, sym, ap, subst, arith, ℕ, ◌+◌, ◌-◌, Bool, true, false, List, [], ◌∷◌, map, slice_set, Option, Some}
+use Rattle.std.proofs.Common.{◌≡◌, refl, ap, subst, arith, ℕ, ◌+◌, ◌-◌, Bool, true, false, List, map, slice_set, Option, Some}
 use Rattle.std.specs.Prelude.{not, ◌||◌}
 use Rattle.scope_rules.specs.Class.{contains}
 use Rattle.caught_stack.specs.declared.header.Header.{Header}
 use Rattle.caught_stack.specs.declared.header.HeaderKind.TheVariants.{Building}
-use Rattle.caught_stack.specs.Live.{header_of}
 use Rattle.caught_stack.specs.Begin.{begun}
 use Rattle.caught_stack.specs.Caught.{is_newest, is_caught}
 use Rattle.caught_stack.proofs.Headers.{header_changed}

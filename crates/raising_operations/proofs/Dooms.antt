@@ -1,17 +1,12 @@
 -- An exception without a handler is thrown: the terminate handler kept with it begins.
-use Rattle.scope_rules.specs.Class.{contains, some_of}
+use Rattle.scope_rules.specs.Class.{contains}
 use Rattle.rv64_isa.specs.State.{State}
 use Rattle.rv64_isa.specs.Step.{x}
 use Rattle.elf_image.specs.Clean.{CleanImage}
 use Rattle.caught_stack.specs.declared.header.Header.{Header}
 use Rattle.caught_stack.specs.declared.header.HeaderKind.TheVariants.{Building}
-use Rattle.caught_stack.specs.Live.{header_of}
-use Rattle.caught_stack.specs.Exceptions.{Exceptions}
-use Rattle.cxa_runtime.specs.Flying.{aimed}
 use Rattle.code_simulation.specs.Turning.{Turns}
-use Rattle.caught_stack.proofs.Headers.{header_changed}
 use Rattle.cxa_runtime.specs.declared.object.Object.{Object}
-use Rattle.cxa_runtime.specs.Frozen.{frozen}
 use Rattle.cxa_runtime.specs.Types.{type_records}
 use Rattle.cxa_runtime.specs.Objects.{object_of, object_where, is_building}
 use Rattle.cxa_runtime.specs.World as abi
@@ -19,18 +14,16 @@ use Rattle.cxa_runtime.specs.World.{argument, needs}
 use Rattle.cxa_runtime.specs.Raising.{Image}
 use Rattle.cxa_runtime.specs.Throw.{native_object, flying, throws, throw as throw_effect}
 use Rattle.cxa_runtime.specs.Call.{call_effect, numbered}
-use Rattle.cxa_runtime.specs.Run.{counted}
 use Rattle.eh_run.specs.Program.{program_of}
 use Rattle.region_forms.specs.Form.{throw}
-use Rattle.region_forms.specs.World.{World, Exception, building, native, foreign, Live, exception_in, exception_of, exception_in_slot, exception_type, type_at}
-use Rattle.region_forms.specs.Lives.{is_built, is_being_built}
+use Rattle.region_forms.specs.World.{World, Exception, building, native, exception_of, exception_in_slot, exception_type}
+use Rattle.region_forms.specs.Lives.{is_being_built}
 use Rattle.region_forms.specs.Effect.{raises, only_where, flies, kept}
 use Rattle.linear_forms.specs.Search.{found_above}
 use Rattle.linear_forms.specs.Linear.{plain}
-use Rattle.linear_forms.specs.Stub.{compiled, terminating}
-use Rattle.linear_forms.specs.Activation.{State as LinearState, goes_to}
+use Rattle.linear_forms.specs.Stub.{terminating}
+use Rattle.linear_forms.specs.Activation.{State as LinearState}
 use Rattle.linear_forms.specs.Operation.{performed}
-use Rattle.linear_forms.specs.Unwinding.{raise}
 use Rattle.linear_forms.specs.UnitRun.{code_of}
 use Rattle.emission_forms.specs.Registers.{sp, a0, a1, a2}
 use Rattle.emission_forms.specs.RuntimeCall.{runtime_call}
@@ -39,8 +32,7 @@ use Rattle.emission_forms.specs.LinearCode.{linear_code}
 use Rattle.emission_forms.specs.Routine.{op_word}
 use Rattle.code_simulation.specs.Standing.{Ground}
 use Rattle.code_simulation.specs.Laws.{CallsAreTurns}
-use Rattle.code_simulation.proofs.Turning.{turns_then}
-use Rattle.stub_simulation.specs.Calls.{asked, CallsAreMade}
+use Rattle.stub_simulation.specs.Calls.{asked}
 use Rattle.image_forms.specs.Placed.{record_at}
 use Rattle.routine_tables.specs.Types.{with_bases}
 use Rattle.image_tables.specs.Functions.{records_end}
@@ -49,23 +41,18 @@ use Rattle.raise_simulation.specs.Raises.{RaisesAgree}
 use Rattle.operation_simulation.specs.Plan.{Plan, function, shape, routine, first_word, setting}
 use Rattle.operation_simulation.specs.Exceptions.{live_in, addresses_of, exceptions_in, kept_by, destroyed, record_address, IsFunction}
 use Rattle.operation_simulation.specs.Matches.{RuntimeMatches, MemoryMatches}
-use Rattle.operation_simulation.specs.Runs.{StepAt}
 use Rattle.operation_simulation.proofs.Words.{operation_at}
 use Rattle.operation_simulation.proofs.Matching.{Stands, stands_by, runtime_stays}
 use Rattle.operation_simulation.proofs.Quiet.{step_is, plain_is}
-use Rattle.exception_operations.specs.Objects.{HoldsObject}
-use Rattle.exception_operations.proofs.Ecalls.{ecall_reached, call_made}
+use Rattle.exception_operations.proofs.Ecalls.{ecall_reached}
 use Rattle.exception_operations.proofs.Enters.{exception_is}
 use Rattle.exception_operations.proofs.Finding.{live_header, object_found}
-use Rattle.exception_operations.proofs.Headers.{slot_below}
 use Rattle.raising_operations.specs.Stacks.{IsRunning, InCall}
-use Rattle.raising_operations.specs.Pads.{PadsArePlain, FiltersAreInts}
-use Rattle.raising_operations.specs.Targets.{target_end}
 use Rattle.raising_operations.proofs.Replaced.{replaced_in}
-use Rattle.raising_operations.proofs.Native.{counts_building, thrown_object, thrown_runtime}
+use Rattle.raising_operations.proofs.Native.{counts_building, thrown_object}
 use Rattle.raising_operations.proofs.ThrowWords.{throw_given}
-use Rattle.std.proofs.Common.{is_some, ◌≡◌, ◌∙◌, refl, sym, ap, subst, arith, ℕ, ◌+◌, ◌*◌, ◌^◌, ◌<◌, ◌≤◌, List, [], ◌∷◌, length, length-append, append-nil, map, Option, Some, None, inl, inr}
-use Rattle.std.specs.Prelude.{◌⊎◌, slice_get, true, false, if◌then◌else◌}
+use Rattle.std.proofs.Common.{is_some, ◌≡◌, ◌∙◌, refl, sym, ap, subst, arith, ℕ, ◌+◌, ◌^◌, ◌<◌, ◌≤◌, List, [], ◌∷◌, length, length-append, map, Option, Some, None, inl, inr}
+use Rattle.std.specs.Prelude.{◌⊎◌, slice_get, false, if◌then◌else◌}
 use Rattle.raise_core.specs.Raise as unwinder
 use Rattle.raise_core.specs.declared.raised.Raised.{Raised}
 use Rattle.raise_core.specs.declared.raised.Raised.TheVariants as answers
@@ -77,7 +64,6 @@ use Rattle.region_forms.specs.Effect.{entered_doomed}
 use Rattle.routine_tables.specs.Types.{thrown_as}
 use Rattle.stub_simulation.specs.Stretches.{stub_word}
 use Rattle.image_tables.specs.Functions.{operation_at as image_operation_at}
-use Rattle.raise_simulation.specs.Opens.{activations}
 use Rattle.operation_simulation.proofs.Calling.{stack_at}
 use Rattle.exception_operations.proofs.Terminates.{AtHandler, call_may}
 use Rattle.raising_operations.proofs.Stacks.{all_opens, all_tail, opens_are, stack_raised}

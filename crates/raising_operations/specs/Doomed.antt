@@ -1,12 +1,11 @@
 -- An exception without a handler is thrown.
-use Rattle.std.specs.Prelude.{◌≡◌, ℕ, ◌+◌, ◌≤◌, true, false, List, [], ◌∷◌, length, slice_get, Option, Some, None}
+use Rattle.std.specs.Prelude.{◌≡◌, ℕ, ◌+◌, ◌≤◌, true, false, [], ◌∷◌, length, slice_get, Option, Some, None}
 use Rattle.run_items.specs.declared.item.Item.TheVariants.{Enter}
 use Rattle.elf_image.specs.Clean.{CleanImage}
 use Rattle.cxa_runtime.specs.World as abi
 use Rattle.eh_run.specs.Program.{program_of}
 use Rattle.region_forms.specs.Form.{throw}
 use Rattle.region_forms.specs.Lives.{is_being_built}
-use Rattle.region_forms.specs.World.{World}
 use Rattle.region_forms.specs.Effect.{kept, entered_doomed}
 use Rattle.linear_forms.specs.Linear.{plain}
 use Rattle.linear_forms.specs.Search.{found_above}
