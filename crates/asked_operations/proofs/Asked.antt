@@ -1,14 +1,14 @@
 -- What is asked of operations is so.
-use Rattle.std.proofs.Common.{◌≡◌, ◌∙◌, refl, sym, ap, subst, arith, ℕ, ◌+◌, ◌<◌, ◌≤◌, List, [], ◌∷◌, Option, Some, None}
-use Rattle.std.specs.Prelude.{⊤, true, false, slice_get}
-use Rattle.region_forms.specs.Form.{SlotKind, int_slot, address_slot, object_slot, help_slot, Kinds, Root, in_slot, through, in_global, Place, Value, number, load, unary, binary, call_value, Argument, int_argument, address_argument, handler_argument, Arguments, no_arguments, argument_then, Op, evaluate, store, bind, call, construct, destroy, make, throw, rethrow, enter, leave}
-use Rattle.region_forms.specs.World.{Address, address_in, Frame}
+use Rattle.std.proofs.Common.{◌≡◌, ◌∙◌, refl, sym, ap, subst, arith, ℕ, ◌+◌, ◌≤◌, Option, Some, None}
+use Rattle.std.specs.Prelude.{false}
+use Rattle.region_forms.specs.Form.{SlotKind, int_slot, address_slot, object_slot, help_slot, Kinds, Root, in_slot, through, in_global, Place, Value, number, load, unary, binary, call_value, Argument, int_argument, address_argument, handler_argument, Arguments, no_arguments, argument_then, evaluate, store, bind, call, construct, destroy, make, throw, rethrow, enter, leave}
+use Rattle.region_forms.specs.World.{Address, address_in, Frame, World}
 use Rattle.region_forms.specs.WellFormed.{is_variable}
 use Rattle.region_forms.specs.Evaluation.{Location, in_memory, in_frame, locate, address_of, slot_location, location_behind}
 use Rattle.linear_forms.specs.Linear.{LinearOp, plain, label, jump, jump_zero, pad, jump_filter, free, resume, unexpected, return}
 use Rattle.linear_forms.specs.Stub.{compiled}
 use Rattle.linear_forms.specs.Activation.{State}
-use Rattle.operation_simulation.specs.Plan.{Plan, function, shape, slot_kinds}
+use Rattle.operation_simulation.specs.Plan.{Plan, function, slot_kinds}
 use Rattle.operation_simulation.specs.Asked.{RootAsked, LiveAsked, ValueAsked, LocationAsked, TargetAsked, AddressAsked, ArgumentAsked, ArgumentsAsked, OperationAsked}
 use Rattle.object_reach.specs.Rooms.{Reach, HasRoom}
 use Rattle.object_reach.specs.Reaches.{Needs, ArgumentReaches, ArgumentsReach, LinearReaches}
@@ -17,6 +17,7 @@ use Rattle.reach_simulation.specs.Extents.{LiesInside, extents_of}
 use Rattle.reach_simulation.specs.Reaching.{CallReaches}
 use Rattle.reach_simulation.proofs.Places.{place_lies}
 use Rattle.reach_simulation.proofs.Given.{located}
+use Rattle.asked_operations.proofs.Loads.{value_live}
 use Rattle.asked_operations.specs.Laws.{ValueLive, ArgumentLive, ArgumentsLive, OperationLive, IsInside, AllIsAsked}
 
 root_asked : (p : Plan) (n : ℕ) (frame : Frame) (r : Root) (o : ℕ) → RootStatic p.unit (function p n) r o → RootAsked p n frame r o
@@ -24,12 +25,12 @@ root_asked p n frame (in_slot s) o h = h
 root_asked p n frame (through s) o h = h
 root_asked p n frame (in_global g) o h = h
 
-value_asked : (p : Plan) (n : ℕ) (frame : Frame) (v : Value) → ValueStatic p.unit (function p n) v → ValueLive p frame v → ValueAsked p n frame v
-value_asked p n frame (number v) h live = h
-value_asked p n frame (load q) h live = (root_asked p n frame q.root q.offset h, live)
-value_asked p n frame (unary o v) h live = value_asked p n frame v h live
-value_asked p n frame (binary o a b) h live = (value_asked p n frame a h.0 live.0, value_asked p n frame b h.1 live.1)
-value_asked p n frame (call_value c args) h live = tt
+value_asked : (p : Plan) (n : ℕ) (frame : Frame) (w : World) (v : Value) → ValueStatic p.unit (function p n) v → ValueLive p n frame w v → ValueAsked p n frame w v
+value_asked p n frame w (number v) h live = h
+value_asked p n frame w (load q) h live = (root_asked p n frame q.root q.offset h, live)
+value_asked p n frame w (unary o v) h live = value_asked p n frame w v h live
+value_asked p n frame w (binary o a b) h live = (value_asked p n frame w a h.0 live.0, λ x first more. value_asked p n frame w b h.1 (live.1 x first more))
+value_asked p n frame w (call_value c args) h live = tt
 
 module _ (p : Plan) (needs : Needs) (n : ℕ) (st : State) (inside : IsInside p needs n st) where
   -- bytes of ints behind a place
@@ -72,27 +73,27 @@ module _ (p : Plan) (needs : Needs) (n : ℕ) (st : State) (inside : IsInside p 
       at (in_memory a) e = let there = lies q 4 a room e in (there.ints, there.within, there.whole)
       at (in_frame s) e = frame_asked q.root q.offset s h e
 
-  argument_asked : (a : Argument) (k : SlotKind) (size : ℕ) → ArgumentStatic p.unit (function p n) k a → ArgumentReaches needs (needs n) (function p n).slots size a → ArgumentLive p st.top.frame a → ArgumentAsked p n st.top.frame a
-  argument_asked (int_argument v) k size h room live = value_asked p n st.top.frame v h.0 live
+  argument_asked : (a : Argument) (k : SlotKind) (size : ℕ) → ArgumentStatic p.unit (function p n) k a → ArgumentReaches needs (needs n) (function p n).slots size a → ArgumentLive p n st.top.frame st.world a → ArgumentAsked p n st.top.frame st.world a
+  argument_asked (int_argument v) k size h room live = value_asked p n st.top.frame st.world v h.0 live
   argument_asked (address_argument q) k size h room live = address_asked q size h.0 room
   argument_asked (handler_argument m) k size h room live = absurd h
 
   arguments_asked : (kinds : Kinds) (wants : Reach) (i : ℕ) (args : Arguments) → ArgumentsStatic p.unit (function p n) kinds i args → ArgumentsReach needs (needs n) (function p n).slots wants i args →
-      ArgumentsLive p st.top.frame args → ArgumentsAsked p n st.top.frame args
+      ArgumentsLive p n st.top.frame st.world args → ArgumentsAsked p n st.top.frame st.world args
   arguments_asked kinds wants i no_arguments h room live = tt
   arguments_asked kinds wants i (argument_then a args) h room live = (argument_asked a (kinds i) (wants i) h.0 room.0 live.0, arguments_asked kinds wants (i + 1) args h.1 room.1 live.1)
 
-  top_asked : (v : Value) → TopStatic p.unit (function p n) v → ValueLive p st.top.frame v → ValueAsked p n st.top.frame v
-  top_asked (number v) h live = value_asked p n st.top.frame (number v) h live
-  top_asked (load q) h live = value_asked p n st.top.frame (load q) h live
-  top_asked (unary o v) h live = value_asked p n st.top.frame (unary o v) h live
-  top_asked (binary o a b) h live = value_asked p n st.top.frame (binary o a b) h live
+  top_asked : (v : Value) → TopStatic p.unit (function p n) v → ValueLive p n st.top.frame st.world v → ValueAsked p n st.top.frame st.world v
+  top_asked (number v) h live = value_asked p n st.top.frame st.world (number v) h live
+  top_asked (load q) h live = value_asked p n st.top.frame st.world (load q) h live
+  top_asked (unary o v) h live = value_asked p n st.top.frame st.world (unary o v) h live
+  top_asked (binary o a b) h live = value_asked p n st.top.frame st.world (binary o a b) h live
   top_asked (call_value c args) h live = tt
 
-  operation_asked : (o : LinearOp) → LinearStatic p.unit (function p n) o → LinearReaches needs (needs n) (function p n).slots o → OperationLive p st.top.frame o → OperationAsked p n st.top.frame o
+  operation_asked : (o : LinearOp) → LinearStatic p.unit (function p n) o → LinearReaches needs (needs n) (function p n).slots o → OperationLive p n st.top.frame st.world o → OperationAsked p n st.top.frame st.world o
   operation_asked (plain (store q v)) h room live = (top_asked v h.1 live.0, target_asked q h.0 room.0 live.1)
   operation_asked (plain (bind s q)) h room live = (address_asked q (needs n s) h.1 room, h.0.inside, h.0.plain, h.0.near)
-  operation_asked (jump_zero v l) h room live = value_asked p n st.top.frame v h live
+  operation_asked (jump_zero v l) h room live = value_asked p n st.top.frame st.world v h live
   operation_asked (plain (evaluate v)) h room live = tt
   operation_asked (plain (call c args)) h room live = tt
   operation_asked (plain (construct q m args)) h room live = tt
@@ -114,6 +115,7 @@ module _ (p : Plan) (needs : Needs) (n : ℕ) (st : State) (inside : IsInside p 
 pub all_is_asked : AllIsAsked
 all_is_asked = record {
   values = value_asked;
+  loads = value_live;
   addresses = λ p needs n size st q inside h room. address_asked p needs n st inside q size h room;
   targets = λ p needs n st q inside h room live. target_asked p needs n st inside q h room live;
   arguments = λ p needs wants n i st kinds args inside h room live. arguments_asked p needs n st inside kinds wants i args h room live;

@@ -165,7 +165,7 @@ record RaisedIn (p : Plan) (i : CleanImage) (pick : ℕ → ℕ) (st next : Line
   raised : RaisedFor p (with_object p (st.world.last_number + 1) slot) i pick st next w (st.world.last_number + 1) words (Foreign (st.world.last_number + 1) k token ∷ [])
 
 module_runs : CallsAreTurns → CallsAreMade → ValuesAreComputed → RaisesAgree → (i : CleanImage) (pick : ℕ → ℕ) (p : Plan) (n m : ℕ) (st next : LinearState) (w : abi.World) (back : ℕ) (o : LinearOp) (wants : Option Place) (e0 : Value) (k token : ℕ)
-    (left : List Reply) → Stands p n st w back → IsRunning p i w.hart → StepAt p st next n o → CallsBuiltin Module (argument_then (int_argument e0) no_arguments) wants o → ValueAsked p n st.top.frame e0 →
+    (left : List Reply) → Stands p n st w back → IsRunning p i w.hart → StepAt p st next n o → CallsBuiltin Module (argument_then (int_argument e0) no_arguments) wants o → ValueAsked p n st.top.frame st.world e0 →
     value_in (slot_kinds p n) st.top.frame st.world e0 ≡ Some (pos k) → slice_get st.world.replies k ≡ Some (Raise token ∷ left) → is_full st.world ≡ false → PadsArePlain p → FiltersAreInts p → next.top.function ≡ compiled m →
     RaisedIn p i pick st next w k token (length (linear_code (shape p n) o)) left
 module_runs turns made values agree i pick p n m st next w back o wants e0 k token left h running at calls asks is reply free plains ints callee =

@@ -44,7 +44,7 @@ pub record RaisedFor (p q : Plan) (i : CleanImage) (pick : ℕ → ℕ) (st next
 -- has its object in a slot that was vacant.
 abbrev pub ModulesRaise : Type 0
 ModulesRaise = (i : CleanImage) (pick : ℕ → ℕ) (p : Plan) (n m : ℕ) (st next : State) (w : abi.World) (o : LinearOp) (wants : Option Place) (v : Value) (k token : ℕ) (left : List Reply) → Matches p st w → IsRunning p i w.hart → StepAt p st next n o →
-    CallsBuiltin Module (argument_then (int_argument v) no_arguments) wants o → ValueAsked p n st.top.frame v → value_in (slot_kinds p n) st.top.frame st.world v ≡ Some (pos k) → slice_get st.world.replies k ≡ Some (Raise token ∷ left) →
+    CallsBuiltin Module (argument_then (int_argument v) no_arguments) wants o → ValueAsked p n st.top.frame st.world v → value_in (slot_kinds p n) st.top.frame st.world v ≡ Some (pos k) → slice_get st.world.replies k ≡ Some (Raise token ∷ left) →
     is_full st.world ≡ false → PadsArePlain p → FiltersAreInts p → next.top.function ≡ compiled m →
     let e = st.world.last_number + 1 in
     Shows st next (Foreign e k token ∷ []) × (slot : ℕ) × (slot < slots) × RaisedFor p (with_object p e slot) i pick st next w e (length (linear_code (shape p n) o)) (Foreign e k token ∷ [])
