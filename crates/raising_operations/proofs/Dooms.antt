@@ -12,8 +12,7 @@ use Rattle.cxa_runtime.specs.Objects.{object_of, object_where, is_building}
 use Rattle.cxa_runtime.specs.World as abi
 use Rattle.cxa_runtime.specs.World.{argument, needs}
 use Rattle.cxa_runtime.specs.Raising.{Image}
-use Rattle.cxa_runtime.specs.Throw.{native_object, flying, throws, throw as throw_effect}
-use Rattle.cxa_runtime.specs.Call.{call_effect, numbered}
+use Rattle.cxa_runtime.specs.Throw.{native_object, flying, throws}
 use Rattle.eh_run.specs.Program.{program_of}
 use Rattle.region_forms.specs.Form.{throw}
 use Rattle.region_forms.specs.World.{World, Exception, building, native, exception_of, exception_in_slot, exception_type}
@@ -26,7 +25,6 @@ use Rattle.linear_forms.specs.Activation.{State as LinearState}
 use Rattle.linear_forms.specs.Operation.{performed}
 use Rattle.linear_forms.specs.UnitRun.{code_of}
 use Rattle.emission_forms.specs.Registers.{sp, a0, a1, a2}
-use Rattle.emission_forms.specs.RuntimeCall.{runtime_call}
 use Rattle.emission_forms.specs.OperationCode.{destructor_set}
 use Rattle.emission_forms.specs.LinearCode.{linear_code}
 use Rattle.emission_forms.specs.Routine.{op_word}
@@ -51,7 +49,7 @@ use Rattle.raising_operations.specs.Stacks.{IsRunning, InCall}
 use Rattle.raising_operations.proofs.Replaced.{replaced_in}
 use Rattle.raising_operations.proofs.Native.{counts_building, thrown_object}
 use Rattle.raising_operations.proofs.ThrowWords.{throw_given}
-use Rattle.std.proofs.Common.{is_some, ◌≡◌, ◌∙◌, refl, sym, ap, subst, arith, ℕ, ◌+◌, ◌^◌, ◌<◌, ◌≤◌, List, [], ◌∷◌, length, length-append, map, Option, Some, None, inl, inr}
+use Rattle.std.proofs.Common.{is_some, ◌≡◌, ◌∙◌, refl, sym, ap, subst, arith, ℕ, ◌+◌, ◌^◌, ◌<◌, ◌≤◌, [], ◌∷◌, length, map, Option, Some, None, inl, inr}
 use Rattle.std.specs.Prelude.{◌⊎◌, slice_get, false, if◌then◌else◌}
 use Rattle.raise_core.specs.Raise as unwinder
 use Rattle.raise_core.specs.declared.raised.Raised.{Raised}
@@ -80,25 +78,10 @@ use Rattle.linear_forms.specs.Activation.{Next, at as linear_at, finishes, by_pr
 use Rattle.linear_forms.specs.Search.{found}
 use Rattle.linear_forms.specs.Unwinding.{raised_to, unwind, doomed_by}
 use Rattle.raising_operations.proofs.Doomed.{doomed_runtime}
-use Rattle.raising_operations.proofs.Throwing.{running_still}
+use Rattle.raising_operations.proofs.Throwing.{throw_is, throws_as, throw_words, running_still}
 use Rattle.raising_operations.specs.Throws.{MayThrow}
 use Rattle.operation_simulation.proofs.Holding.{same_number}
 use Rattle.operation_simulation.proofs.Lines.{matches_alike}
-
-throw_is : (image : Image) (wish : ℕ) (t : abi.World) → call_effect 5 image wish t ≡ throw_effect image t
-unfolding call_effect numbered
-throw_is image wish t = refl
-
-throws_as : (image : Image) (y : abi.World) (slot rec k : ℕ) (h : Header) (types : List ℕ) (out : abi.Outcome) → object_where is_building y.exceptions.live (argument y 10) ≡ Some (record { slot = slot; header = h }) → argument y 11 ≡ rec →
-    type_records y.hart rec ≡ Some types → argument y 12 ≡ k → throws image y (native_object y (record { slot = slot; header = h }) rec k) types ≡ out → throw_effect image y ≡ out
-throws_as image y slot rec k h types out found type read function effect =
-    let o : Object = record { slot = slot; header = h } in
-    ap (λ f. needs y f (λ b. needs y (type_records y.hart (argument y 11)) (λ records. throws image y (native_object y b (argument y 11) (argument y 12)) records))) found
-    ∙ ap (λ a. needs y (type_records y.hart a) (λ records. throws image y (native_object y o a (argument y 12)) records)) type ∙ ap (λ f. needs y f (λ records. throws image y (native_object y o rec (argument y 12)) records)) read
-    ∙ ap (λ a. throws image y (native_object y o rec a) types) function ∙ effect
-
-throw_words : (p : Plan) (n s t : ℕ) (d : Option ℕ) → length (linear_code (shape p n) (plain (throw s t d))) ≡ 3 + length (destructor_set a2 d) + 2
-throw_words p n s t d = omega (arith, length-append (destructor_set a2 d) (runtime_call 5))
 
 -- where terminate does not run yet, the handler kept with the exception is used
 pub doom_called : CallsAreTurns → RaisesAgree → (i : CleanImage) (p : Plan) (n m s e t : ℕ) (d : Option ℕ) (st : LinearState) (w : abi.World) (back : ℕ) → Stands p n st w back → IsRunning p i w.hart →

@@ -60,7 +60,7 @@ use Rattle.raising_operations.specs.Forced.{ForcedAsked, KeepsAll, ForcedRun}
 use Rattle.raising_operations.proofs.Stacks.{all_opens, all_tail, opens_are, stack_unwound}
 use Rattle.raising_operations.proofs.Passing.{forced_goes, forced_stops}
 use Rattle.raising_operations.proofs.Selectors.{forced_zero, forced_selects}
-use Rattle.raising_operations.proofs.Targeted.{begins_terminating}
+use Rattle.raising_operations.proofs.Passing.{begins_terminating}
 use Rattle.raising_operations.proofs.Throwing.{running_still}
 use Rattle.raising_operations.proofs.Resuming.{resume_is}
 use Rattle.raising_operations.proofs.Arriving.{LandsTo, lands_to}

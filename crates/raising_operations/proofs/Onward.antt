@@ -26,7 +26,8 @@ use Rattle.operation_simulation.specs.Plan.{Plan}
 use Rattle.operation_simulation.specs.Exceptions.{addresses_of, HeaderIs}
 use Rattle.exception_operations.specs.Enters.{IsThrown}
 use Rattle.raising_operations.specs.Stacks.{IsRunning}
-use Rattle.raising_operations.specs.Resumes.{TypeIsThere, HasTarget}
+use Rattle.flight_simulation.specs.Targets.{HasTarget}
+use Rattle.raising_operations.specs.Resumes.{TypeIsThere}
 
 -- ---- what the runtime throws
 pub type_base : (p : Plan) (t : Option ℕ) → TypeIsThere p t → BaseIsThere (length p.unit.types) t

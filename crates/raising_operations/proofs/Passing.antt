@@ -9,7 +9,7 @@ use Rattle.linear_forms.specs.Linear.{plain, label, jump, jump_zero, pad, jump_f
 use Rattle.linear_forms.specs.Tables.{Cover, bare, unpadded, padded}
 use Rattle.linear_forms.specs.Verdict.{Verdict, target, no_way, clean, nothing_here, pad_verdict, has_cleanup}
 use Rattle.linear_forms.specs.Stub.{Function, end_catch, call_unexpected, terminating, CodeOp, linear, runtime}
-use Rattle.linear_forms.specs.Activation.{Code, Activation, State, Next, goes_to, finishes, by_program, fault, fetch, look, sense, stub_frame, function_word}
+use Rattle.linear_forms.specs.Activation.{Code, Activation, State, Next, goes_to, finishes, by_program, fault, fetch, look, sense, stub_frame, function_word, terminated}
 use Rattle.linear_forms.specs.Unwinding.{pad_entered, terminated_in, unwound_by, unwound_at, unwound_above}
 use Rattle.linear_forms.specs.Forced.{forced_by, forced_at, forced_above}
 use Rattle.raise_simulation.specs.Verdicts.{judged_by, forced_verdict, forced_by_table, cover_of}
@@ -61,23 +61,21 @@ pub one_of_both : (b : Bool) (x y : Next) (st : State) → (if b then x else y) 
 one_of_both true x y st e = inl e
 one_of_both false x y st e = inr e
 
-terminate_stops : (f : Function) (frame : Frame) (fs : List Activation) (w : World) → StopsAt fs (terminated_in f frame fs w)
-terminate_stops f frame fs w st e =
-    by (one_of_both w.ending (finishes (by_program aborted) w) (goes_to begun) st e)
+pub begins_terminating : (h : Option ℕ) (fs : List Activation) (w : World) (st : State) → terminated h fs w ≡ goes_to st → st.top.function ≡ terminating
+begins_terminating h fs w st e = by (one_of_both w.ending (finishes (by_program aborted) w) (goes_to begun) st e)
   where
     begun : State
-    begun = record {
-      top = record { function = terminating; place = 0; frame = stub_frame (function_word w.installed.terminate_handler) nothing nothing };
-      frames = record { function = f; place = 0; frame = frame } ∷ fs;
-      world = record w { ending = is_some w.installed.terminate_handler };
-    }
+    begun = record { top = record { function = terminating; place = 0; frame = stub_frame (function_word h) nothing nothing }; frames = fs; world = record w { ending = is_some h } }
 
     same : (a b : State) → goes_to a ≡ goes_to b → a ≡ b
     same a b e = cc
 
-    by : (finishes (by_program aborted) w ≡ goes_to st) ⊎ (goes_to begun ≡ goes_to st) → (st.frames ≡ fs) ⊎ (st.top.function ≡ terminating)
-    by (inl f) = absurd (cc f)
-    by (inr f) = inr (ap (λ x. x.top.function) (sym (same begun st f)))
+    by : (finishes (by_program aborted) w ≡ goes_to st) ⊎ (goes_to begun ≡ goes_to st) → st.top.function ≡ terminating
+    by (inl g) = absurd (cc g)
+    by (inr g) = ap (λ x. x.top.function) (sym (same begun st g))
+
+terminate_stops : (f : Function) (frame : Frame) (fs : List Activation) (w : World) → StopsAt fs (terminated_in f frame fs w)
+terminate_stops f frame fs w st e = inr (begins_terminating w.installed.terminate_handler (record { function = f; place = 0; frame = frame } ∷ fs) w st e)
 
 -- ---- all calls
 -- an unwind goes call by call: it passes one, or stops there

@@ -64,11 +64,12 @@ use Rattle.raising_operations.specs.Stacks.{IsRunning, InCall}
 use Rattle.raising_operations.specs.Pads.{PadGets, PadsArePlain, FiltersAreInts}
 use Rattle.raising_operations.specs.Targets.{target_end}
 use Rattle.raising_operations.specs.Throws.{AimedAt}
-use Rattle.raising_operations.specs.Resumes.{HasTarget, ResumeAsked, ResumesRun}
+use Rattle.flight_simulation.specs.Targets.{HasTarget}
+use Rattle.raising_operations.specs.Resumes.{ResumeAsked, ResumesRun}
 use Rattle.raising_operations.proofs.Stacks.{all_opens, all_tail, opens_are, stack_raised}
 use Rattle.raising_operations.proofs.Passing.{raise_goes, raise_stops}
 use Rattle.raising_operations.proofs.Selectors.{raise_selects}
-use Rattle.raising_operations.proofs.Targeted.{begins_terminating}
+use Rattle.raising_operations.proofs.Passing.{begins_terminating}
 use Rattle.raising_operations.proofs.Aiming.{whole_end}
 use Rattle.raising_operations.proofs.Throwing.{running_still}
 use Rattle.raising_operations.proofs.Onward.{type_base, thrown_known, is_target}

@@ -65,7 +65,8 @@ use Rattle.raising_operations.specs.Targets.{target_end}
 use Rattle.raising_operations.specs.Throws.{Raised}
 use Rattle.raising_operations.specs.Resumes.{TypeIsThere}
 use Rattle.raising_operations.specs.Rethrows.{RethrowsRun}
-use Rattle.raising_operations.proofs.Targeted.{begins_terminating, targeted}
+use Rattle.raising_operations.proofs.Passing.{begins_terminating}
+use Rattle.raising_operations.proofs.Targeted.{targeted}
 use Rattle.raising_operations.proofs.Throwing.{running_still}
 use Rattle.raising_operations.proofs.Onward.{type_base, thrown_known}
 use Rattle.raising_operations.proofs.Again.{aimed_match, again_match}

@@ -1,23 +1,21 @@
 -- The selectors that pads are entered with.
 use Rattle.std.proofs.Common.{◌≡◌, ◌∙◌, refl, sym, ap, subst, arith, ℕ, ◌<◌, ◌==◌, ℤ, pos, Bool, true, false, List, [], ◌∷◌, ◌++◌, length, length-append, Option, Some, None, inl, inr}
-use Rattle.std.specs.Prelude.{◌⊎◌, is_some, if◌then◌else◌}
+use Rattle.std.specs.Prelude.{◌⊎◌, if◌then◌else◌}
 use Rattle.std.specs.List.{AllByRecursion}
 use Rattle.std.proofs.lemmas.Bool.Decides.{nat_tests}
-use Rattle.scope_rules.specs.Outcome.{aborted}
 use Rattle.region_forms.specs.Form.{TypeRow}
 use Rattle.region_forms.specs.Guard.{matches, allows}
 use Rattle.region_forms.specs.World.{Word, number_word, flying, unwinding, Frame, World, type_at, with_slot}
 use Rattle.linear_forms.specs.Tables.{padded, Sense, cleanup, clause, list_of, no_sense}
 use Rattle.linear_forms.specs.Verdict.{Verdict, target, no_way, clean, nothing_here, or_clean, judged, verdict, pad_verdict, has_cleanup}
 use Rattle.linear_forms.specs.Stub.{Function, terminating, CodeOp}
-use Rattle.linear_forms.specs.Activation.{Code, Activation, State, Next, goes_to, finishes, by_program, fault, fetch, sense, stub_frame, function_word}
-use Rattle.region_forms.specs.World.{nothing}
-use Rattle.linear_forms.specs.Unwinding.{pad_entered, terminated_in, unwound_by, unwound_at, unwound_above}
+use Rattle.linear_forms.specs.Activation.{Code, Activation, State, Next, goes_to, finishes, fault, fetch, sense}
+use Rattle.linear_forms.specs.Unwinding.{pad_entered, unwound_by, unwound_at, unwound_above}
 use Rattle.linear_forms.specs.Forced.{forced_by, forced_at, forced_above}
 use Rattle.code_simulation.specs.Numbers.{IsInt}
 use Rattle.raise_simulation.specs.Verdicts.{judged_by, forced_by_table, cover_of}
 use Rattle.raise_simulation.specs.Opens.{Judge}
-use Rattle.raising_operations.proofs.Passing.{pad_is, Passed, StopsAt, one_of_both, GoesByCalls}
+use Rattle.raising_operations.proofs.Passing.{pad_is, Passed, StopsAt, one_of_both, begins_terminating, GoesByCalls}
 
 -- ---- what a verdict selects is one of its filters
 chosen : (rows : List TypeRow) (senses : ℤ → Sense) (chain : List ℤ) (t : Option ℕ) (n : ℤ) → verdict rows senses chain t ≡ target n → AllByRecursion IsInt chain → IsInt n
@@ -71,23 +69,6 @@ one_selector o x y n m f p frame fs w u st one two =
     cc words
 
 -- ---- where an unwind stops
-terminates_there : (f : Function) (frame : Frame) (fs : List Activation) (w : World) (st : State) → terminated_in f frame fs w ≡ goes_to st → st.top.function ≡ terminating
-terminates_there f frame fs w st e = by (one_of_both w.ending (finishes (by_program aborted) w) (goes_to begun) st e)
-  where
-    begun : State
-    begun = record {
-      top = record { function = terminating; place = 0; frame = stub_frame (function_word w.installed.terminate_handler) nothing nothing };
-      frames = record { function = f; place = 0; frame = frame } ∷ fs;
-      world = record w { ending = is_some w.installed.terminate_handler };
-    }
-
-    same : (a b : State) → goes_to a ≡ goes_to b → a ≡ b
-    same a b e = cc
-
-    by : (finishes (by_program aborted) w ≡ goes_to st) ⊎ (goes_to begun ≡ goes_to st) → st.top.function ≡ terminating
-    by (inl g) = absurd (cc g)
-    by (inr g) = ap (λ x. x.top.function) (sym (same begun st g))
-
 -- an unwind leaves fewer calls
 fewer : (code : Code) (judge : Judge) (go : List Activation → Next) (fs : List Activation) (st : State) → GoesByCalls code judge go → (go [] ≡ goes_to st → ⊥) → go fs ≡ goes_to st →
     (length st.frames < length fs) ⊎ (st.top.function ≡ terminating)
@@ -134,7 +115,7 @@ raise_selects code d e w steps a fs st q chain word n u goes frames live cover p
             let same : k ≡ n = one_selector (fetch code a.function q) (flying e d) word k n a.function q a.frame fs w u st h pad in
             pad_chosen code.rows (sense code a.function) chain (type_at w e) n (said ∙ ap target same) ints
         one (inr h) = absurd (cc h)
-    by no_way said g = absurd (live (terminates_there a.function a.frame fs w st g))
+    by no_way said g = absurd (live (begins_terminating w.installed.terminate_handler (record { function = a.function; place = 0; frame = a.frame } ∷ fs) w st g))
     by clean said g =
         let same : pos 0 ≡ n = one_selector (fetch code a.function q) (flying e d) word (pos 0) n a.function q a.frame fs w u st g pad in
         cc same

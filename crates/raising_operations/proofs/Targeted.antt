@@ -1,27 +1,14 @@
 -- A raise that comes to a call has a target.
-use Rattle.std.proofs.Common.{◌≡◌, refl, sym, ap, ℕ, List, ◌∷◌, Option, Some, None, inl, inr}
-use Rattle.std.specs.Prelude.{◌⊎◌, is_some}
+use Rattle.std.proofs.Common.{◌≡◌, refl, ℕ, List, ◌∷◌, Option, Some, None, inl, inr}
+use Rattle.std.specs.Prelude.{◌⊎◌}
 use Rattle.scope_rules.specs.Outcome.{aborted}
-use Rattle.region_forms.specs.World.{nothing, World, Exception, building, native, foreign, exception_at, type_at}
+use Rattle.region_forms.specs.World.{World, Exception, building, native, foreign, exception_at, type_at}
 use Rattle.region_forms.specs.Effect.{entered_doomed, flies}
 use Rattle.linear_forms.specs.Search.{found_above}
 use Rattle.linear_forms.specs.Stub.{terminating}
-use Rattle.linear_forms.specs.Activation.{Code, Activation, State, goes_to, finishes, by_program, stub_frame, function_word, terminated, look}
+use Rattle.linear_forms.specs.Activation.{Code, Activation, State, goes_to, finishes, by_program, look}
 use Rattle.linear_forms.specs.Unwinding.{unwind, unwound_above, doomed_by, doomed, raised_to, raise}
-use Rattle.raising_operations.proofs.Passing.{one_of_both}
-
-pub begins_terminating : (h : Option ℕ) (fs : List Activation) (w : World) (st : State) → terminated h fs w ≡ goes_to st → st.top.function ≡ terminating
-begins_terminating h fs w st e = by (one_of_both w.ending (finishes (by_program aborted) w) (goes_to begun) st e)
-  where
-    begun : State
-    begun = record { top = record { function = terminating; place = 0; frame = stub_frame (function_word h) nothing nothing }; frames = fs; world = record w { ending = is_some h } }
-
-    same : (a b : State) → goes_to a ≡ goes_to b → a ≡ b
-    same a b e = cc
-
-    by : (finishes (by_program aborted) w ≡ goes_to st) ⊎ (goes_to begun ≡ goes_to st) → st.top.function ≡ terminating
-    by (inl g) = absurd (cc g)
-    by (inr g) = ap (λ x. x.top.function) (sym (same begun st g))
+use Rattle.raising_operations.proofs.Passing.{one_of_both, begins_terminating}
 
 doomed_terminates : (e : ℕ) (fs : List Activation) (w : World) (st : State) → doomed e fs w ≡ goes_to st → st.top.function ≡ terminating
 doomed_terminates e fs w st h = by (one_of_both w.ending (finishes (by_program aborted) w) (doomed_by e (exception_at w e) fs w) st h)

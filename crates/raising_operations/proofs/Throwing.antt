@@ -70,13 +70,13 @@ use Rattle.raising_operations.proofs.ThrowWords.{throw_given}
 use Rattle.raising_operations.proofs.Targeted.{targeted}
 use Rattle.raising_operations.proofs.Raised.{raise_lands}
 
-throw_is : (image : Image) (wish : ℕ) (t : abi.World) → call_effect 5 image wish t ≡ throw_effect image t
+pub throw_is : (image : Image) (wish : ℕ) (t : abi.World) → call_effect 5 image wish t ≡ throw_effect image t
 unfolding call_effect numbered
 throw_is image wish t = refl
 
-throws_so : (image : Image) (y : abi.World) (slot rec k : ℕ) (h : Header) (types : List ℕ) (next : abi.World) → object_where is_building y.exceptions.live (argument y 10) ≡ Some (record { slot = slot; header = h }) → argument y 11 ≡ rec →
-    type_records y.hart rec ≡ Some types → argument y 12 ≡ k → throws image y (native_object y (record { slot = slot; header = h }) rec k) types ≡ abi.goes next → throw_effect image y ≡ abi.goes next
-throws_so image y slot rec k h types next found type read function effect =
+pub throws_as : (image : Image) (y : abi.World) (slot rec k : ℕ) (h : Header) (types : List ℕ) (out : abi.Outcome) → object_where is_building y.exceptions.live (argument y 10) ≡ Some (record { slot = slot; header = h }) → argument y 11 ≡ rec →
+    type_records y.hart rec ≡ Some types → argument y 12 ≡ k → throws image y (native_object y (record { slot = slot; header = h }) rec k) types ≡ out → throw_effect image y ≡ out
+throws_as image y slot rec k h types out found type read function effect =
     let o : Object = record { slot = slot; header = h } in
     ap (λ f. needs y f (λ b. needs y (type_records y.hart (argument y 11)) (λ records. throws image y (native_object y b (argument y 11) (argument y 12)) records))) found
     ∙ ap (λ a. needs y (type_records y.hart a) (λ records. throws image y (native_object y o a (argument y 12)) records)) type ∙ ap (λ f. needs y f (λ records. throws image y (native_object y o rec (argument y 12)) records)) read
@@ -117,7 +117,7 @@ throw_step p n s e t d st next at holds =
 pub running_still : (p : Plan) (i : CleanImage) (s u : State) → u.memory ≡ s.memory → IsRunning p i s → IsRunning p i u
 running_still p i s u same h = record { image = h.image; lists = h.lists; base = h.base; run = ap frozen same ∙ h.run }
 
-throw_words : (p : Plan) (n s t : ℕ) (d : Option ℕ) → length (linear_code (shape p n) (plain (throw s t d))) ≡ 3 + length (destructor_set a2 d) + 2
+pub throw_words : (p : Plan) (n s t : ℕ) (d : Option ℕ) → length (linear_code (shape p n) (plain (throw s t d))) ≡ 3 + length (destructor_set a2 d) + 2
 throw_words p n s t d = omega (arith, length-append (destructor_set a2 d) (runtime_call 5))
 
 throw_runs : CallsAreTurns → CallsAreMade → RaisesAgree → (i : CleanImage) (p : Plan) (n m s e t : ℕ) (d : Option ℕ) (st next : LinearState) (w : abi.World) (back : ℕ) → Stands p n st w back → IsRunning p i w.hart →
@@ -168,7 +168,7 @@ throw_runs turns made agree i p n m s e t d st next w back h running at may plai
     (ap (λ k. found_above (code_of p.unit) k (st.top ∷ st.frames)) (sym type) ∙ goal.found) goal.unwound callee plains ints refl refl (omega arith)
     (λ cfa table. thrown_runtime p st.frames v y e slot t given.function d cfa table r live.has kind stepped.building given.is)
     (omega (arith, q.exceptions.numbers e building stepped.building), sym live.object, omega (arith, live.below)) in
-    let effect : (wish : ℕ) → call_effect 5 image wish y ≡ abi.goes lands.next = λ wish. throw_is image wish y ∙ throws_so image y slot rec given.function header types lands.next found is1 read is2 lands.effect in
+    let effect : (wish : ℕ) → call_effect 5 image wish y ≡ abi.goes lands.next = λ wish. throw_is image wish y ∙ throws_as image y slot rec given.function header types (abi.goes lands.next) found is1 read is2 lands.effect in
     let called = subst (Turns image (ec.turns + 1) w (counted lands.next)) lands.shown (call_made made image g here words 5 w given.goes.after ec lands.next effect) in
     let flown : abi.World = flying o y in
     let cfa : ℕ = target_end p goal.depth (x ec.behind sp) (st.top ∷ st.frames) in

@@ -1,6 +1,5 @@
 -- An exception that was stopped for a cleanup goes on.
-use Rattle.std.specs.Prelude.{⊤, ◌≡◌, ◌≢◌, ℕ, ◌+◌, ◌^◌, ◌<◌, false, ℤ, List, [], ◌∷◌, ◌++◌, length, Option, Some, None}
-use Rattle.std.specs.List.{AllByRecursion}
+use Rattle.std.specs.Prelude.{⊤, ◌≡◌, ℕ, ◌+◌, ◌^◌, ◌<◌, false, [], ◌∷◌, length, Option, Some, None}
 use Rattle.scope_rules.specs.Class.{contains}
 use Rattle.rv64_isa.specs.Step.{x}
 use Rattle.elf_image.specs.Clean.{CleanImage}
@@ -8,16 +7,14 @@ use Rattle.cxa_runtime.specs.World as abi
 use Rattle.eh_run.specs.Program.{program_of}
 use Rattle.region_forms.specs.World.{flying, Exception, exception_type}
 use Rattle.linear_forms.specs.Linear.{resume}
-use Rattle.linear_forms.specs.Tables.{bare, padded}
-use Rattle.linear_forms.specs.Verdict.{target}
 use Rattle.linear_forms.specs.Stub.{compiled}
-use Rattle.linear_forms.specs.Activation.{Code, Activation, State}
+use Rattle.linear_forms.specs.Activation.{State}
 use Rattle.linear_forms.specs.UnitRun.{code_of}
 use Rattle.emission_forms.specs.Registers.{sp}
 use Rattle.emission_forms.specs.Shape.{slot_offset}
 use Rattle.emission_forms.specs.LinearCode.{linear_code}
 use Rattle.routine_tables.specs.Types.{ChainEnds}
-use Rattle.raise_simulation.specs.Verdicts.{cover_of, judged_by}
+use Rattle.flight_simulation.specs.Targets.{HasTarget}
 use Rattle.operation_simulation.specs.Plan.{Plan, shape}
 use Rattle.operation_simulation.specs.Exceptions.{destroyed, live_in}
 use Rattle.operation_simulation.specs.Matches.{Matches}
@@ -35,20 +32,6 @@ use Rattle.raising_operations.specs.Throws.{AimedAt}
 abbrev pub TypeIsThere : Plan → Option ℕ → Type 0
 TypeIsThere p None = ⊤
 TypeIsThere p (Some t) = (t < length p.unit.types) × ChainEnds p.unit.types t
-
--- among open calls the one below which d wait stops an exception, and none inside it bars it
-pub record HasTarget (code : Code) (t : Option ℕ) (d : ℕ) (frames : List Activation) : Type 0 where
-  pub inner : List Activation
-  pub stopping : Activation
-  pub outer : List Activation
-  pub split : frames ≡ inner ++ stopping ∷ outer
-  pub passed : AllByRecursion (λ b. cover_of code b ≢ bare) inner
-  pub depth : length outer ≡ d
-  pub pad : ℕ
-  pub chain : List ℤ
-  pub covers : cover_of code stopping ≡ padded pad chain
-  pub selector : ℤ
-  pub stops : judged_by code stopping t chain ≡ target selector
 
 -- an exception that was thrown is live, no destructor of it runs, and its type is there
 pub record TravelsOn (p : Plan) (st : State) (e : ℕ) (exception : Exception) : Type 0 where
