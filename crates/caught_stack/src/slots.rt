@@ -1,7 +1,7 @@
 // Stacks of slots.
-ghost use Rattle.std.specs.Prelude.{◌≡◌, ◌<◌, ◌≤◌, ℕ, List, [], ◌∷◌, Option, None, Some, length, IfOk};
+ghost use Rattle.std.specs.Prelude.{◌≡◌, ◌<◌, [], ◌∷◌, length, IfOk};
 ghost use Rattle.caught_stack.specs.Live.{slots};
-ghost use Rattle.caught_stack.specs.Slots.{below, popped, top_of, with_top};
+ghost use Rattle.caught_stack.specs.Slots.{below, popped};
 
 use crate::NoMemory;
 use std::alloc::Global;
@@ -55,29 +55,12 @@ impl SlotStack {
         self.pushed.len()
     }
 
-    /// The slot on top.
-    pub fn top(&self) -> Option<u32>
-        ensures { result ≡ top_of self.now }
-    {
-        self.pushed.last().copied()
-    }
-
     /// Puts a slot on top.
     pub fn push(&mut self, slot: u32)
         requires { length self.old < slots }
         ensures { self.new ≡ slot ∷ self.old }
     {
         self.pushed.push_reserved(slot);
-    }
-
-    /// Puts a slot on top, unless it is there.
-    pub fn bring(&mut self, slot: u32)
-        requires { length (with_top slot self.old) ≤ slots }
-        ensures { self.new ≡ with_top slot self.old }
-    {
-        if self.top() != Some(slot) {
-            self.push(slot);
-        }
     }
 
     /// Takes the slot on top.

@@ -8,7 +8,7 @@ ghost use Rattle.caught_stack.specs.Begin.{begun};
 ghost use Rattle.caught_stack.specs.End.{ended};
 ghost use Rattle.caught_stack.specs.Rethrow.{rethrown};
 
-use crate::counts::Counts;
+use crate::nodes::HeaderNodes;
 use crate::slots::{SLOTS, SlotStack};
 use crate::{Ended, Header, NoMemory};
 use std::alloc::Global;
@@ -19,9 +19,7 @@ use std::marker::Model;
 /// After `new` no call takes memory, and each takes the same time however many exceptions are live or caught.
 #[derive(Debug, Drop)]
 pub struct CaughtStack {
-    headers: Vec<Option<Header>>,
-    counts: Counts,
-    caught: SlotStack,
+    nodes: HeaderNodes,
     vacant: SlotStack,
     uncaught: u32,
 }
@@ -32,20 +30,9 @@ impl Model for CaughtStack {
 
     ghost Value = { Exceptions };
 
-    ghost view = { λ a. exceptions_of a.headers.items a.counts a.caught a.uncaught };
+    ghost view = { λ a. exceptions_of a.nodes.live a.nodes.counts a.nodes.caught a.uncaught };
 
-    ghost invariant = { λ a. IsKept a.headers.items a.counts a.caught a.vacant a.uncaught };
-}
-
-// A place for a header in each slot, all of them vacant.
-fn all_vacant(alloc: Global) -> Result<Vec<Option<Header>>, NoMemory>
-    ensures { IfOk result (λ headers. headers.items ≡ all_vacant) }
-{
-    let mut headers = Vec::with_capacity(alloc, SLOTS)?;
-    for _ in 0..SLOTS {
-        headers.push(None)?;
-    }
-    Ok(headers)
+    ghost invariant = { λ a. IsKept a.nodes.live a.nodes.counts a.nodes.caught a.vacant a.uncaught };
 }
 
 impl CaughtStack {
@@ -54,9 +41,7 @@ impl CaughtStack {
         ensures { IfOk result (λ stack. stack ≡ no_exceptions) }
     {
         Ok(CaughtStack {
-            headers: all_vacant(alloc)?,
-            counts: Counts::new(alloc)?,
-            caught: SlotStack::new(alloc)?,
+            nodes: HeaderNodes::new(alloc)?,
             vacant: SlotStack::full(alloc)?,
             uncaught: 0,
         })
@@ -68,7 +53,7 @@ impl CaughtStack {
         ensures gives { Allocates header self.old self.new result }
     {
         let slot = self.vacant.pop()?;
-        self.headers[slot as usize] = Some(header);
+        self.nodes.insert(slot, header);
         Some(slot)
     }
 
@@ -78,7 +63,7 @@ impl CaughtStack {
         requires not_caught { IsTrue (not (is_caught self.old.caught slot)) }
         ensures { self.new ≡ freed slot self.old }
     {
-        self.headers[slot as usize] = None;
+        self.nodes.remove(slot);
         self.vacant.push(slot);
     }
 
@@ -86,7 +71,7 @@ impl CaughtStack {
     pub fn header(&self, slot: u32) -> Option<Header>
         ensures { result ≡ header_of self.now.live slot }
     {
-        *self.headers.get(slot as usize)?
+        self.nodes.header(slot)
     }
 
     /// Puts another header in the place of the slot's.
@@ -94,7 +79,7 @@ impl CaughtStack {
         requires { IsTrue (is_live self.old.live slot) }
         ensures { self.new ≡ with_header slot header self.old }
     {
-        self.headers[slot as usize] = Some(header);
+        self.nodes.set_header(slot, header);
     }
 
     /// Enters a handler for the exception, which is live, and the most recent that is caught or not caught.
@@ -105,8 +90,8 @@ impl CaughtStack {
         requires in_front { IsTrue (is_in_front self.old.caught slot) }
         ensures { self.new ≡ begun slot self.old }
     {
-        self.caught.bring(slot);
-        self.counts.enter(slot);
+        self.nodes.bring(slot);
+        self.nodes.enter(slot);
         self.uncaught -= 1;
     }
 
@@ -114,10 +99,10 @@ impl CaughtStack {
     pub fn end(&mut self) -> Option<Ended>
         ensures { (result, self.new) ≡ ended self.old }
     {
-        let slot = self.caught.top()?;
-        let ended = self.counts.leave(slot);
-        if self.counts.is_zero(slot) {
-            self.caught.pop();
+        let slot = self.nodes.top()?;
+        let ended = self.nodes.leave(slot);
+        if self.nodes.is_zero(slot) {
+            self.nodes.unlink();
         }
         Some(ended)
     }
@@ -126,8 +111,8 @@ impl CaughtStack {
     pub fn rethrow(&mut self) -> Option<u32>
         ensures { (result, self.new) ≡ rethrown self.old }
     {
-        let newest = self.caught.top()?;
-        if self.counts.negate(newest) {
+        let newest = self.nodes.top()?;
+        if self.nodes.negate(newest) {
             self.uncaught += 1;
             Some(newest)
         } else {
@@ -148,14 +133,14 @@ impl CaughtStack {
         ensures value { result ≡ newest self.now.caught }
         ensures sound { IsSound self.now }
     {
-        self.caught.top()
+        self.nodes.top()
     }
 
     /// How many exceptions are caught, each counted once.
     pub fn depth(&self) -> usize
         ensures { result ≡ length self.now.caught }
     {
-        self.caught.len()
+        self.nodes.depth()
     }
 
     /// The handlerCount of an exception, negative where it is thrown again, and 0 where it is not caught.
@@ -163,7 +148,14 @@ impl CaughtStack {
         ensures value { result ≡ handler_count self.now.caught slot }
         ensures caught { is_caught self.now.caught slot ≡ is_counted result }
     {
-        self.counts.get(slot)
+        self.nodes.count(slot)
+    }
+
+    /// How many exceptions are live.
+    pub fn live(&self) -> u32
+        ensures { result ≡ live_count self.now.live }
+    {
+        (SLOTS - self.vacant.len()) as u32
     }
 
     /// How many exceptions are uncaught.

@@ -24,10 +24,10 @@ use Rattle.region_forms.specs.Layout.{layout_of}
 use Rattle.region_forms.specs.Numbering.{number_of, variables_of}
 use Rattle.region_forms.specs.LowerExpression.{int_passed, address_passed, place_of, lvalue_type, copies, constructor_chosen, lower, lower_construct}
 use Rattle.region_forms.specs.Mentioned.{slots_of, slots_of_root, slots_of_arguments}
-use Rattle.region_forms.specs.WellFormed.{holds_address, slot_test, fit, count_of, address_place, takes_object}
+use Rattle.region_forms.specs.WellFormed.{is_reference, slot_test, fit, count_of, address_place, takes_object}
 use Rattle.region_ir.specs.AtNumber.{IsThere, called_function}
 use Rattle.region_ir.proofs.AtNumber.{at_number}
-use Rattle.region_ir.proofs.Specials.{own_address, take_objects}
+use Rattle.region_ir.proofs.Specials.{own_reference, take_objects}
 use Rattle.checked_regions.proofs.Fine.{Fine, fine_parts}
 use Rattle.checked_regions.proofs.Meant.{Typed, HasKind, Given, lowering_in, slots_in, regions_in, classes_in, Reach}
 use Rattle.checked_regions.proofs.Arguments.{kinded, lvalue_meant, Suited, SuitedOne, suited}
@@ -74,13 +74,13 @@ numbered_by g k given called f = of_class (slice_get g.env.classes k) refl f
 takes_fits : (g : Given) (c : Callee) (arguments : Arguments) → IsThere g.program c →
     (1 + count_of arguments == (called_function g.program (layout_of g.program) c).parameters) ≡ true →
     fit (called_function g.program (layout_of g.program) c).slots 1 arguments ≡ true →
-    slot_test holds_address (called_function g.program (layout_of g.program) c).slots 0 ≡ true →
+    slot_test is_reference (called_function g.program (layout_of g.program) c).slots 0 ≡ true →
     takes_object (regions_in g) (number_of g.program c) arguments ≡ true
 takes_fits g c arguments there counts fitting own =
     let p = g.program in
     let same : function_at (regions_in g) (number_of p c) ≡ called_function p (layout_of p) c =
     ap (λ o. unwrap_or o no_region_function) (at_number p (layout_of p) c there) in
-    both_true (call_fits p (layout_of p) c 1 arguments there counts fitting) (ap (λ f. slot_test holds_address f.slots 0) same ∙ own)
+    both_true (call_fits p (layout_of p) c 1 arguments there counts fitting) (ap (λ f. slot_test is_reference f.slots 0) same ∙ own)
 
 module _ (g : Given) (sc : Scope) (r : Reach g sc) (k : ℕ) (below : k < classes_in g) where
   by_number : (es : Expressions) → AreExpressions es → Numbered g k (all_judged g.env sc es) →
@@ -109,7 +109,7 @@ module _ (g : Given) (sc : Scope) (r : Reach g sc) (k : ℕ) (below : k < classe
             (arguments_fit (layout_of p) (called_function p (layout_of p) (constructor k (declared n.there.place))).slots (lowering_in g)
             (resolve_expressions g.env sc es) types 1 t shaped.0 count.1
             (parameter_slots (layout_of p) true f (called_function p (layout_of p) (constructor k (declared n.there.place))).body))
-            (own_address (layout_of p) (variables_of f) (called_function p (layout_of p) (constructor k (declared n.there.place))).body);
+            (own_reference (layout_of p) (variables_of f) (called_function p (layout_of p) (constructor k (declared n.there.place))).body);
       })
 
   -- an object is copied

@@ -25,7 +25,7 @@ use Rattle.region_forms.specs.Numbering.{declared_in}
 use Rattle.region_forms.specs.LowerExpression.{Lowered, result_slot, exception_slot, first_temporary, slot_place, place_of, lower, dropped, lower_construct}
 use Rattle.region_forms.specs.LowerStatement.{variable_slot, thrown_place, with_value, returning, initialised, bound_to, looping, scoped, caught_parameter, with_caught, handler}
 use Rattle.region_forms.specs.Mentioned.{slots_of, slots_of_all, slots_of_value, slots_of_clauses}
-use Rattle.region_forms.specs.WellFormed.{holds_address, address_place, clause_type_test}
+use Rattle.region_forms.specs.WellFormed.{is_reference, address_place, clause_type_test}
 use Rattle.region_ir.specs.Leaves.{clause_leaves_test}
 use Rattle.region_ir.proofs.Specials.{take_objects}
 use Rattle.checked_regions.proofs.Fine.{Fine, fine_parts, fine_sound}
@@ -106,9 +106,9 @@ module _ (g : Given) where
       one_pass (copied_passes g (class_named k) (slot_place (variable_slot (lowering_in g) n)) (thrown_place (lowering_in g)) (class_below kind k typed)
       (place_of_variable g n (Object k) kind e typed held).1 (thrown_there g))
   parameter_passes (IntRef const) kind n e typed held =
-      one_pass (op_passes (both_true (slot_there holds_address (slots_in g) (variable_slot (lowering_in g) n) _ (slot_of g n (IntRef const) e) refl) (thrown_there g)))
+      one_pass (op_passes (both_true (slot_there is_reference (slots_in g) (variable_slot (lowering_in g) n) _ (slot_of g n (IntRef const) e) refl) (thrown_there g)))
   parameter_passes (ObjectRef const k) kind n e typed held =
-      one_pass (op_passes (both_true (slot_there holds_address (slots_in g) (variable_slot (lowering_in g) n) _ (slot_of g n (ObjectRef const k) e) refl) (thrown_there g)))
+      one_pass (op_passes (both_true (slot_there is_reference (slots_in g) (variable_slot (lowering_in g) n) _ (slot_of g n (ObjectRef const k) e) refl) (thrown_there g)))
   parameter_passes Void kind n e typed held = absurd held
 
   pub caught_passes : (t : Ty) (kind : Kind) (n : ℕ) (body : ℕ → List Region) → slice_get g.variables n ≡ Some t → Typed (classes_in g) kind (object_type t) → IsHeld t →
@@ -231,9 +231,9 @@ module _ (g : Given) where
       address_place (regions_in g) (slots_in g) p ≡ true → Pass g (bound_to (lowering_in g) (bind_some n (Local sc.next)) p)
   reference_bound sc t i v None p there = none_pass
   reference_bound sc (IntRef const) i v (Some n) p there =
-      one_pass (op_passes (both_true (slot_there holds_address (slots_in g) (variable_slot (lowering_in g) sc.next) _ (slot_of g sc.next (IntRef const) v) refl) there))
+      one_pass (op_passes (both_true (slot_there is_reference (slots_in g) (variable_slot (lowering_in g) sc.next) _ (slot_of g sc.next (IntRef const) v) refl) there))
   reference_bound sc (ObjectRef const c) i v (Some n) p there =
-      one_pass (op_passes (both_true (slot_there holds_address (slots_in g) (variable_slot (lowering_in g) sc.next) _
+      one_pass (op_passes (both_true (slot_there is_reference (slots_in g) (variable_slot (lowering_in g) sc.next) _
       (slot_of g sc.next (ObjectRef const (resolve_class g.env sc c)) v) refl) there))
   reference_bound sc Int i v (Some n) p there = absurd i
   reference_bound sc Void i v (Some n) p there = absurd i

@@ -4,7 +4,7 @@ use Rattle.std.specs.Prelude.{map, slice_get, unwrap_or}
 use Rattle.std.proofs.lemmas.Bool.Decides.{nat_tests}
 use Rattle.std.proofs.lemmas.List.{length-map, length-append}
 use Rattle.region_forms.specs.Form.{Slot, SlotKind, int_slot, address_slot, object_slot, help_slot, kinds_of, kind_of, Callee, defined, builtin, Value, number, load, unary, binary, call_value, Argument, int_argument, address_argument, handler_argument, Arguments, no_arguments, argument_then, Op, evaluate, store, bind, call, construct, destroy, make, throw, rethrow, enter, leave, RegionFunction, Regions, function_at, no_function}
-use Rattle.region_forms.specs.WellFormed.{every, holds_address, is_help, slot_test, int_place, address_place, pure_value, argument_test, arguments_test, fits, fit, count_of, call_test, takes_object, callee_test, value_test, destructor_test, op_test, function_test}
+use Rattle.region_forms.specs.WellFormed.{every, holds_address, is_reference, is_help, slot_test, int_place, address_place, pure_value, argument_test, arguments_test, fits, fit, count_of, call_test, takes_object, callee_test, value_test, destructor_test, op_test, function_test}
 use Rattle.linear_forms.specs.Frame.{code_slots, has_pad}
 use Rattle.region_forms.specs.LowerProgram.{help}
 use Rattle.linear_forms.specs.Unit.{function_code, unit_of}
@@ -14,7 +14,7 @@ use Rattle.object_reach.specs.Rooms.{Reach}
 use Rattle.object_reach.specs.Reaches.{Needs, callee_needs, ValueReaches, ArgumentReaches, ArgumentsReach, OpReaches}
 use Rattle.code_asks.specs.Static.{ValueStatic, ArgumentStatic, ArgumentsStatic, BuiltinArgument, BuiltinArguments, CallStatic, CalleeStatic, ObjectStatic, TopStatic, DestructorStatic, OpStatic}
 use Rattle.code_asks.specs.Ints.{HasInts, ArgumentHasInts, HaveInts, OpHasInts}
-use Rattle.code_asks.proofs.Tests.{both_left, both_right, in_front, help_word, address_word, int_static, address_static}
+use Rattle.code_asks.proofs.Tests.{both_left, both_right, in_front, help_word, reference_word, int_static, address_static}
 
 -- a function by its number
 pub code_there : (fs : List RegionFunction) (d : RegionFunction) (m : ℕ) → m < length fs → slice_get (map function_code fs) m ≡ Some (function_code (unwrap_or (slice_get fs m) d))
@@ -133,21 +133,27 @@ module _ (r : Regions) (f : RegionFunction) (needs : Needs) (reach : Reach) (fra
   callee_static all (defined m) args tests e h ints = call_static all m 0 args e tests h ints
   callee_static all (builtin b) args tests e h ints = builtin_static (callee_needs needs (builtin b)) 0 args tests h ints
 
+  reference_holds : (k : SlotKind) → is_reference k ≡ true → holds_address k ≡ true
+  reference_holds int_slot e = absurd (cc e)
+  reference_holds address_slot e = refl
+  reference_holds object_slot e = absurd (cc e)
+  reference_holds help_slot e = absurd (cc e)
+
   object_static : (m : ℕ) (args : Arguments) → takes_object r m args ≡ true → ObjectStatic (unit_of r) m
   object_static m args e =
-      let call = both_left (call_test r m 1 args) (slot_test holds_address (function_at r m).slots 0) e in
+      let call = both_left (call_test r m 1 args) (slot_test is_reference (function_at r m).slots 0) e in
       let known = known_by m (both_left (nat_lt m (length r.functions)) _ call) in
       let callee : RegionFunction = function_at r m in
-      let first = both_right (call_test r m 1 args) (slot_test holds_address callee.slots 0) e in
+      let first = both_right (call_test r m 1 args) (slot_test is_reference callee.slots 0) e in
       let slots : code_at (unit_of r) m ≡ function_code callee = unit_at r m known.0 in
       let pads : List Slot = if has_pad callee.body then help ∷ help ∷ help ∷ [] else [] in
-      let there : 0 < length callee.slots = let x = both_left (nat_lt 0 (length callee.slots)) (holds_address (kinds_of callee.slots 0)) first in grind (arith, nat_tests, x) in
+      let there : 0 < length callee.slots = let x = both_left (nat_lt 0 (length callee.slots)) (is_reference (kinds_of callee.slots 0)) first in grind (arith, nat_tests, x) in
       let more = length-append callee.slots pads in
       let same : length (code_at (unit_of r) m).slots ≡ length (callee.slots ++ pads) = ap (λ g. length g.slots) slots in
       record {
         known = known.1;
         some = omega (arith, there, more, same);
-        held = ap (λ g. holds_address (kinds_of g.slots 0)) slots ∙ ap (λ o. holds_address (kind_of o)) (in_front callee.slots pads 0 there) ∙ both_right (nat_lt 0 (length callee.slots)) (holds_address (kinds_of callee.slots 0)) first;
+        held = ap (λ g. holds_address (kinds_of g.slots 0)) slots ∙ ap (λ o. holds_address (kind_of o)) (in_front callee.slots pads 0 there) ∙ reference_holds (kinds_of callee.slots 0) (both_right (nat_lt 0 (length callee.slots)) (is_reference (kinds_of callee.slots 0)) first);
       }
 
   top_static : every (function_test r) r.functions ≡ true → (v : Value) → value_test r f.slots v ≡ true → ValueReaches needs reach (code_slots f) v → HasInts v → TopStatic (unit_of r) (function_code f) v
@@ -171,7 +177,7 @@ module _ (r : Regions) (f : RegionFunction) (needs : Needs) (reach : Reach) (fra
   op_static all (store q v) e h ints =
       (int_static r f reach frame q (both_left (int_place r f.slots q) (value_test r f.slots v) e) h.0, top_static all v (both_right (int_place r f.slots q) (value_test r f.slots v) e) h.1 ints)
   op_static all (bind s q) e h ints =
-      (address_word r f reach frame s (both_left (slot_test holds_address f.slots s) (address_place r f.slots q) e), address_static r f reach frame q (both_right (slot_test holds_address f.slots s) (address_place r f.slots q) e))
+      (reference_word r f reach frame s (both_left (slot_test is_reference f.slots s) (address_place r f.slots q) e), address_static r f reach frame q (both_right (slot_test is_reference f.slots s) (address_place r f.slots q) e))
   op_static all (call c args) e h ints = callee_static all c args (both_left (arguments_test r f.slots args) (callee_test r c args) e) (both_right (arguments_test r f.slots args) (callee_test r c args) e) h ints
   op_static all (construct q m args) e h ints =
       let place = both_left (address_place r f.slots q) _ e in

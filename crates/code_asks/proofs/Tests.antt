@@ -5,7 +5,7 @@ use Rattle.std.proofs.lemmas.Bool.Decides.{nat_tests}
 use Rattle.std.proofs.lemmas.List.{length-append}
 use Rattle.cxx_ast.specs.Limits.{most_class_bytes}
 use Rattle.region_forms.specs.Form.{SlotKind, int_slot, address_slot, object_slot, help_slot, Slot, kind_of, kinds_of, Root, in_slot, through, in_global, Place, RegionFunction, Regions}
-use Rattle.region_forms.specs.WellFormed.{holds_ints, holds_address, is_variable, is_help, slot_test, within, within_object, int_place, address_place}
+use Rattle.region_forms.specs.WellFormed.{holds_ints, holds_address, is_reference, is_variable, is_help, slot_test, within, within_object, int_place, address_place}
 use Rattle.region_forms.specs.LowerProgram.{help}
 use Rattle.linear_forms.specs.Linear.{FunctionCode}
 use Rattle.linear_forms.specs.Frame.{rounded_up, slot_bytes, code_slots, has_pad}
@@ -93,6 +93,12 @@ module _ (r : Regions) (f : RegionFunction) (reach : Reach) (frame : FrameIs (fu
   address_plain address_slot e = refl
   address_plain object_slot e = absurd (cc e)
 
+  reference_plain : (k : SlotKind) → is_reference k ≡ true → is_variable k ≡ false
+  reference_plain help_slot e = absurd (cc e)
+  reference_plain int_slot e = absurd (cc e)
+  reference_plain address_slot e = refl
+  reference_plain object_slot e = absurd (cc e)
+
   word_by : (test : SlotKind → Bool) → ((k : SlotKind) → test k ≡ true → is_variable k ≡ false) → (s : ℕ) → slot_test test f.slots s ≡ true → IsWord (function_code f) s
   word_by test plain s e =
       let t = tested test s e in
@@ -108,6 +114,9 @@ module _ (r : Regions) (f : RegionFunction) (reach : Reach) (frame : FrameIs (fu
 
   pub address_word : (s : ℕ) → slot_test holds_address f.slots s ≡ true → IsWord (function_code f) s
   address_word s e = word_by holds_address address_plain s e
+
+  pub reference_word : (s : ℕ) → slot_test is_reference f.slots s ≡ true → IsWord (function_code f) s
+  reference_word s e = word_by is_reference reference_plain s e
 
   -- ---- places
 

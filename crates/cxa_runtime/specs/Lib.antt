@@ -24,3 +24,4 @@ pub mod Constant
 pub mod Kept
 pub mod Turns
 pub mod Laws
+pub mod NextCall

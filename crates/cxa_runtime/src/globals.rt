@@ -1,6 +1,6 @@
 // The exception objects of the thread, and which of them are caught and uncaught.
 ghost use Rattle.std.specs.Prelude.{◌≡◌, ℕ, true, false, Some, IfOk, IfSome};
-ghost use Rattle.caught_stack.specs.Live.{header_of};
+ghost use Rattle.caught_stack.specs.Live.{header_of, live_count};
 ghost use Rattle.caught_stack.specs.Caught.{is_small, is_in_front, is_caught, handler_count};
 ghost use Rattle.caught_stack.specs.Exceptions.{no_exceptions};
 ghost use Rattle.caught_stack.specs.Allocate.{Allocates, freed, with_header};
@@ -54,6 +54,13 @@ impl Globals {
         Ok(Globals {
             stack: CaughtStack::new(alloc)?,
         })
+    }
+
+    /// How many exceptions are live.
+    pub fn live(&self) -> u32
+        ensures { result ≡ live_count self.now.live }
+    {
+        self.stack.live()
     }
 
     /// How many exceptions are uncaught.

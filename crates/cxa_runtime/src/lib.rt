@@ -6,6 +6,7 @@
 #![tactic(auto)]
 
 mod allocating;
+mod asked;
 mod call;
 mod calling;
 mod cancel;

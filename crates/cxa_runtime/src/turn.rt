@@ -80,8 +80,10 @@ impl Runtime {
         }
     }
 
-    // Executes an instruction, or makes a runtime call.
-    fn take_step<M: Module>(&mut self, input: &[u8], host: &mut Host<M>) -> Turn
+    /// Executes an instruction, or makes a runtime call, and writes nothing: `items` tells what it shows.
+    ///
+    /// Fewer than 2^40 turns were made before. Takes no memory.
+    pub fn take_step<M: Module>(&mut self, input: &[u8], host: &mut Host<M>) -> Turn
         requires { self.old.turns < 2 ^ 40 }
         ensures step { (wish : ℕ) × ((fdes : List Fde) → LastsAs self.old.hart self.old.frames fdes →
             (result, world_of self.new input.now (replies_of (map M.view host.new.modules.items)))
@@ -162,8 +164,8 @@ impl Runtime {
         }
     }
 
-    // The items that were shown.
-    fn items(&self) -> (Option<Item>, Option<Item>)
+    /// The items that the last turn showed.
+    pub fn items(&self) -> (Option<Item>, Option<Item>)
         ensures { self.now.shown ≡ items_of result.0 result.1 }
     {
         self.shown.items()

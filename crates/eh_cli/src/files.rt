@@ -1,7 +1,8 @@
 // A store over the files of the system, of which nothing is told.
 ghost use Rattle.std.specs.Prelude.{None};
 
-use crate::whole::{Got, read_whole, write_whole};
+use crate::replace::write_file;
+use crate::whole::{Got, read_whole};
 use eh_outer::{RefusalKind, Refusals, Store, StoreError};
 use std::alloc::Global;
 use std::fs;
@@ -49,14 +50,13 @@ impl<R: Files + Drop> Store for FileStore<R> {
 
     fn write_all(&mut self, alloc: Global, name: &str, bytes: &[u8]) -> Result<(), StoreError> {
         let asked = String::from_str(alloc, name)?;
-        let done = match fs::create(&self.rt, name) {
-            Err(_) => false,
-            Ok(mut file) => write_whole(&mut file, bytes),
-        };
-        if done {
-            return Ok(());
+        match write_file(&self.rt, alloc, name, bytes) {
+            Ok(()) => Ok(()),
+            Err(StoreError::NoMemory) => Err(StoreError::NoMemory),
+            Err(_) => {
+                self.refusals.add(RefusalKind::FailedWrite, asked);
+                Err(StoreError::Failed)
+            }
         }
-        self.refusals.add(RefusalKind::FailedWrite, asked);
-        Err(StoreError::Failed)
     }
 }

@@ -3,6 +3,7 @@
 
 mod files;
 mod modules;
+mod replace;
 mod streams;
 #[cfg(test)]
 mod tests;
@@ -13,6 +14,7 @@ use eh_outer::{Module, Once, Runs, Sink};
 use files::FileStore;
 use modules::{Script, scripts_of};
 use std::env;
+use std::io::BufWriter;
 use std::process::ExitCode;
 use streams::StreamSink;
 
@@ -55,10 +57,52 @@ fn done<Out: Sink, Er: Sink>(
     Some(ehc(alloc, words, &mut store, out, err, modules))
 }
 
-fn main(rt: HostRuntime) -> ExitCode {
+// How many bytes of a dump are written at once.
+const PIECE: usize = 0x1_0000;
+
+// Whether the words are those of a dump. It has many lines, and none waits for one of them.
+fn is_dump(words: &[String]) -> bool {
+    words.first().is_some_and(|word| word.as_str() == "dump")
+}
+
+// The status after the last lines were written out, or could not be.
+fn finished<Er: Sink>(status: Status, written: bool, err: &mut Er) -> Status {
+    if written || status != Status::Done {
+        return status;
+    }
+    let _ = err.put(b"ehc: write fault\n");
+    Status::WriteFault
+}
+
+// Does the words with an output that is written in large pieces.
+fn done_in_pieces<Er: Sink>(rt: &HostRuntime, words: &Vec<String>, err: &mut Er) -> Option<Status> {
+    let writer = BufWriter::with_capacity(rt.alloc(), PIECE, rt.stdout()).ok()?;
+    let mut out = StreamSink::new(writer);
+    let status = done(rt, words, &mut out, err)?;
+    let written = out.finish();
+    Some(finished(status, written, err))
+}
+
+// Does the words with an output that is written line by line, so that the lines of a program show
+// while it runs.
+fn done_in_lines<Er: Sink>(rt: &HostRuntime, words: &Vec<String>, err: &mut Er) -> Option<Status> {
     let mut out = StreamSink::new(rt.stdout());
+    done(rt, words, &mut out, err)
+}
+
+// Does the words of the command line; none where memory ran out before that.
+fn all_done<Er: Sink>(rt: &HostRuntime, err: &mut Er) -> Option<Status> {
+    let words = words_of(rt)?;
+    if is_dump(words.as_slice()) {
+        done_in_pieces(rt, &words, err)
+    } else {
+        done_in_lines(rt, &words, err)
+    }
+}
+
+fn main(rt: HostRuntime) -> ExitCode {
     let mut err = StreamSink::new(rt.stderr());
-    let status = match words_of(&rt).and_then(|words| done(&rt, &words, &mut out, &mut err)) {
+    let status = match all_done(&rt, &mut err) {
         Some(status) => status,
         None => {
             let _ = err.put(b"ehc: no memory\n");

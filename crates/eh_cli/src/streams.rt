@@ -1,6 +1,6 @@
 // A sink over a writer, of which nothing is told.
 ghost use Rattle.std.specs.Prelude.{OnOk};
-ghost use Rattle.std.specs.Io.KnownBytes.{Appends};
+ghost use Rattle.std.specs.Io.KnownBytes.{Appends, Keeps};
 ghost use Rattle.eh_outer.specs.Sink.{Puts};
 ghost use Rattle.eh_cli.specs.Seen.{seen};
 
@@ -23,6 +23,13 @@ impl<W: Write + Drop> StreamSink<W> {
             faults: 0,
             wanted: 0,
         }
+    }
+
+    /// Writes out what the writer holds back; false where it can't.
+    pub fn finish(&mut self) -> bool
+        ensures { Keeps (W.contents self.old.writer) (W.contents self.new.writer) }
+    {
+        self.writer.flush().is_ok()
     }
 }
 

@@ -1,8 +1,10 @@
 // The adapters over real files and writers, of which no clause tells the contents.
 use crate::files::FileStore;
+use crate::finished;
 use crate::streams::StreamSink;
+use eh_driver::Status;
 use eh_outer::{Sink, SinkError, Store, StoreError};
-use std::io::{self, Write};
+use std::io::{self, BufWriter, Write};
 use std::test::Fail;
 use std::{env, fs};
 
@@ -44,11 +46,61 @@ fn adapters(rt: HostRuntime) -> Result<(), Fail> {
     assert_eq!(rt; no_file.err(), Some(StoreError::Failed));
     let refused = store.write_all(alloc, nowhere.as_str(), b"x");
     assert_eq!(rt; refused, Err(StoreError::Failed));
+    let full = store.write_all(alloc, "/dev/full", b"x");
+    assert_eq!(rt; full, Err(StoreError::Failed));
     fs::remove_file(&rt, here.as_str())?;
 
     let mut sink = StreamSink::new(Narrow { room: 5 });
     assert_eq!(rt; sink.put(b"abc"), Ok(()));
     assert_eq!(rt; sink.put(b"abc"), Err(SinkError::Failed));
     assert_eq!(rt; sink.put(b""), Ok(()));
+    Ok(())
+}
+
+// A write for which there is no file beside leaves what was there, and one that is done leaves no
+// file beside.
+#[test]
+fn replaced_at_once(rt: HostRuntime) -> Result<(), Fail> {
+    let alloc = rt.alloc();
+    let folder = env::temp_dir(&rt)?;
+    let folder = folder.to_str().ok_or("the folder's name is no text")?;
+    let here = format!(in alloc; "{folder}/ehc-replaced")?;
+    let mut store = FileStore::new(&rt);
+    store.write_all(alloc, here.as_str(), b"old")?;
+    for number in 0..16 {
+        let beside = format!(in alloc; "{here}.ehc-{number}")?;
+        fs::write(&rt, beside.as_str(), b"taken".as_slice())?;
+    }
+    let refused = store.write_all(alloc, here.as_str(), b"new");
+    assert_eq!(rt; refused, Err(StoreError::Failed));
+    let kept = store.read_all(alloc, here.as_str(), 9)?;
+    assert_eq!(rt; kept.as_slice(), b"old".as_slice());
+    for number in 0..16 {
+        let beside = format!(in alloc; "{here}.ehc-{number}")?;
+        fs::remove_file(&rt, beside.as_str())?;
+    }
+    store.write_all(alloc, here.as_str(), b"new")?;
+    let beside = format!(in alloc; "{here}.ehc-0")?;
+    let none = store.read_all(alloc, beside.as_str(), 9);
+    assert_eq!(rt; none.err(), Some(StoreError::Failed));
+    fs::remove_file(&rt, here.as_str())?;
+    Ok(())
+}
+
+// What is held back fails only at the end.
+#[test]
+fn held_back(rt: HostRuntime) -> Result<(), Fail> {
+    for (room, whole) in [(5, false), (6, true)] {
+        let writer = BufWriter::with_capacity(rt.alloc(), 8, Narrow { room })?;
+        let mut sink = StreamSink::new(writer);
+        assert_eq!(rt; sink.put(b"abc"), Ok(()));
+        assert_eq!(rt; sink.put(b"abc"), Ok(()));
+        assert_eq!(rt; sink.finish(), whole);
+    }
+    let mut err = StreamSink::new(Narrow { room: 99 });
+    let cut = finished(Status::Done, false, &mut err);
+    assert_eq!(rt; cut, Status::WriteFault);
+    assert_eq!(rt; finished(Status::Done, true, &mut err), Status::Done);
+    assert_eq!(rt; finished(Status::Usage, false, &mut err), Status::Usage);
     Ok(())
 }

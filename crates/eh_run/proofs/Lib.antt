@@ -11,3 +11,4 @@ pub mod Tallies
 pub mod Turning
 pub mod Going
 pub mod Budgets
+pub mod Tallied

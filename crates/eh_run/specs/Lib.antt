@@ -5,4 +5,5 @@ pub mod Ready
 pub mod Loads
 pub mod Steps
 pub mod Runs
+pub mod Counts
 pub mod Laws

@@ -1,6 +1,7 @@
 //! Loads an image for the ABI machine, and runs it.
 #![tactic(auto)]
 
+mod counting;
 mod laws;
 mod loaded;
 mod loading;
@@ -9,6 +10,7 @@ mod start;
 mod written;
 
 pub use cxa_runtime::End;
+pub use counting::{Counted, run_counted};
 pub use elf_image::ImageError;
 pub use laws::a_greater_budget_goes_on;
 pub use loaded::Loaded;

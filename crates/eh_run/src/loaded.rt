@@ -1,4 +1,7 @@
 // An image that is ready to run.
+ghost use Rattle.std.specs.Prelude.{◌≡◌, ℕ};
+ghost use Rattle.eh_run.specs.Ready.{IsReady, program_in};
+
 use cxa_runtime::Runtime;
 use std::marker::Model;
 
@@ -21,4 +24,13 @@ impl Model for Loaded {
     ghost view = { λ l. program_in l.runtime l.frame_header };
 
     ghost invariant = { λ l. IsReady l.runtime l.frame_header };
+}
+
+impl Loaded {
+    /// The runtime that is to run it, at the beginning.
+    pub fn into_runtime(self) -> Runtime
+        ensures { (header : ℕ) × IsReady result header × (program_in result header ≡ self) }
+    {
+        self.runtime
+    }
 }

@@ -18,7 +18,7 @@ pub struct Ran {
 
 // How many steps are counted where the turn behind so many ended the run: a fault is none, nor is a
 // step that could not be written.
-fn steps_at(turns: u64, end: End) -> u64
+pub fn steps_at(turns: u64, end: End) -> u64
     requires { turns < 2 ^ 40 }
     ensures steps { result ≡ steps_at turns end }
     ensures few { result ≤ turns + 1 }

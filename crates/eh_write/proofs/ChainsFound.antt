@@ -72,7 +72,7 @@ cut_stands bytes p stop x rest here room =
     let left : m ≡ length x + (stop - (p + length x)) = omega (arith, room) in
     ap (λ n. drop p (take n bytes)) whole ∙ drop-take p m bytes ∙ ap (take m) here ∙ ap (λ n. take n (x ++ rest)) left ∙ take-append-add x rest (stop - (p + length x))
 
-signed_fits : (z : ℤ) → is_i64 z ≡ true → magnitude z < 2 ^ 63
+pub signed_fits : (z : ℤ) → is_i64 z ≡ true → magnitude z < 2 ^ 63
 signed_fits (pos n) e = grind (arith, nat_tests, e)
 signed_fits (negsuc n) e = grind (arith, nat_tests, e)
 

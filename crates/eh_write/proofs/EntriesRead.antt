@@ -62,14 +62,14 @@ entry_stands bytes p place (u ∷ ts) rest (suc k) t here at =
     let address : place + 4 * suc k ≡ place + 4 + 4 * k = omega arith in
     (later.0, ap (λ q. drop q bytes) there ∙ later.1 ∙ ap (λ q. entry_bytes q t ++ later.0) (sym address))
 
-field_read : (part : Part) (p place t : ℕ) (more : List ℕ) → t < 2 ^ 64 → IsReached place t → drop p part.bytes ≡ entry_bytes place t ++ more →
+pub field_read : (part : Part) (p place t : ℕ) (more : List ℕ) → t < 2 ^ 64 → IsReached place t → drop p part.bytes ≡ entry_bytes place t ++ more →
     in_table (encoded 27 place) part p ≡ Ok (record { value = t; indirect = false }, p + 4)
 field_read part p place t more fits reached here =
     ap (λ xs. numbered table_number (part.file_at + p) (behind p (encoded 27 place xs))) here ∙
     ap (λ r. numbered table_number (part.file_at + p) (behind p r)) (type_read place t more fits reached)
 
 -- the types are reached from their entries
-reached_at : (first end base : ℕ) (ts : List ℕ) (j t : ℕ) → TypesAreNear first end base ts → slice_get ts j ≡ Some t → first ≤ base - 4 - 4 * j → base - 4 - 4 * j < end →
+pub reached_at : (first end base : ℕ) (ts : List ℕ) (j t : ℕ) → TypesAreNear first end base ts → slice_get ts j ≡ Some t → first ≤ base - 4 - 4 * j → base - 4 - 4 * j < end →
     IsReached (base - 4 - 4 * j) t
 reached_at first end base [] j t near at above below = absurd cc
 reached_at first end base (u ∷ ts) zero t near at above below =

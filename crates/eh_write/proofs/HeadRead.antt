@@ -25,18 +25,18 @@ head_of list region p = record {
   actions_at = actions_place list p;
 }
 
-byte_in : (part : Part) (p b : ℕ) (rest : List ℕ) → drop p part.bytes ≡ b ∷ rest → in_table byte part p ≡ Ok (b, p + 1)
+pub byte_in : (part : Part) (p b : ℕ) (rest : List ℕ) → drop p part.bytes ≡ b ∷ rest → in_table byte part p ≡ Ok (b, p + 1)
 byte_in part p b rest here = ap (numbered table_number (part.file_at + p)) (byte_stands part.bytes p b rest here)
 
-uleb_in : (part : Part) (p n : ℕ) (rest : List ℕ) → n < 2 ^ 64 → drop p part.bytes ≡ uleb_spelling n ++ rest →
+pub uleb_in : (part : Part) (p n : ℕ) (rest : List ℕ) → n < 2 ^ 64 → drop p part.bytes ≡ uleb_spelling n ++ rest →
     in_table uleb part p ≡ Ok (n, p + length (uleb_spelling n))
 uleb_in part p n rest fits here = ap (numbered table_number (part.file_at + p)) (uleb_stands part.bytes p n rest fits here)
 
-pads_omitted : (part : Part) (region : Region64) (p : ℕ) → pads_start part region 255 p ≡ Ok (region.start, p + 1)
+pub pads_omitted : (part : Part) (region : Region64) (p : ℕ) → pads_start part region 255 p ≡ Ok (region.start, p + 1)
 unfolding pads_start
 pads_omitted part region p = refl
 
-types_sized : (part : Part) (p : ℕ) → type_table part 27 p ≡ sized_types (Some 4) part 27 p
+pub types_sized : (part : Part) (p : ℕ) → type_table part 27 p ≡ sized_types (Some 4) part 27 p
 unfolding type_table
 types_sized part p = refl
 

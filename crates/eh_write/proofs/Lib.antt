@@ -1,21 +1,23 @@
 mod Offsets
-mod Reading
-mod SitesRead
+pub mod Reading
+pub mod SitesRead
 mod ChainsRead
-mod ListsRead
-mod Alls
+pub mod ListsRead
+pub mod Alls
 mod Shape
-mod Aligned
-mod HeadRead
-mod Lengths
-mod EntriesRead
-mod ListsFound
-mod ChainsFound
+pub mod Aligned
+pub mod HeadRead
+pub mod Lengths
+pub mod EntriesRead
+pub mod ListsFound
+pub mod ChainsFound
+pub mod Readable
+pub mod ReadTable
 mod Clean
 mod TableRead
 mod Writes
 mod DistanceRead
-mod Found
+pub mod Found
 mod HeaderRead
 mod FrameFields
 mod MovesRead

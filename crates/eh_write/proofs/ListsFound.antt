@@ -36,7 +36,7 @@ all_from P (m ∷ lists) n l holds found = by_first (n == 0) found (λ k f. all_
     by_first false f later = by_inside (nat_lt n (list_size m)) f later
 
 -- the list stands there, with its 0
-list_stands : (bytes : List ℕ) (p : ℕ) (lists : List (List ℕ)) (rest : List ℕ) (n : ℕ) (l : List ℕ) → Stands bytes p (lists_bytes lists) rest →
+pub list_stands : (bytes : List ℕ) (p : ℕ) (lists : List (List ℕ)) (rest : List ℕ) (n : ℕ) (l : List ℕ) → Stands bytes p (lists_bytes lists) rest →
     list_from lists n ≡ Some l → (more : List ℕ) × Stands bytes (p + n) (flat_map uleb_spelling l) (0 ∷ more)
 list_stands bytes p [] rest n l here found = absurd cc
 list_stands bytes p (m ∷ lists) rest n l here found =
@@ -70,7 +70,7 @@ list_stands bytes p (m ∷ lists) rest n l here found =
     by_first false e f first later = by_inside (nat_lt n (list_size m)) refl f later
 
 -- an index of a list counts from 1 and is a word
-index_fits : (list : ListedTable) (ks : List ℕ) → AllByRecursion (TypeIsThere list) ks → AllByRecursion IsWord ks → AllByRecursion (λ k. (0 < k) × (k < 2 ^ 64)) ks
+pub index_fits : (list : ListedTable) (ks : List ℕ) → AllByRecursion (TypeIsThere list) ks → AllByRecursion IsWord ks → AllByRecursion (λ k. (0 < k) × (k < 2 ^ 64)) ks
 index_fits list [] there words = tt
 index_fits list (k ∷ ks) there words = ((there.0.0, words.0), index_fits list ks there.1 words.1)
 

@@ -14,7 +14,11 @@ mod lsda;
 mod moves;
 mod sites;
 
+pub use entries::put_entries;
 pub use frames::write_eh_frame;
 pub use header::write_hdr;
+pub use layout::put_zeros;
+pub use lists::put_lists;
 pub use lsda::write_lsda;
+pub use sites::site_table;
 pub use std::alloc::AllocError as NoMemory;

@@ -8,7 +8,7 @@ mod header;
 mod laid;
 mod load;
 mod memory;
-mod number;
+pub mod number;
 mod program;
 mod put;
 mod runtime_header;

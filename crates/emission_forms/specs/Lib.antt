@@ -13,3 +13,4 @@ pub mod StubCode
 pub mod Emitted
 pub mod Bounds
 pub mod Laws
+pub mod Paying

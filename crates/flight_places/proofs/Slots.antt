@@ -5,7 +5,7 @@ use Rattle.std.proofs.lemmas.Bool.{and_parts}
 use Rattle.std.proofs.lemmas.Bool.Decides.{nat_tests}
 use Rattle.region_forms.specs.Form.{SlotKind, Slot, Root, in_slot, through, in_global, Op, evaluate, store, bind, call, construct, destroy, make, throw, rethrow, enter, leave, Cleanup, destroy_scope, destroy_part, free_object, leave_handler, Region, seq, op, branch, loop, protect, catch, limit, barrier, leave_region, RegionList, no_regions, region_then, Clauses, no_clauses, clause_then, Regions}
 use Rattle.region_forms.specs.Guard.{types_of}
-use Rattle.region_forms.specs.WellFormed.{every, slot_test, int_place, address_place, holds_ints, holds_address, is_help, is_op, pure_value, op_test, cleanup_test, clause_type_test, result_test, region_test, regions_test, clauses_test}
+use Rattle.region_forms.specs.WellFormed.{every, slot_test, int_place, address_place, holds_ints, is_reference, is_help, is_op, pure_value, op_test, cleanup_test, clause_type_test, result_test, region_test, regions_test, clauses_test}
 use Rattle.linear_forms.specs.Linear.{LinearOp, plain, label, jump, return}
 use Rattle.linear_forms.specs.Tables.{Cover, bare, unpadded, list_of}
 use Rattle.linear_forms.specs.Sites.{Placed}
@@ -36,7 +36,7 @@ module _ (r : Regions) (slots : List Slot) (em : Emitting) where
   op_keeps : (o : Op) → op_test r slots o ≡ true → Keeps (length slots) em (plain o)
   op_keeps (evaluate v) h = tt
   op_keeps (store p v) h = root_keeps p.root p.offset (and_parts (int_place r slots p) _ h).0
-  op_keeps (bind s p) h = below holds_address s (and_parts (slot_test holds_address slots s) (address_place r slots p) h).0
+  op_keeps (bind s p) h = below is_reference s (and_parts (slot_test is_reference slots s) (address_place r slots p) h).0
   op_keeps (call c args) h = tt
   op_keeps (construct p n args) h = tt
   op_keeps (destroy p n) h = tt

@@ -1,15 +1,15 @@
 -- The row of an FDE of the list is read again at its address.
-use Rattle.std.proofs.Common.{◌≡◌, ◌+◌, ◌-◌, ℕ, suc, Bool, true, false, nat_le, List, [], ◌∷◌, map, length, option_and_then, Option, Some, None, Result, Ok, Err, refl, ap, sym, subst, ◌∙◌, arith, if◌then◌else◌, Contains, slice_get, IsOkAnd}
+use Rattle.std.proofs.Common.{◌≡◌, ◌+◌, ◌-◌, ◌≤◌, ℕ, suc, Bool, true, false, List, [], ◌∷◌, map, length, option_and_then, Option, Some, None, Result, Ok, Err, refl, ap, sym, subst, ◌∙◌, arith, if◌then◌else◌, Contains, slice_get, IsOkAnd}
 use Rattle.std.proofs.lemmas.Bool.Decides.{nat_tests}
 use Rattle.eh_bytes.specs.declared.segment.Segment.{Segment}
 use Rattle.eh_bytes.specs.declared.segment.Segments.{Segments}
 use Rattle.eh_bytes.specs.Extent.{Extent, AreApart, Holds, extents_of, extent_of}
 use Rattle.eh_bytes.specs.Memory.{Part, Memory, part_of, memory_of, covers, part_with}
 use Rattle.table_forms.specs.Fault.{Fault}
-use Rattle.table_forms.specs.Fde.{Fde, is_in, row_at}
+use Rattle.table_forms.specs.Fde.{Fde, is_in}
 use Rattle.table_forms.specs.Header.{header_at}
 use Rattle.table_forms.specs.Frames.{Frames, parts_in, parts_behind, frames_from, frames}
-use Rattle.frame_read.specs.Entry.{fde_here, fde_in, row_from}
+use Rattle.frame_read.specs.Entry.{fde_here, fde_in}
 use Rattle.frame_read.proofs.Members.{In, contains_in, in_contains}
 use Rattle.frame_read.specs.Listed.{fde_listed}
 use Rattle.frame_read.specs.ReadsFrames.{Listing, listing}
@@ -106,12 +106,9 @@ pub frame_again : (m : Segments) (list : Listing) (fde : shown.Fde) (pc : ℕ) (
 frame_again m list fde pc f g =
     ap (λ (x : shown.Fde). fde_in (memory_of m) x.address) g.listed ∙ found_again m.parts.items g.header g.read f m.apart g.reads g.stands
 
--- its row
-pub row_again : (m : Segments) (list : Listing) (fde : shown.Fde) (pc : ℕ) (f : Fde) → IsFrameOf (memory_of m) list fde pc f →
-    row_from (fde_in (memory_of m) fde.address) pc ≡ Some (row_at f pc)
-row_again m list fde pc f g =
-    let starts : nat_le f.region.start pc ≡ true = let inside = g.inside in grind (arith, nat_tests, inside) in
-    ap (λ o. row_from o pc) (frame_again m list fde pc f g) ∙ ap (λ b. if b then Some (row_at f pc) else None) starts
+-- its place is not before the region
+pub starts_at : (memory : Memory) (list : Listing) (fde : shown.Fde) (pc : ℕ) (f : Fde) → IsFrameOf memory list fde pc f → f.region.start ≤ pc
+starts_at memory list fde pc f g = let inside = g.inside in grind (arith, nat_tests, inside)
 
 -- what a successful reading lists is listed for one of its FDEs
 pub is_frame : (memory : Memory) (list : Listing) (fde : shown.Fde) (pc header : ℕ) → IsOkAnd (frames memory header) (λ d. list ≡ listing d) → Contains list.fdes fde →

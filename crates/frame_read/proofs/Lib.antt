@@ -1,24 +1,25 @@
-mod OnWay
-mod Stepped
+pub mod OnWay
+pub mod Stepped
 mod Texts
 mod Unmoved
 mod Room
 mod Folds
-mod Spanned
-mod Halves
-mod Found
-mod Cies
-mod Joined
+mod Heads
+pub mod Spanned
+pub mod Halves
+pub mod Found
+pub mod Cies
+pub mod Joined
 mod Rows
 mod Gathers
 mod InRange
 pub mod Members
-mod Sweeps
-mod Overlaps
-mod Rises
+pub mod Sweeps
+pub mod Overlaps
+pub mod Rises
 mod Wholes
-mod Orders
-mod FdesRise
+pub mod Orders
+pub mod FdesRise
 mod Reading
 mod Again
 mod FoundAgain

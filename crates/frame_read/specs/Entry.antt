@@ -3,12 +3,11 @@ use Rattle.std.specs.Prelude.{ℕ, zero, suc, ◌+◌, ◌-◌, nat_le, length, 
 use Rattle.std.specs.Int.{w32}
 use Rattle.eh_bytes.specs.Memory.{Part, Memory, part_with}
 use Rattle.eh_bytes.specs.Field.{fixed}
-use Rattle.table_forms.specs.declared.found.Row.{Row}
 use Rattle.table_forms.specs.Fault.{Fault}
 use Rattle.table_forms.specs.Instruction.{in_frames}
 use Rattle.table_forms.specs.Spans.{Span, distance_at}
 use Rattle.table_forms.specs.Cie.{Cie, cie_at}
-use Rattle.table_forms.specs.Fde.{Fde, fde_at, row_at, next_location}
+use Rattle.table_forms.specs.Fde.{Fde, fde_at, next_location}
 
 abbrev pub ok_of : {A : Type 0} → Result A Fault → Option A
 ok_of (Ok x) = Some x
@@ -45,11 +44,6 @@ fde_here part at = option_and_then (λ s. fde_from part s (distance_at part s)) 
 -- the FDE whose length stands at an address
 unfoldable pub fde_in : Memory → ℕ → Option Fde
 fde_in memory address = option_and_then (λ part. fde_here part (address - part.address)) (part_with memory address)
-
--- the row that an FDE gives a place which is not before its region
-abbrev pub row_from : Option Fde → ℕ → Option Row
-row_from None pc = None
-row_from (Some f) pc = if nat_le f.region.start pc then Some (row_at f pc) else None
 
 -- the next location of an FDE
 abbrev pub next_from : Option Fde → ℕ → Option ℕ

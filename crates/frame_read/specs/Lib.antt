@@ -15,6 +15,8 @@ pub mod SeenParts
 pub mod SeenHeader
 pub mod Entry
 pub mod Ready
+pub mod Heads
+pub mod Known
 pub mod Sweep
 pub mod SeenSweep
 pub mod Whole

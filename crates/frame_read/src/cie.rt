@@ -8,6 +8,7 @@ ghost use Rattle.table_forms.specs.Cie.{return_register_at, cie_at};
 ghost use Rattle.frame_read.specs.Reads.{Reads};
 ghost use Rattle.table_forms.specs.Instructions.{instructions_at};
 ghost use Rattle.frame_read.specs.Seen.{coding_seen};
+ghost use Rattle.frame_read.specs.Heads.{HeadReads, cie_after};
 ghost use Rattle.frame_read.specs.SeenCie.{cie_seen};
 ghost use Rattle.frame_read.specs.States.{states_of};
 
@@ -50,9 +51,9 @@ fn register_number(
     }
 }
 
-// The return register, from 0 to 63.
+/// The return register, from 0 to 63, in the form of a version.
 #[tactic(auto, unfolding(table_forms::specs::Cie::return_register_at))]
-fn return_register_of(
+pub fn return_register_of(
     version: u8,
     segment: &Segment,
     stop: usize,
@@ -70,8 +71,53 @@ fn return_register_of(
     Ok((register as u8, next))
 }
 
-/// The CIE whose length stands at `at`, and whose version at a place.
+/// What stands before the instructions of the CIE whose length stands at `at`, and whose version at
+/// a place. Its instructions are not read, and no state is counted.
 #[tactic(auto, unfolding(table_forms::specs::Cie::cie_at))]
+pub fn cie_head_of(
+    segment: &Segment,
+    at: usize,
+    stop: usize,
+    place: usize,
+) -> Result<CiePart<'_>, Refusal>
+    requires stop { stop ≤ vec_len segment.now.bytes }
+    requires place { place ≤ stop }
+    ensures head { HeadReads (cie_after (part_of segment.now)) result (cie_at (part_of segment.now) at stop place) }
+    ensures at { IfOk result (λ c. c.at ≡ at) }
+    ensures stop { IfOk result (λ c. c.stop ≡ stop) }
+    ensures first { IfOk result (λ c. c.first ≤ stop) }
+{
+    let (version, next) = byte_at(segment, stop, place)?;
+    if version != 1 && version != 3 {
+        return Err(refused(51, segment.file_at as u128 + place as u128));
+    }
+    let (augmentation, behind) = text_at(segment, stop, next)?;
+    if let Some(wrong) = wrong_letter(next, augmentation) {
+        return Err(refused(52, segment.file_at as u128 + wrong));
+    }
+    let (code_factor, next) = uleb_at(segment, stop, behind)?;
+    let (data_factor, next) = sleb_at(segment, stop, next)?;
+    let (return_register, next) = return_register_of(version, segment, stop, next)?;
+    let (letters, first) = augmented(segment, stop, augmentation, next)?;
+    Ok(CiePart {
+        at,
+        version,
+        augmentation,
+        coding: Coding {
+            code_factor,
+            data_factor,
+            encoding: letters.encoding,
+        },
+        return_register,
+        lsda_encoding: letters.lsda_encoding,
+        signal: letters.signal,
+        first,
+        stop,
+        states: 0,
+    })
+}
+
+/// The CIE whose length stands at `at`, and whose version at a place.
 pub fn cie_of(
     segment: &Segment,
     at: usize,
@@ -86,34 +132,18 @@ pub fn cie_of(
     ensures first { IfOk result (λ c. c.first ≤ stop) }
     ensures whole { IfOk result (λ c. states_of (instructions_at (coding_seen c.coding) (part_of segment.now) c.stop c.first 0) ≡ Ok c.states) }
 {
-    let (version, next) = byte_at(segment, stop, place)?;
-    if version != 1 && version != 3 {
-        return Err(refused(51, segment.file_at as u128 + place as u128));
-    }
-    let (augmentation, behind) = text_at(segment, stop, next)?;
-    if let Some(wrong) = wrong_letter(next, augmentation) {
-        return Err(refused(52, segment.file_at as u128 + wrong));
-    }
-    let (code_factor, next) = uleb_at(segment, stop, behind)?;
-    let (data_factor, next) = sleb_at(segment, stop, next)?;
-    let (return_register, next) = return_register_of(version, segment, stop, next)?;
-    let (letters, first) = augmented(segment, stop, augmentation, next)?;
-    let coding = Coding {
-        code_factor,
-        data_factor,
-        encoding: letters.encoding,
-    };
-    let states = instructions_of(coding, segment, stop, first, 0)?;
+    let head = cie_head_of(segment, at, stop, place)?;
+    let states = instructions_of(head.coding, segment, head.stop, head.first, 0)?;
     Ok(CiePart {
-        at,
-        version,
-        augmentation,
-        coding,
-        return_register,
-        lsda_encoding: letters.lsda_encoding,
-        signal: letters.signal,
-        first,
-        stop,
+        at: head.at,
+        version: head.version,
+        augmentation: head.augmentation,
+        coding: head.coding,
+        return_register: head.return_register,
+        lsda_encoding: head.lsda_encoding,
+        signal: head.signal,
+        first: head.first,
+        stop: head.stop,
         states,
     })
 }

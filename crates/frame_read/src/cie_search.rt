@@ -27,8 +27,8 @@ fn first_at<'a, 'b>(entries: &'b [CieEntry<'a>], at: u128) -> Option<&'b CieEntr
     entries.iter().find(|entry| entry.at as u128 == at)
 }
 
-// The CIE at a place.
-fn entry_at<'a, 'b>(entries: &'b [CieEntry<'a>], at: u128) -> Option<&'b CieEntry<'a>>
+/// The CIE at a place.
+pub fn entry_at<'a, 'b>(entries: &'b [CieEntry<'a>], at: u128) -> Option<&'b CieEntry<'a>>
     requires { (n : ℕ) × RisesBy (λ e. e.at) n entries.now }
     ensures { option_copied result ≡ find (λ e. e.at == at) entries.now }
 {

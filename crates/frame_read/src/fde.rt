@@ -5,8 +5,9 @@ ghost use Rattle.eh_bytes.specs.Encoded.{encoded};
 ghost use Rattle.table_forms.specs.Instruction.{in_frames};
 ghost use Rattle.table_forms.specs.Fde.{region_at, lsda_pointer, lsda_at, fde_at};
 ghost use Rattle.frame_read.specs.Reads.{Reads};
-ghost use Rattle.table_forms.specs.Instructions.{instructions_at};
+ghost use Rattle.table_forms.specs.Instructions.{Instructions, instructions_at};
 ghost use Rattle.frame_read.specs.Seen.{coding_seen};
+ghost use Rattle.frame_read.specs.Heads.{HeadReads, cie_with, fde_after};
 ghost use Rattle.frame_read.specs.SeenCie.{cie_seen};
 ghost use Rattle.frame_read.specs.SeenFde.{fde_seen};
 
@@ -102,8 +103,36 @@ fn lsda_of(
     }
 }
 
+/// What stands before the instructions of the FDE of a CIE whose length stands at `at`, and whose
+/// first location at a place. Its instructions are not read, nor need those of the CIE be.
+#[tactic(auto, unfolding(table_forms::specs::Fde::fde_at, table_forms::specs::Fde::region_at))]
+pub fn fde_head_of(
+    cie: &CiePart<'_>,
+    segment: &Segment,
+    at: usize,
+    stop: usize,
+    place: usize,
+) -> Result<FdePart, Refusal>
+    requires stop { stop ≤ vec_len segment.now.bytes }
+    requires place { place ≤ stop }
+    ensures head { (is : Instructions) → HeadReads (fde_after (part_of segment.now) (cie_with (part_of segment.now) cie.now is)) result (fde_at (cie_with (part_of segment.now) cie.now is) (part_of segment.now) at stop place) }
+    ensures at { IfOk result (λ f. f.at ≡ at) }
+    ensures stop { IfOk result (λ f. f.stop ≡ stop) }
+    ensures first { IfOk result (λ f. f.first ≤ stop) }
+    ensures fits { IfOk result (λ f. f.region.start + f.region.length < 2 ^ 64) }
+{
+    let (region, next) = region_of(cie, segment, stop, place)?;
+    let (lsda, first) = lsda_of(cie, segment, stop, next)?;
+    Ok(FdePart {
+        at,
+        region,
+        lsda,
+        first,
+        stop,
+    })
+}
+
 /// The FDE of a CIE whose length stands at `at`, and whose first location at a place.
-#[tactic(auto, unfolding(table_forms::specs::Fde::fde_at))]
 pub fn fde_of(
     cie: &CiePart<'_>,
     segment: &Segment,
@@ -120,14 +149,7 @@ pub fn fde_of(
     ensures own { IfOk result (λ f. IsOk (instructions_at (coding_seen cie.now.coding) (part_of segment.now) f.stop f.first cie.now.states)) }
     ensures fits { IfOk result (λ f. f.region.start + f.region.length < 2 ^ 64) }
 {
-    let (region, next) = region_of(cie, segment, stop, place)?;
-    let (lsda, first) = lsda_of(cie, segment, stop, next)?;
-    instructions_of(cie.coding, segment, stop, first, cie.states)?;
-    Ok(FdePart {
-        at,
-        region,
-        lsda,
-        first,
-        stop,
-    })
+    let fde = fde_head_of(cie, segment, at, stop, place)?;
+    instructions_of(cie.coding, segment, fde.stop, fde.first, cie.states)?;
+    Ok(fde)
 }

@@ -1,6 +1,6 @@
 // Fields of the frames, which lie in a segment before a stop; a refusal stands at the field.
 ghost use Rattle.std.specs.Prelude.{◌≡◌, ◌+◌, ◌<◌, ◌≤◌, vec_len, IfOk};
-ghost use Rattle.std.specs.Int.{w8, w16, w32};
+ghost use Rattle.std.specs.Int.{w8, w16, w32, w64};
 ghost use Rattle.eh_bytes.specs.Memory.{part_of};
 ghost use Rattle.eh_bytes.specs.Field.{byte, fixed};
 ghost use Rattle.eh_bytes.specs.Leb128.{uleb, sleb};
@@ -134,4 +134,25 @@ pub fn u8_at(segment: &Segment, stop: usize, place: usize) -> Result<(u8, usize)
         ));
     }
     Ok((u8::from_le_bytes([rest[0]]), place + 1))
+}
+
+/// The number of eight bytes at a place, and the place behind it.
+pub fn u64_at(segment: &Segment, stop: usize, place: usize) -> Result<(u64, usize), Refusal>
+    requires stop { stop ≤ vec_len segment.now.bytes }
+    requires place { place ≤ stop }
+    ensures reads { Reads (λ x. x) result (in_frames (fixed w64) (part_of segment.now) stop place) }
+    ensures inside { IfOk result (λ x. x.1 ≤ stop) }
+    ensures on { IfOk result (λ x. place < x.1) }
+{
+    let rest = &segment.bytes[..stop][place..];
+    if rest.len() < 8 {
+        return Err(field_refusal(
+            ByteError::Truncated,
+            segment.file_at as u128 + place as u128,
+        ));
+    }
+    let bytes = [
+        rest[0], rest[1], rest[2], rest[3], rest[4], rest[5], rest[6], rest[7],
+    ];
+    Ok((u64::from_le_bytes(bytes), place + 8))
 }

@@ -1,47 +1,48 @@
 //! Reads frame information and its header table where they lie in memory: which function a place
-//! lies in, and the row that its frame entry gives the place.
+//! lies in, and the row that its frame entry gives the place. The readers of instructions and rows take
+//! a segment and places in it, and serve other forms of frames too.
 #![tactic(auto)]
 
 mod augmentation;
 mod cfa;
-mod cie;
-mod cie_part;
-mod cie_search;
-mod entry;
+pub mod cie;
+pub mod cie_part;
+pub mod cie_search;
+pub mod entry;
 mod error;
 mod fde;
-mod fde_part;
-mod field;
+pub mod fde_part;
+pub mod field;
 mod folding;
 mod frame_list;
 mod frame_row;
 mod frames;
-mod gather;
+pub mod gather;
 mod header;
 mod header_read;
-mod instruction;
+pub mod instruction;
 mod letters;
 mod listed;
 mod location;
-mod lookup;
+pub mod lookup;
 mod offset;
 mod order;
-mod overlap;
+pub mod overlap;
 mod part;
 mod parts;
 mod read;
-mod refusal;
+pub mod refusal;
 mod row;
-mod row_fold;
+pub mod row_fold;
 mod rule;
 mod search;
-mod search_fold;
-mod span;
+pub mod search_fold;
+pub mod span;
 mod spans;
-mod states;
-mod step;
+pub mod states;
+pub mod step;
 mod sweep;
-mod text;
+pub mod text;
 
 pub use error::FrameError;
 pub use frame_list::Frames;

@@ -1,12 +1,9 @@
 // The fold of a row over the instructions in their bytes.
-ghost use Rattle.std.specs.Prelude.{◌≡◌, ◌≤◌, false, fold, vec_len, Ok, IsOk};
+ghost use Rattle.std.specs.Prelude.{◌≡◌, ◌≤◌, ℕ, false, fold, vec_len, Ok, IsOk};
 ghost use Rattle.arrayvec.specs.ArrayVec.{array_vec_len};
 ghost use Rattle.eh_bytes.specs.Memory.{part_of};
-ghost use Rattle.table_forms.specs.Instructions.{instructions_at};
-ghost use Rattle.table_forms.specs.Row.{stepped};
-ghost use Rattle.table_forms.specs.Fde.{row_at};
-ghost use Rattle.frame_read.specs.SeenCie.{cie_seen};
-ghost use Rattle.frame_read.specs.SeenFde.{fde_seen};
+ghost use Rattle.table_forms.specs.Instructions.{Instructions, instructions_at};
+ghost use Rattle.table_forms.specs.Row.{stepped, row_of};
 ghost use Rattle.frame_read.specs.Seen.{coding_seen};
 ghost use Rattle.frame_read.specs.SeenRow.{folding_seen};
 ghost use Rattle.frame_read.specs.States.{list_of, states_of};
@@ -74,7 +71,7 @@ fn goes_on_over(
 }
 
 /// The row of a pc in the region of an FDE, of whose instructions and those of its CIE none is
-/// refused.
+/// refused. The count of states in the CIE is not used.
 #[tactic(auto, unfolding(table_forms::specs::Row::row_of))]
 pub fn row_of(cie: &CiePart<'_>, fde: &FdePart, segment: &Segment, pc: u64) -> Row
     requires stop { cie.now.stop ≤ vec_len segment.now.bytes }
@@ -82,9 +79,10 @@ pub fn row_of(cie: &CiePart<'_>, fde: &FdePart, segment: &Segment, pc: u64) -> R
     requires own_stop { fde.now.stop ≤ vec_len segment.now.bytes }
     requires own_first { fde.now.first ≤ fde.now.stop }
     requires region { fde.now.region.start ≤ pc }
-    requires whole { states_of (instructions_at (coding_seen cie.now.coding) (part_of segment.now) cie.now.stop cie.now.first 0) ≡ Ok cie.now.states }
-    requires own { IsOk (instructions_at (coding_seen cie.now.coding) (part_of segment.now) fde.now.stop fde.now.first cie.now.states) }
-    ensures { result ≡ row_at (fde_seen (part_of segment.now) (cie_seen (part_of segment.now) cie.now) fde.now) pc }
+    requires whole { IsOk (instructions_at (coding_seen cie.now.coding) (part_of segment.now) cie.now.stop cie.now.first 0) }
+    requires own { (n : ℕ) → states_of (instructions_at (coding_seen cie.now.coding) (part_of segment.now) cie.now.stop cie.now.first 0) ≡ Ok n → IsOk (instructions_at (coding_seen cie.now.coding) (part_of segment.now) fde.now.stop fde.now.first n) }
+    ensures { (is own : Instructions) → instructions_at (coding_seen cie.now.coding) (part_of segment.now) cie.now.stop cie.now.first 0 ≡ Ok is →
+        instructions_at (coding_seen cie.now.coding) (part_of segment.now) fde.now.stop fde.now.first is.states ≡ Ok own → result ≡ row_of fde.now.region.start is.list own.list pc }
 {
     let mut folding = Folding::begun(fde.region.start);
     goes_over(&mut folding, pc, cie.coding, segment, cie.stop, cie.first);

@@ -1,3 +1,3 @@
 mod Rules
 pub mod Tables
-mod Nexts
+pub mod Nexts

@@ -1,2 +1,4 @@
 pub mod Registers
 pub mod Outward
+pub mod Changed
+pub mod Located

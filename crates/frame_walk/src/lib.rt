@@ -2,9 +2,13 @@
 #![tactic(auto)]
 
 mod frame;
+mod located;
 mod outward;
+mod placing;
 mod registers;
 
 pub use frame::{Frame, Walk};
-pub use outward::{cfa_of, row_for, step_out};
+pub use located::Located;
+pub use outward::{cfa_of, row_for, step_by, step_out};
+pub use placing::locate;
 pub use rv64_isa::FaultKind;

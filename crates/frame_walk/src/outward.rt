@@ -5,6 +5,8 @@ ghost use Rattle.frame_read.specs.ReadsFrames.{ReadsFrames, listing};
 ghost use Rattle.frame_walk.specs.Outward.{cfa_of, is_outward, out_by, tables_of, row_for, next_frame};
 
 use crate::frame::{Frame, Walk};
+use crate::located::Located;
+use crate::placing::locate;
 use crate::registers::{offset_by, register_at, registers_of};
 use frame_read::{Fde, Frames};
 use rv64_machine::{FaultKind, Machine};
@@ -27,25 +29,28 @@ fn is_outward(frame: &Frame, cfa: u64) -> bool
     cfa >= 0x7000_0000 && cfa <= 0x7100_0000 && (frame.top || frame.cfa < cfa)
 }
 
-// The frame outward by a row.
-fn out_by(machine: &Machine, frame: &Frame, return_register: u8, signal: bool, row: &Row) -> Walk
-    ensures { result ≡ out_by machine.now frame.now return_register signal row.now }
+/// The frame outward of a frame, by what the tables say of its look-up place: what `step_out` gives
+/// it, without asking them.
+pub fn step_by(machine: &Machine, frame: &Frame, located: &Located) -> Walk
+    ensures { result ≡ out_by machine.now frame.now located.now.fde.return_register located.now.fde.signal located.now.row }
 {
-    if let Some(Rule::Undefined) = row.rules.get(return_register as usize) {
+    let return_register = located.fde.return_register as usize;
+    if let Some(Rule::Undefined) = located.row.rules.get(return_register) {
         return Walk::EndOfStack;
     }
-    let cfa = cfa_of(row, frame);
+    let cfa = cfa_of(&located.row, frame);
     if !is_outward(frame, cfa) {
         return Walk::Fault(FaultKind::Walk);
     }
-    match registers_of(machine, cfa, &frame.regs, &row.rules) {
+    let changed = located.changed.as_slice();
+    match registers_of(machine, cfa, &frame.regs, &located.row.rules, changed) {
         None => Walk::Fault(FaultKind::Walk),
         Some(regs) => Walk::Next(Frame {
-            pc: register_at(&regs, return_register as usize),
+            pc: register_at(&regs, return_register),
             cfa,
             regs,
             top: false,
-            signal,
+            signal: located.fde.signal,
         }),
     }
 }
@@ -73,8 +78,8 @@ pub fn step_out(machine: &Machine, frames: &Frames, frame: &Frame) -> Walk
     requires { (header : ℕ) × ReadsFrames (Ok frames.now) (forms.frames (tables_of machine.now) header) }
     ensures { (header : ℕ) (read : forms.Frames) → forms.frames (tables_of machine.now) header ≡ Ok read → frames.now ≡ listing read → result ≡ next_frame machine.now read.fdes frame.now }
 {
-    match row_for(machine, frames, frame) {
+    match locate(machine, frames, frame) {
         None => Walk::EndOfStack,
-        Some((fde, row)) => out_by(machine, frame, fde.return_register, fde.signal, &row),
+        Some(located) => step_by(machine, frame, &located),
     }
 }

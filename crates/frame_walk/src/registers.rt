@@ -1,5 +1,6 @@
 // The registers of the frame outward.
 ghost use Rattle.std.specs.Prelude.{◌≡◌, ◌+◌, ◌≤◌, ◌<◌, List, drop, take, option_map, slice_index_or};
+ghost use Rattle.frame_walk.specs.Changed.{HasRulesIn};
 ghost use Rattle.frame_walk.specs.Registers.{offset_by, register_of, registers_from};
 
 use rv64_machine::Machine;
@@ -38,17 +39,23 @@ fn register_of(
     }
 }
 
-/// All registers by their rules, where every word that they need is readable.
+/// All registers by their rules, where every word that they need is readable. A register without a
+/// rule keeps its value, except x2, which is the canonical frame address; so only those that have
+/// a rule are looked at.
 pub fn registers_of(
     machine: &Machine,
     cfa: u64,
     regs: &[u64; 64],
     rules: &[Rule; 64],
+    changed: &[u8],
 ) -> Option<[u64; 64]>
+    requires { HasRulesIn rules.now changed.now }
     ensures { result ≡ registers_from machine.now cfa regs.now 0 rules.now }
 {
     let mut outward = *regs;
-    'registers: for number in 0..64 {
+    outward[2] = cfa;
+    'changed: for at in 0..changed.len() {
+        let number = changed[at] as usize;
         outward[number] = register_of(machine, cfa, regs, number, rules[number])?;
     }
     Some(outward)

@@ -8,6 +8,8 @@ pub mod Meaning
 pub mod Cleanups
 pub mod Labels
 pub mod Slots
+pub mod Deepening
+pub mod Paces
 pub mod Running
 pub mod Ways
 pub mod Copying

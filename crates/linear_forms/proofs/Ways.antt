@@ -15,7 +15,8 @@ use Rattle.linear_forms.specs.Operation.{jumped_zero}
 use Rattle.linear_forms.specs.Machine.{step}
 use Rattle.linear_forms.specs.Exits.{Exit, first_label, name_of}
 use Rattle.linear_forms.specs.Emission.{Emitting, way_place, way_test, way_tests}
-use Rattle.linear_forms.specs.CodeRuns.{HasAt, Site, Reaches, here, SlotsBehind}
+use Rattle.linear_forms.specs.Pace.{Paced}
+use Rattle.linear_forms.specs.CodeRuns.{HasAt, Site, here, SlotsBehind}
 use Rattle.linear_forms.proofs.Running
 
 equal_same : (a : ℕ) → int_equal (pos a) (pos a) ≡ true
@@ -51,22 +52,24 @@ module _ (code : Code) (most n : ℕ) where
   pub ways_reach : (em : Emitting) (xs : List Exit) (s : Site) (k : ℕ) (f : Frame) (w : World) (t : ℕ) → SlotsBehind code s.func n em → k < length xs
       → f.slots em.way ≡ number_word (pos (name_of k xs)) → (outs : List ℕ) (p : ℕ) → contains outs k ≡ true
       → HasAt code s.func p (way_tests em xs outs)
-      → Reaches code most (here s p f w) t (at (compiled s.func) (code.label_at s.func (first_label k xs)) f s.frames w) t (length outs)
+      → Paced code most (here s p f w) t (at (compiled s.func) (code.label_at s.func (first_label k xs)) f s.frames w) t (length outs)
   ways_reach em xs s k f w t b lt way [] p is has = absurd (cc is)
   ways_reach em xs s k f w t b lt way (m ∷ outs) p is has = go (m == k) refl is (ways_reach em xs s k f w t b lt way outs (p + 1))
     where
       go : (c : Bool) → (m == k) ≡ c → (c || contains outs k) ≡ true
           → (contains outs k ≡ true → HasAt code s.func (p + 1) (way_tests em xs outs)
-          → Reaches code most (here s (p + 1) f w) t (at (compiled s.func) (code.label_at s.func (first_label k xs)) f s.frames w) t (length outs))
-          → Reaches code most (here s p f w) t (at (compiled s.func) (code.label_at s.func (first_label k xs)) f s.frames w) t (length (m ∷ outs))
+          → Paced code most (here s (p + 1) f w) t (at (compiled s.func) (code.label_at s.func (first_label k xs)) f s.frames w) t (length outs))
+          → Paced code most (here s p f w) t (at (compiled s.func) (code.label_at s.func (first_label k xs)) f s.frames w) t (length (m ∷ outs))
       go true e is rest =
+          let quiet = Running.test_quiet code most n s p (binary NotEqual (load (way_place em)) (number (pos (name_of m xs)))) (first_label m xs) f w has.0 in
           let q = test_step em xs s p m (name_of k xs) f w b way has.0 ∙
           ap (λ c. if is_zero (truth (not c)) then at (compiled s.func) (code.label_at s.func (first_label m xs)) f s.frames w else at (compiled s.func) (p + 1) f s.frames w)
           (subst (λ j. int_equal (pos (name_of k xs)) (pos (name_of j xs)) ≡ true) (sym (is_same m k e)) (equal_same (name_of k xs))) ∙
           ap (λ j. at (compiled s.func) (code.label_at s.func (first_label j xs)) f s.frames w) (is_same m k e) in
-          Running.slower code most n (length (m ∷ outs)) (omega arith) (Running.free_step code most n t q)
+          Running.slower code most n (length (m ∷ outs)) (omega arith) (Running.free_step code most n t q quiet)
       go false e is rest =
+          let quiet = Running.test_quiet code most n s p (binary NotEqual (load (way_place em)) (number (pos (name_of m xs)))) (first_label m xs) f w has.0 in
           let q = test_step em xs s p m (name_of k xs) f w b way has.0 ∙
           ap (λ c. if is_zero (truth (not c)) then at (compiled s.func) (code.label_at s.func (first_label m xs)) f s.frames w else at (compiled s.func) (p + 1) f s.frames w)
           (equal_other (name_of k xs) (name_of m xs) (names_differ xs m k lt (not_same m k e))) in
-          Running.slower code most n (length (m ∷ outs)) (omega arith) (Running.reaches_on code most n (Running.free_step code most n t q) (rest is has.3))
+          Running.slower code most n (length (m ∷ outs)) (omega arith) (Running.reaches_on code most n (Running.free_step code most n t q quiet) (rest is has.3))

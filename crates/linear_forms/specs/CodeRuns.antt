@@ -1,5 +1,5 @@
 -- What it means that a piece of code does at the machine what a computation of regions does.
-use Rattle.std.specs.Prelude.{◌≡◌, ℕ, ◌+◌, ◌*◌, ◌<◌, ◌≤◌, pos, true, List, [], ◌∷◌, length, Some}
+use Rattle.std.specs.Prelude.{◌≡◌, ℕ, ◌+◌, ◌<◌, pos, true, List, [], ◌∷◌, length, Some}
 use Rattle.scope_rules.specs.Class.{contains}
 use Rattle.scope_rules.specs.Outcome.{thrown, cancelled, ended, undefined, out_of_turns, deep}
 use Rattle.region_forms.specs.Form.{help_slot}
@@ -15,7 +15,7 @@ use Rattle.linear_forms.specs.Activation.{Code, Activation, State, Next, goes_to
 use Rattle.linear_forms.specs.Search.{found}
 use Rattle.linear_forms.specs.Unwinding.{unwind}
 use Rattle.linear_forms.specs.Forced.{force}
-use Rattle.linear_forms.specs.Machine.{exec, go_on}
+use Rattle.linear_forms.specs.Pace.{Paced, MustPay}
 use Rattle.linear_forms.specs.Sites.{Placed}
 use Rattle.linear_forms.specs.Exits.{Exit, inner, first_label, crosses, name_of}
 use Rattle.linear_forms.specs.Emission.{Emitting}
@@ -78,7 +78,8 @@ abbrev pub Any : Frame → Type 0
 Any f = Unit {0}
 
 -- What the machine comes to where a region comes out so: behind the region's code; on the way out; in the middle of an unwind from the
--- region's own cover, with its target; in the middle of a forced unwind; at an end; or still running where the turns are used up.
+-- region's own cover, with its target; in the middle of a forced unwind; at an end; at an operation that would pay for a turn where the turns are used
+-- up; or still running.
 abbrev pub Meets : Code → ℕ → (Frame → Type 0) → ExitsAt → Site → ℕ → Result Flow → Next → Type 0
 Meets code n P L s p' (done normal st) x =
     (f : Frame) × SameBelow n st.frame f × P f × (x ≡ at (compiled s.func) p' f s.frames st.world)
@@ -90,7 +91,7 @@ Meets code n P L s p' (stopped (cancelled k) st) x =
     (f : Frame) × SameBelow n st.frame f × (x ≡ force code s.cover k (compiled s.func) f s.frames st.world)
 Meets code n P L s p' (stopped (ended e) st) x = x ≡ finishes (by_program e) st.world
 Meets code n P L s p' (stopped undefined st) x = x ≡ finishes not_defined st.world
-Meets code n P L s p' (stopped out_of_turns st) x = (m : State) × (x ≡ goes_to m) × (m.world ≡ st.world)
+Meets code n P L s p' (stopped out_of_turns st) x = MustPay code st.world x
 Meets code n P L s p' (stopped deep st) x = (m : State) × (x ≡ goes_to m) × (m.world ≡ st.world)
 
 -- the turns left behind a result; where they are used up, or a call is too deep, none counts
@@ -99,16 +100,10 @@ turns_after (done a st) = st.turns
 turns_after (stopped out_of_turns st) = 0
 turns_after (stopped x st) = st.turns
 
--- from a state the machine comes to what is next: in as many steps as turns are spent, or more, and in at most `most` steps for each turn
--- and c besides
-pub record Reaches (code : Code) (most : ℕ) (st : State) (t : ℕ) (x : Next) (u c : ℕ) : Type 0 where
-  pub falls : u ≤ t
-  pub by : (k : ℕ) → (j : ℕ) × (k + t ≤ j + u) × (j + u * most ≤ k + t * most + c) × (exec code j st ≡ go_on (exec code k) x)
-
--- from a state with t turns the machine comes to what a result says, in the bounds of `Reaches`
+-- from a state with t turns the machine comes to what a result says, at the pace of `Paced`
 pub record Runs (code : Code) (most n c : ℕ) (P : Frame → Type 0) (L : ExitsAt) (s : Site) (p' : ℕ) (st : State) (t : ℕ) (r : Result Flow) : Type 0 where
   pub next : Next
-  pub reaches : Reaches code most st t next (turns_after r) c
+  pub reaches : Paced code most st t next (turns_after r) c
   pub meets : Meets code n P L s p' r next
 
 -- the state at a place of a site

@@ -22,6 +22,8 @@ pub mod Means
 pub mod Agrees
 pub mod Copies
 pub mod Size
+pub mod Counted
+pub mod Pace
 pub mod CodeRuns
 pub mod Stands
 pub mod Laws

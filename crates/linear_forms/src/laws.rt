@@ -1,4 +1,5 @@
 // Laws of linear code: calls of no effect, whose contracts state what holds of every program.
+ghost use Rattle.linear_forms.specs.Counted.{OnlyCallsDeepen};
 ghost use Rattle.linear_forms.specs.Defined.{DefinedWhereLive};
 ghost use Rattle.linear_forms.specs.Laws.{CleanupsAreSeen, CleanupsStandTwice, CodeIsShort, FiltersAreRight, FunctionsStand, HandlersAreChosen, LabelsAreDistinct, PadsStand, SearchAgrees, SitesAreRight};
 
@@ -56,4 +57,9 @@ pub fn search_agrees_with_guards()
 /// read or written, it is thrown, thrown again, entered or left, or its object is freed.
 pub fn defined_where_live()
     ensures { DefinedWhereLive }
+{}
+
+/// A step after which more calls of compiled functions are open is counted as a call, and a jump opens none.
+pub fn only_calls_deepen()
+    ensures { OnlyCallsDeepen }
 {}

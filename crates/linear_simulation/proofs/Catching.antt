@@ -1,5 +1,5 @@
 -- Regions that catch: the pad, its tests, and the handlers.
-use Rattle.std.proofs.Common.{◌≡◌, ℕ, ◌+◌, ◌≤◌, Bool, true, false, List, [], ◌∷◌, ◌++◌, length, Option, Some, None, refl, sym, ap, ◌∙◌, subst, arith}
+use Rattle.std.proofs.Common.{◌≡◌, ℕ, ◌+◌, ◌<◌, ◌≤◌, Bool, true, false, List, [], ◌∷◌, ◌++◌, length, Option, Some, None, refl, sym, ap, ◌∙◌, subst, arith}
 use Rattle.std.specs.Prelude.{ℤ, pos, negsuc, find, ◌==◌, if◌then◌else◌}
 use Rattle.std.proofs.lemmas.Bool.Decides.{nat_tests}
 use Rattle.scope_rules.specs.Arithmetic.{int_equal}
@@ -29,7 +29,9 @@ use Rattle.linear_forms.specs.Emission.{Emitting, chain_of, guarded, filters_of,
 use Rattle.linear_forms.specs.Code.{clause_tests}
 use Rattle.linear_forms.specs.Means.{Means, AllMean}
 use Rattle.linear_forms.specs.Laws.{chosen}
-use Rattle.linear_forms.specs.CodeRuns.{HasAt, Site, SameBelow, LeftAt, ExitsAt, Any, Reaches, Runs, here}
+use Rattle.linear_forms.specs.Counted.{is_calling, counts_at}
+use Rattle.linear_forms.specs.Pace.{Paced}
+use Rattle.linear_forms.specs.CodeRuns.{HasAt, Site, SameBelow, LeftAt, ExitsAt, Any, Runs, here}
 use Rattle.linear_forms.proofs.Running
 use Rattle.linear_forms.proofs.Choosing.{handlers_are_chosen}
 use Rattle.linear_simulation.specs.Simulates.{Fits, IsChained}
@@ -70,16 +72,25 @@ module _ (code : Code) (most n : ℕ) (em : Emitting) (s : Site) where
       Running.step_at code most n s q f w (plain (bind x (record { root = through em.object; offset = 0 }))) op ∙
       ap (λ y. performed code (if_some (with_some (location_behind 0 (address_in y)) location_address) (λ z. goes (with_slot x (address_word z) f) w)) a s.frames w) slot
 
+  bind_quiet : (q x e tg : ℕ) (f : Frame) (w : World) → code.op_at s.func q ≡ Some (plain (bind x (record { root = through em.object; offset = 0 }))) → f.slots em.object ≡ flying e tg
+      → counts_at code (here s q f w) ≡ false
+  bind_quiet q x e tg f w op slot =
+      Running.uncounted code most n s q f w (plain (bind x (record { root = through em.object; offset = 0 }))) op
+      (ap (λ y. is_calling (if_some (with_some (location_behind 0 (address_in y)) location_address) (λ z. goes (with_slot x (address_word z) f) w))) slot)
+
+  filter_quiet : (q l : ℕ) (k : ℤ) (f : Frame) (w : World) → code.op_at s.func q ≡ Some (jump_filter em.selector k l) → counts_at code (here s q f w) ≡ false
+  filter_quiet q l k f w op = Running.uncounted code most n s q f w (jump_filter em.selector k l) op refl
+
   -- one clause
   pub clause_step : {cb cr : ℕ} {L : ExitsAt} (e tg : ℕ) (t : Option ℕ) (x lb l q h p' : ℕ) (a rest : List Placed) (f : Frame) (st : RegionState) (sel : ℤ) (go1 go2 : Action Flow) (b : Bool)
       → f.slots em.selector ≡ number_word sel → f.slots em.object ≡ flying e tg → SameBelow n st.frame f
       → (b ≡ true → sel ≡ em.filter (clause t)) → (b ≡ false → sel ≡ em.filter (clause t) → ⊥)
       → code.op_at s.func q ≡ Some (jump_filter em.selector (em.filter (clause t)) lb)
-      → HasAt code s.func h (handler_code em x l lb a rest) → code.label_at s.func l ≡ p'
+      → HasAt code s.func h (handler_code em x l lb a rest) → code.label_at s.func l ≡ p' → h + 1 + 1 + length a < p'
       → ((g : Frame) → SameBelow n (with_object x e st).frame g → Runs code most n cb Any L s (h + 1 + 1 + length a) (here s (h + 1 + 1) g st.world) st.turns (go1 (with_object x e st)))
       → (b ≡ false → Runs code most n cr Any L s p' (here s (q + 1) f st.world) st.turns (go2 st))
       → Runs code most n (cb + cr + 4) Any L s p' (here s q f st.world) st.turns ((if b then (λ u. go1 (with_object x e u)) else go2) st)
-  clause_step {cb} {cr} {L} e tg t x lb l q h p' a rest f st sel go1 go2 true slot obj same hit miss op has to body next =
+  clause_step {cb} {cr} {L} e tg t x lb l q h p' a rest f st sel go1 go2 true slot obj same hit miss op has to ahead body next =
       let k = em.filter (clause t) in
       let s1 = filter_step q lb k sel f st.world true op slot (holds_itself sel k (hit refl)) ∙ ap (λ z. at (compiled s.func) z f s.frames st.world) has.2 in
       let s2 = Parts.label_step code most n s h lb f st.world has.0 in
@@ -87,12 +98,14 @@ module _ (code : Code) (most n : ℕ) (em : Emitting) (s : Site) where
       let tail = Parts.has_back code s.func (h + 1 + 1) a (quiet (jump l) ∷ rest) has.3.3 in
       let g = with_slot x (address_word (object_address e)) f in
       Running.runs_slower code most n (cb + cr + 4) (omega arith) (Running.runs_after code most n
-      (Running.reaches_on code most n (Running.reaches_on code most n (Running.free_step code most n st.turns s1) (Running.free_step code most n st.turns s2)) (Running.free_step code most n st.turns s3))
-      (Parts.then_jump code most n {L = L} s (h + 1 + 1 + length a) l p' tail.0 to (go1 (with_object x e st)) (body g (same_slot n x (address_word (object_address e)) st.frame f same))))
-  clause_step {cb} {cr} {L} e tg t x lb l q h p' a rest f st sel go1 go2 false slot obj same hit miss op has to body next =
+      (Running.reaches_on code most n (Running.reaches_on code most n (Running.free_step code most n st.turns s1 (filter_quiet q lb k f st.world op))
+      (Running.free_step code most n st.turns s2 (Running.label_quiet code most n s h lb f st.world has.0)))
+      (Running.free_step code most n st.turns s3 (bind_quiet (h + 1) x e tg f st.world has.3.0 obj)))
+      (Parts.then_jump code most n {L = L} s (h + 1 + 1 + length a) l p' tail.0 to ahead (go1 (with_object x e st)) (body g (same_slot n x (address_word (object_address e)) st.frame f same))))
+  clause_step {cb} {cr} {L} e tg t x lb l q h p' a rest f st sel go1 go2 false slot obj same hit miss op has to ahead body next =
       let k = em.filter (clause t) in
       let s1 = filter_step q lb k sel f st.world false op slot (Selecting.fails sel k (miss refl)) in
-      Running.runs_slower code most n (cb + cr + 4) (omega arith) (Running.runs_after code most n (Running.free_step code most n st.turns s1) (next refl))
+      Running.runs_slower code most n (cb + cr + 4) (omega arith) (Running.runs_after code most n (Running.free_step code most n st.turns s1 (filter_quiet q lb k f st.world op)) (next refl))
 
   -- behind the tests of a pad of clauses the exception goes on
   pub goes_farther : {L : ExitsAt} (e tg q p' : ℕ) (f : Frame) (st : RegionState) → f.slots em.object ≡ flying e tg → SameBelow n st.frame f
@@ -101,24 +114,25 @@ module _ (code : Code) (most n : ℕ) (em : Emitting) (s : Site) where
       → Runs code most n 1 Any L s p' (here s q f st.world) st.turns (stopped (thrown e) st)
   goes_farther e tg q p' f st obj same fd op cov = record {
     next = unwind code s.cover tg e (compiled s.func) f s.frames st.world;
-    reaches = Running.free_step code most n st.turns (Resuming.resume_flying code most n em s q e tg f st.world op cov obj);
+    reaches = Running.free_step code most n st.turns (Resuming.resume_flying code most n em s q e tg f st.world op cov obj)
+        (Running.uncounted code most n s q f st.world (resume em.object) op refl);
     meets = (tg, f, fd, same, refl);
   }
 
   -- the tests are passed by a forced unwind
   tests_pass : (cs : Clauses) (lb q : ℕ) (f : Frame) (w : World) (t : ℕ) → AllMean (code.sense_at s.func) em.filter (types_of cs) → code.sense_at s.func (pos 0) ≡ cleanup
       → f.slots em.selector ≡ number_word (pos 0) → HasAt code s.func q (clause_tests em lb cs)
-      → Reaches code most (here s q f w) t (goes_to (here s (q + length (clause_tests em lb cs)) f w)) t (length (clause_tests em lb cs))
+      → Paced code most (here s q f w) t (goes_to (here s (q + length (clause_tests em lb cs)) f w)) t (length (clause_tests em lb cs))
   tests_pass no_clauses lb q f w t means z slot has =
-      subst (λ y. Reaches code most (here s q f w) t (goes_to (here s y f w)) t 0) (omega arith) (Running.reaches_now code most n _ t)
+      subst (λ y. Paced code most (here s q f w) t (goes_to (here s y f w)) t 0) (omega arith) (Running.reaches_now code most n _ t)
   tests_pass (clause_then u x r cs) lb q f w t means z slot has =
       let k = em.filter (clause u) in
       let ne : pos 0 ≡ k → ⊥ = λ y. let no : cleanup ≡ clause u = sym z ∙ ap (code.sense_at s.func) y ∙ means.0 in absurd (cc no) in
       let s1 = filter_step q lb k (pos 0) f w false has.0 slot (Selecting.fails (pos 0) k ne) in
       let rest = tests_pass cs (lb + 1) (q + 1) f w t means.1 z slot has.3 in
       let e : q + 1 + length (clause_tests em (lb + 1) cs) ≡ q + length (clause_tests em lb (clause_then u x r cs)) = omega arith in
-      Running.slower code most n _ (omega arith) (Running.reaches_on code most n (Running.free_step code most n t s1)
-      (subst (λ y. Reaches code most (here s (q + 1) f w) t (goes_to (here s y f w)) t (length (clause_tests em (lb + 1) cs))) e rest))
+      Running.slower code most n _ (omega arith) (Running.reaches_on code most n (Running.free_step code most n t s1 (filter_quiet q lb k f w has.0))
+      (subst (λ y. Paced code most (here s (q + 1) f w) t (goes_to (here s y f w)) t (length (clause_tests em (lb + 1) cs))) e rest))
 
 pub pad_selector : (em : Emitting) (x : Word) (m : ℤ) (f : Frame) → (pad_frame em x m f).slots em.selector ≡ number_word m
 pad_selector em x m f = ap (λ y. if y then number_word m else if em.object == em.selector then x else f.slots em.selector) (itself em.selector)
@@ -182,7 +196,7 @@ module _ (code : Code) (most n : ℕ) (run : Running) (em : Emitting) (s : Site)
   -- an exception comes to the pad, or goes past it
   pub thrown_in : {c : ℕ} {L : ExitsAt} {m : State} {t : ℕ} (d e tg p' : ℕ) (f : Frame) (st : RegionState) (r : Result Flow) → SameBelow n st.frame f
       → found code (compiled s.func) caught_cover (type_at st.world e) s.frames ≡ Some tg
-      → Reaches code most m t (unwind code caught_cover tg e (compiled s.func) f s.frames st.world) st.turns c
+      → Paced code most m t (unwind code caught_cover tg e (compiled s.func) f s.frames st.world) st.turns c
       → ((x : Frame) (sel : ℤ) → x.slots em.selector ≡ number_word sel → x.slots em.object ≡ flying e tg → SameBelow n st.frame x
       → Hits em (find (matches code.rows (type_at st.world e)) ts) sel → NoOther code.rows senses em.filter (type_at st.world e) sel
       → (find (matches code.rows (type_at st.world e)) ts ≡ None → found code (compiled s.func) s.cover (type_at st.world e) s.frames ≡ Some tg)
@@ -206,7 +220,7 @@ module _ (code : Code) (most n : ℕ) (run : Running) (em : Emitting) (s : Site)
       said : pad_verdict code.rows senses (filters_of em ts ++ chain_of s.cover) ty ≡ chosen em.filter (find (matches code.rows ty) ts) (verdict code.rows senses (chain_of s.cover) ty)
       said = handlers_are_chosen.clauses code.rows senses em ts (chain_of s.cover) ty means
 
-      at_it : (sel : ℤ) → Reaches code most m t (pad_entered (fetch code (compiled s.func) (p + 1)) (flying e tg) sel (compiled s.func) (p + 1) f s.frames st.world) st.turns c
+      at_it : (sel : ℤ) → Paced code most m t (pad_entered (fetch code (compiled s.func) (p + 1)) (flying e tg) sel (compiled s.func) (p + 1) f s.frames st.world) st.turns c
           → Hits em (find (matches code.rows ty) ts) sel → NoOther code.rows senses em.filter ty sel
           → (find (matches code.rows ty) ts ≡ None → found code (compiled s.func) s.cover ty s.frames ≡ Some tg)
           → Runs code most n (c + d) Any L s p' m t r
@@ -226,7 +240,7 @@ module _ (code : Code) (most n : ℕ) (run : Running) (em : Emitting) (s : Site)
 
       go : (o : Option (Option ℕ)) → find (matches code.rows ty) ts ≡ o → (v : Verdict) → verdict code.rows senses (chain_of s.cover) ty ≡ v
           → found_by (chosen em.filter o v) (length s.frames) above ≡ Some tg
-          → Reaches code most m t (unwound_by code (chosen em.filter o v) (p + 1) tg e (compiled s.func) f s.frames st.world rest) st.turns c
+          → Paced code most m t (unwound_by code (chosen em.filter o v) (p + 1) tg e (compiled s.func) f s.frames st.world rest) st.turns c
           → Runs code most n (c + d) Any L s p' m t r
       go (Some u) q v qv h k =
           let is = found_is code.rows senses em.filter ty ts u means q in
@@ -255,14 +269,14 @@ module _ (code : Code) (most n : ℕ) (run : Running) (em : Emitting) (s : Site)
       → HasAt code s.func (p + 1 + 1) (clause_tests em lb cs)
       → code.op_at s.func (p + 1 + 1 + length (clause_tests em lb cs)) ≡ Some (resume em.object)
       → code.cover_at s.func (p + 1 + 1 + length (clause_tests em lb cs)) ≡ s.cover
-      → Reaches code most m t (force code caught_cover k (compiled s.func) f s.frames st.world) st.turns c
+      → Paced code most m t (force code caught_cover k (compiled s.func) f s.frames st.world) st.turns c
       → Runs code most n (c + (length (clause_tests em lb cs) + 1)) Any L s p' m t (stopped (cancelled k) st)
   cancelled_in {c} {L} {m} {t} k lb p' cs f st same mean has op cov re =
       go (some_cleanup senses (chain_of s.cover)) refl
       (Running.reaches_to code most n (ap (λ b. forced_by code b (p + 1) k (compiled s.func) f s.frames st.world (forced_above code k s.frames st.world)) (clauses_clean senses em ts (chain_of s.cover) means)) re)
     where
       go : (b : Bool) → some_cleanup senses (chain_of s.cover) ≡ b
-          → Reaches code most m t (forced_by code b (p + 1) k (compiled s.func) f s.frames st.world (forced_above code k s.frames st.world)) st.turns c
+          → Paced code most m t (forced_by code b (p + 1) k (compiled s.func) f s.frames st.world (forced_above code k s.frames st.world)) st.turns c
           → Runs code most n (c + (length (clause_tests em lb cs) + 1)) Any L s p' m t (stopped (cancelled k) st)
       go false q r = record {
         next = force code s.cover k (compiled s.func) f s.frames st.world;
@@ -275,7 +289,8 @@ module _ (code : Code) (most n : ℕ) (run : Running) (em : Emitting) (s : Site)
           let r1 = Running.reaches_to code most n (Padding.at_pad code em s.func (p + 1) (unwinding k) (pos 0) f s.frames st.world pad_op) r in
           let r2 = Running.reaches_on code most n r1 (tests_pass code most n em s cs lb (p + 1 + 1) x st.world st.turns mean fits.zero (pad_selector em (unwinding k) (pos 0) f) has) in
           let r3 = Running.reaches_on code most n r2 (Running.free_step code most n st.turns (Resuming.resume_forced code most n em s
-          (p + 1 + 1 + length (clause_tests em lb cs)) k x st.world op cov (Padding.pad_object code s.func n em fits.behind (unwinding k) (pos 0) f))) in
+          (p + 1 + 1 + length (clause_tests em lb cs)) k x st.world op cov (Padding.pad_object code s.func n em fits.behind (unwinding k) (pos 0) f))
+          (Running.uncounted code most n s (p + 1 + 1 + length (clause_tests em lb cs)) x st.world (resume em.object) op refl)) in
           record {
             next = force code s.cover k (compiled s.func) x s.frames st.world;
             reaches = Running.slower code most n (c + (length (clause_tests em lb cs) + 1)) (omega arith) r3;
@@ -290,10 +305,10 @@ module _ (code : Code) (most n : ℕ) (run : Running) (em : Emitting) (s : Site)
       → Runs code most n c Any (LeftAt code em n in_catch xs outs) in_catch p1 m t r
       → ((e tg : ℕ) (f : Frame) (st : RegionState) → st.turns ≤ t → SameBelow n st.frame f
       → found code (compiled s.func) caught_cover (type_at st.world e) s.frames ≡ Some tg
-      → Reaches code most m t (unwind code caught_cover tg e (compiled s.func) f s.frames st.world) st.turns c
+      → Paced code most m t (unwind code caught_cover tg e (compiled s.func) f s.frames st.world) st.turns c
       → Runs code most n (c + d) Any (LeftAt code em n s xs more) s p1 m t (go e st))
       → ((k : ℤ) (f : Frame) (st : RegionState) → SameBelow n st.frame f
-      → Reaches code most m t (force code caught_cover k (compiled s.func) f s.frames st.world) st.turns c
+      → Paced code most m t (force code caught_cover k (compiled s.func) f s.frames st.world) st.turns c
       → Runs code most n (c + d) Any (LeftAt code em n s xs more) s p1 m t (stopped (cancelled k) st))
       → Runs code most n (c + d) Any (LeftAt code em n s xs more) s p1 m t (after_try go r)
   caught_out {c} d p1 outs more wide (done normal st) go a th ca = record { next = a.next; reaches = Running.slower code most n (c + d) (omega arith) a.reaches; meets = a.meets }

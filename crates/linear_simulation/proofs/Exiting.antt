@@ -21,7 +21,8 @@ use Rattle.linear_forms.specs.Machine.{step}
 use Rattle.linear_forms.specs.Exits.{Exit, exit_to, inner, first_label, name_of}
 use Rattle.linear_forms.specs.Emission.{Emitting, quiet, put, way_place, way_test, way_tests, exit_code}
 use Rattle.linear_forms.specs.Agrees.{Agrees}
-use Rattle.linear_forms.specs.CodeRuns.{HasAt, Site, context_at, SameBelow, LeftAt, ExitsAt, Any, Reaches, Runs, here, SlotsBehind}
+use Rattle.linear_forms.specs.Pace.{Paced}
+use Rattle.linear_forms.specs.CodeRuns.{HasAt, Site, context_at, SameBelow, LeftAt, ExitsAt, Any, Runs, here, SlotsBehind}
 use Rattle.linear_forms.proofs.Running
 use Rattle.linear_forms.proofs.Ways
 use Rattle.linear_simulation.specs.Comes.{Comes, goes_on}
@@ -82,7 +83,8 @@ module _ (code : Code) (most n : ℕ) where
           let c = has.3.1 ∙ cov in
           let k = cleans.runs s.guards (qc + 1) f st lt same (subst (λ z. Agrees code (compiled s.func) s.guards z s.frames) (sym c) agrees) has.3.0 in
           Running.runs_slower code most n (length outs + 9) (omega arith)
-          (Running.runs_after code most n (Running.free_step code most n st.turns (Parts.label_step code most n s qc (l + 2) f st.world has.0))
+          (Running.runs_after code most n (Running.free_step code most n st.turns (Parts.label_step code most n s qc (l + 2) f st.world has.0)
+          (Running.label_quiet code most n s qc (l + 2) f st.world has.0))
           (comes_then {L = Left} s (qc + 1) st.frame f (length outs) (pure flow) same c (clean (context_at s) st) k (λ st2 same2 le. next st2 same2)))
 
       -- a normal end, which is no way out
@@ -152,7 +154,7 @@ module _ (code : Code) (most n : ℕ) where
           let q : qc + 1 + 1 ≡ qc + 1 + 1 + length outs = omega (arith, ap length e) in
           record {
             next = goes_to (here s (qc + 1 + 1 + length outs) f st.world);
-            reaches = subst (λ z. Reaches code most (here s (qc + 1 + 1) f st.world) st.turns (goes_to (here s z f st.world)) st.turns (length outs)) q
+            reaches = subst (λ z. Paced code most (here s (qc + 1 + 1) f st.world) st.turns (goes_to (here s z f st.world)) st.turns (length outs)) q
                 (Running.slower code most n (length outs) (omega arith) (Running.reaches_now code most n _ st.turns));
             meets = (f, same, tt, refl);
           }
@@ -182,7 +184,7 @@ module _ (code : Code) (most n : ℕ) where
       pub place : qc + 1 + 1 + length outs ≡ q0 + length (exit_code em (Some o) s.cover xs l outs)
       pub comes : (f : Frame) (w : World) (t : ℕ) →
           (g : Frame) × ((x : Frame) → SameBelow n x f → SameBelow n x g) × ((outs ≡ []) ⊎ (g.slots em.way ≡ number_word (pos 0))) ×
-          Reaches code most (here s q0 f w) t (goes_to (here s qc g w)) t 1
+          Paced code most (here s q0 f w) t (goes_to (here s qc g w)) t 1
 
     pub located : (outs : List ℕ) (q0 : ℕ) → HasAt code s.func q0 (exit_code em (Some o) s.cover xs l outs ++ quiet (label l) ∷ []) → Located outs q0
     located [] q0 h = record {
@@ -206,6 +208,6 @@ module _ (code : Code) (most n : ℕ) where
             with_slot em.way (number_word (pos 0)) f,
             λ x same. behind_same n em.way (number_word (pos 0)) x f (omega (arith, behind.way)) same,
             inr (ap (λ b. if b then number_word (pos 0) else f.slots em.way) (itself em.way)),
-            Running.free_step code most n t (way_step q0 0 f w h.0),
+            Running.free_step code most n t (way_step q0 0 f w h.0) (Running.way_quiet code most n em s q0 0 f w behind h.0),
           );
         }

@@ -22,7 +22,8 @@ use Rattle.linear_forms.specs.Code.{region_code}
 use Rattle.linear_forms.specs.Unit.{emitting, function_code, unit_of}
 use Rattle.linear_forms.specs.UnitRun.{no_code, code_of}
 use Rattle.linear_forms.specs.Agrees.{Agrees}
-use Rattle.linear_forms.specs.CodeRuns.{Site, SameBelow, LeftAt, Any, Reaches, Runs, context_of, called_from}
+use Rattle.linear_forms.specs.Pace.{Paced}
+use Rattle.linear_forms.specs.CodeRuns.{Site, SameBelow, LeftAt, Any, Runs, context_of, called_from}
 use Rattle.linear_forms.specs.Cost.{cost}
 use Rattle.linear_forms.proofs.Lists.{mapped}
 use Rattle.linear_forms.proofs.Standing.{functions_stand}
@@ -84,9 +85,10 @@ module _ (code : Code) (most n : ℕ) (run : Running) (g : ℕ) (a : Activation)
       let s1 = Running.step_at code most n body_site q x.0 st.world (return result) op ∙
       ap (λ o. returned_with code o (a ∷ fs) st.world) (result_same k h x.0 st x.1) in
       go (result_in result st.frame st.world run.kinds)
-      (Running.reaches_on code most n (Running.reaches_to code most n x.3 r.reaches) (Running.free_step code most n st.turns s1))
+      (Running.reaches_on code most n (Running.reaches_to code most n x.3 r.reaches) (Running.free_step code most n st.turns s1
+      (Running.uncounted code most n body_site q x.0 st.world (return result) op refl)))
     where
-      go : (o : Option ℤ) → Reaches code most m t (returned_with code o (a ∷ fs) st.world) st.turns (c + 1)
+      go : (o : Option ℤ) → Paced code most m t (returned_with code o (a ∷ fs) st.world) st.turns (c + 1)
           → Comes code most x0 a fs (comes_back code a fs) m t (after_call x0 (some o st)) (c + 1)
       go None re = record { next = finishes not_defined st.world; reaches = re; comes = refl }
       go (Some v) re = record { next = returned code v (a ∷ fs) st.world; reaches = re; comes = refl }
@@ -163,7 +165,7 @@ module _ (p : Regions) (most limit : ℕ) (sound : AreSound p most) where
         let body = region_runs code most fuel run run_calls f.body (emitting f) n s [] 0 0 st2.frame st2 (omega (arith, cheap)) lt tt
         (record { same = agrees.same })
         (record { kinds = λ k lt2. same_kinds k; behind = stands.behind; zero = refl })
-        stands.means ok.barred ok.clauses ok.inside ok.slots (record { call = refl; slots = λ k lt2. refl })
+        stands.means ok.barred ok.clauses ok.inside (λ k lt2. absurd (omega (arith, lt2))) ok.slots (record { call = refl; slots = λ k lt2. refl })
         (Parts.has_front code g 0 c (quiet (return f.result) ∷ []) stands.has) in
         let end = Parts.has_back code g 0 c (quiet (return f.result) ∷ []) stands.has in
         let all_out = Parts.widened code most n s (outs_of f.body) [] (λ k h. let lt3 = ok.inside k h in absurd (omega (arith, lt3))) (watched run f.body inner st2) body in

@@ -20,7 +20,8 @@ use Rattle.linear_forms.specs.Forced.{force}
 use Rattle.linear_forms.specs.Unwinding.{unwind}
 use Rattle.linear_forms.specs.Machine.{step}
 use Rattle.linear_forms.specs.Agrees.{Agrees}
-use Rattle.linear_forms.specs.CodeRuns.{Reaches, context_of}
+use Rattle.linear_forms.specs.Pace.{pays_at, Paced}
+use Rattle.linear_forms.specs.CodeRuns.{context_of}
 use Rattle.linear_forms.proofs.Running
 use Rattle.linear_simulation.specs.Watched.{still, not_its_own, watched_leave}
 use Rattle.linear_simulation.specs.Comes.{Comes, comes_back, goes_on, BackOrEnd, CallsRun, state_after}
@@ -53,22 +54,22 @@ module _ (code : Code) (most fuel : ℕ) (run : Running) (calls : CallsRun code 
 
   -- a call of what does nothing
   pub empty_back : {m : State} {t c : ℕ} (a b : Activation) (fs ds : List Activation) (gs : List Guard) (st : RegionState) (mid : State) → mid.world ≡ st.world
-      → step code mid ≡ on b b.frame ds (StubOperation.empty_call (a ∷ fs) st.world)
-      → Reaches code most m t (goes_to mid) st.turns c
+      → step code mid ≡ on b b.frame ds (StubOperation.empty_call (a ∷ fs) st.world) → pays_at code mid ≡ true
+      → Paced code most m t (goes_to mid) st.turns c
       → BackOrEnd code most st.frame b ds m t (empty_call run (context_of gs a fs) st) c
-  empty_back {m} {t} {c} a b fs ds gs st mid we se r = go (nat_le run.limit (depth_of (a ∷ fs)))
+  empty_back {m} {t} {c} a b fs ds gs st mid we se pay r = go (nat_le run.limit (depth_of (a ∷ fs)))
     where
       after : Unit {0} → Action (Unit {0})
       after x = change (λ w. record w { deepest = max w.deepest (depth_of (a ∷ fs) + 1) })
 
-      spent : (u : ℕ) → Reaches code most m t (goes_to mid) u c → BackOrEnd code most st.frame b ds m t (continued (spend u st) after) c
-      spent zero r = inr (record { why = out_of_turns; state = st; is = refl; next = goes_to mid; reaches = r; ends = (mid, refl, we) })
+      spent : (u : ℕ) → Paced code most m t (goes_to mid) u c → BackOrEnd code most st.frame b ds m t (continued (spend u st) after) c
+      spent zero r = inr (record { why = out_of_turns; state = st; is = refl; next = goes_to mid; reaches = r; ends = (mid, refl, we, pay) })
       spent (suc u) r = inl (
         record st { turns = u; world = record (st.world) { deepest = max st.world.deepest (depth_of (a ∷ fs) + 1) } },
         refl,
         refl,
         Running.slower code most 0 c (omega arith) (Running.reaches_on code most 0 r
-            (Running.turn_step code most 0 u se (Running.reaches_now code most 0 _ u) (omega (arith, calls.room)))),
+            (Running.turn_step code most 0 u se pay (Running.reaches_now code most 0 _ u) (omega (arith, calls.room)))),
       )
 
       go : (d : Bool) → BackOrEnd code most st.frame b ds m t (continued ((if d then stop deep else spend_turn) st) after) c
@@ -89,9 +90,9 @@ module _ (code : Code) (most fuel : ℕ) (run : Running) (calls : CallsRun code 
   module _ (a : Activation) (fs : List Activation) (gs : List Guard) (agrees : Agrees code a.function gs (look code a.function a.place) fs)
       (want : wanted_by (fetch code a.function a.place) ≡ None) where
     -- the end of the runtime's function
-    ended_at : {m : State} {t u c : ℕ} (x : Frame) (w : World) → Reaches code most m t (at end_catch 3 x (a ∷ fs) w) u c
-        → Reaches code most m t (on a a.frame fs w) u (c + 1)
-    ended_at x w r = Coming.on_step code most r (drops a fs (pos 0) w want)
+    ended_at : {m : State} {t u c : ℕ} (x : Frame) (w : World) → Paced code most m t (at end_catch 3 x (a ∷ fs) w) u c
+        → Paced code most m t (on a a.frame fs w) u (c + 1)
+    ended_at x w r = Coming.on_step code most r (drops a fs (pos 0) w want) refl
 
     abbrev held : Word → ℕ → Frame
     held d e = with_slot 1 d (with_slot 0 (address_word (object_address e)) (stub_frame nothing nothing nothing))
@@ -100,10 +101,10 @@ module _ (code : Code) (most fuel : ℕ) (run : Running) (calls : CallsRun code 
     abbrev frees : ℕ → Frame → World → ℕ → Bool → Next
     frees p x w e b = next_if b w (at end_catch p x (a ∷ fs) (freed e w))
 
-    freed_at : {m : State} {t u c : ℕ} (d : Word) (e : ℕ) (w : World) → is_live w e ≡ true → Reaches code most m t (at end_catch 2 (held d e) (a ∷ fs) w) u c
-        → Reaches code most m t (on a a.frame fs (freed e w)) u (c + 2)
+    freed_at : {m : State} {t u c : ℕ} (d : Word) (e : ℕ) (w : World) → is_live w e ≡ true → Paced code most m t (at end_catch 2 (held d e) (a ∷ fs) w) u c
+        → Paced code most m t (on a a.frame fs (freed e w)) u (c + 2)
     freed_at {c = c} d e w live r =
-        Running.slower code most 0 (c + 2) (omega arith) (ended_at (held d e) (freed e w) (Coming.on_step code most r (ap (frees 3 (held d e) w e) live)))
+        Running.slower code most 0 (c + 2) (omega arith) (ended_at (held d e) (freed e w) (Coming.on_step code most r (ap (frees 3 (held d e) w e) live) refl))
 
     abbrev destroying : Word → ℕ → Activation
     destroying d e = record { function = end_catch; place = 1; frame = held d e }
@@ -114,7 +115,7 @@ module _ (code : Code) (most fuel : ℕ) (run : Running) (calls : CallsRun code 
         → Comes code most x0 a fs (goes_on x0 a fs) m t (not_its_own e (after_destructor e r)) (c + 4)
     destroyed_comes {x0} {m} {t} {c} d e (done v s) k = go (is_live s.world e) refl
       where
-        r2 : Reaches code most m t (at end_catch 2 (held d e) (a ∷ fs) s.world) s.turns c
+        r2 : Paced code most m t (at end_catch 2 (held d e) (a ∷ fs) s.world) s.turns c
         r2 = Running.reaches_to code most 0 k.comes.1 k.reaches
 
         go : (b : Bool) → is_live s.world e ≡ b → Comes code most x0 a fs (goes_on x0 a fs) m t (not_its_own e (only_if b (change (freed e)) s)) (c + 4)
@@ -125,7 +126,7 @@ module _ (code : Code) (most fuel : ℕ) (run : Running) (calls : CallsRun code 
         }
         go false live = record {
           next = finishes not_defined s.world;
-          reaches = Running.slower code most 0 (c + 4) (omega arith) (Coming.on_step code most r2 (ap (frees 3 (held d e) s.world e) live));
+          reaches = Running.slower code most 0 (c + 4) (omega arith) (Coming.on_step code most r2 (ap (frees 3 (held d e) s.world e) live) refl);
           comes = refl;
         }
     destroyed_comes {x0} {m} {t} {c} d e (stopped (thrown f) s) k = either (is_live s.world e) refl
@@ -136,10 +137,10 @@ module _ (code : Code) (most fuel : ℕ) (run : Running) (calls : CallsRun code 
         x : Frame
         x = with_slot 3 (number_word (pos 0)) (with_slot 2 (flying f tg) (held d e))
 
-        r6 : (b : Bool) → is_live s.world e ≡ b → Reaches code most m t (frees 6 x s.world e b) s.turns (c + 1)
-        r6 b live = Coming.on_step code most (Running.reaches_to code most 0 k.comes.3 k.reaches) (ap (frees 6 x s.world e) live)
+        r6 : (b : Bool) → is_live s.world e ≡ b → Paced code most m t (frees 6 x s.world e b) s.turns (c + 1)
+        r6 b live = Coming.on_step code most (Running.reaches_to code most 0 k.comes.3 k.reaches) (ap (frees 6 x s.world e) live) refl
 
-        go : Reaches code most m t (at end_catch 6 x (a ∷ fs) (freed e s.world)) s.turns (c + 1) → (b : Bool) → (f == e) ≡ b
+        go : Paced code most m t (at end_catch 6 x (a ∷ fs) (freed e s.world)) s.turns (c + 1) → (b : Bool) → (f == e) ≡ b
             → Comes code most x0 a fs (goes_on x0 a fs) m t (still (not b) f (record s { world = freed e s.world })) (c + 4)
         go r6 true q = record {
           next = at end_catch 6 x (a ∷ fs) (freed e s.world);
@@ -148,7 +149,7 @@ module _ (code : Code) (most fuel : ℕ) (run : Running) (calls : CallsRun code 
         }
         go r6 false q = record {
           next = unwind code (look code a.function a.place) tg f a.function a.frame fs (freed e s.world);
-          reaches = Running.slower code most 0 (c + 4) (omega arith) (Coming.on_step code most r6 refl);
+          reaches = Running.slower code most 0 (c + 4) (omega arith) (Coming.on_step code most r6 refl refl);
           comes = (tg, ap (λ y. found code a.function (look code a.function a.place) y fs) (type_freed f e s.world q) ∙ k.comes.1, k.comes.2, refl);
         }
 
@@ -161,14 +162,14 @@ module _ (code : Code) (most fuel : ℕ) (run : Running) (calls : CallsRun code 
         x : Frame
         x = with_slot 3 (number_word (pos 0)) (with_slot 2 (unwinding z) (held d e))
 
-        r6 : (b : Bool) → is_live s.world e ≡ b → Reaches code most m t (frees 6 x s.world e b) s.turns (c + 1)
-        r6 b live = Coming.on_step code most (Running.reaches_to code most 0 k.comes.1 k.reaches) (ap (frees 6 x s.world e) live)
+        r6 : (b : Bool) → is_live s.world e ≡ b → Paced code most m t (frees 6 x s.world e b) s.turns (c + 1)
+        r6 b live = Coming.on_step code most (Running.reaches_to code most 0 k.comes.1 k.reaches) (ap (frees 6 x s.world e) live) refl
 
         go : (b : Bool) → is_live s.world e ≡ b
             → Comes code most x0 a fs (goes_on x0 a fs) m t (not_its_own {A = Unit {0}} e (continued (only_if b (change (freed e)) s) (λ u. stop (cancelled z)))) (c + 4)
         go true live = record {
           next = force code (look code a.function a.place) z a.function a.frame fs (freed e s.world);
-          reaches = Running.slower code most 0 (c + 4) (omega arith) (Coming.on_step code most (r6 true live) refl);
+          reaches = Running.slower code most 0 (c + 4) (omega arith) (Coming.on_step code most (r6 true live) refl refl);
           comes = (k.comes.0, refl);
         }
         go false live = record { next = finishes not_defined s.world; reaches = Running.slower code most 0 (c + 4) (omega arith) (r6 false live); comes = refl }
@@ -179,16 +180,16 @@ module _ (code : Code) (most fuel : ℕ) (run : Running) (calls : CallsRun code 
 
     -- what a native exception without a destructor to be called comes to
     empty_destroyed : {m : State} {t c : ℕ} (b : Bool) (e : ℕ) (st : RegionState) → is_bad (type_at st.world e) ≡ b
-        → Reaches code most m t (goes_to (record { top = destroying nothing e; frames = a ∷ fs; world = st.world })) st.turns c
+        → Paced code most m t (goes_to (record { top = destroying nothing e; frames = a ∷ fs; world = st.world })) st.turns c
         → Comes code most st.frame (destroying nothing e) (a ∷ fs) (goes_on st.frame (destroying nothing e) (a ∷ fs)) m t
         ((if b then empty_call run (context_of gs a fs) else pure tt) st) (c + 1)
     empty_destroyed {c = c} true e st q r =
         Coming.comes_slower code most (c + 1) (omega arith) (back_comes st.frame (destroying nothing e) (a ∷ fs) _ (empty_back a (destroying nothing e) fs (a ∷ fs) gs st _ refl
-        (ap (λ y. on (destroying nothing e) (held nothing e) (a ∷ fs) (if y then StubOperation.empty_call (a ∷ fs) st.world else st.world)) q) r))
+        (ap (λ y. on (destroying nothing e) (held nothing e) (a ∷ fs) (if y then StubOperation.empty_call (a ∷ fs) st.world else st.world)) q) refl r))
     empty_destroyed false e st q r = record {
       next = on (destroying nothing e) (held nothing e) (a ∷ fs) st.world;
       reaches = Coming.on_step code most r
-          (ap (λ y. on (destroying nothing e) (held nothing e) (a ∷ fs) (if y then StubOperation.empty_call (a ∷ fs) st.world else st.world)) q);
+          (ap (λ y. on (destroying nothing e) (held nothing e) (a ∷ fs) (if y then StubOperation.empty_call (a ∷ fs) st.world else st.world)) q) refl;
       comes = (refl, refl);
     }
 
@@ -197,7 +198,7 @@ module _ (code : Code) (most fuel : ℕ) (run : Running) (calls : CallsRun code 
 
     -- the exception that was left is given back
     given_back_comes : {m : State} {t c : ℕ} (e : ℕ) (st : RegionState) (x : Exception) → st.turns < fuel → exception_at st.world e ≡ x
-        → Reaches code most m t (given_back x e 0 1 3 leaving (a ∷ fs) st.world) st.turns c
+        → Paced code most m t (given_back x e 0 1 3 leaving (a ∷ fs) st.world) st.turns c
         → Comes code most st.frame a fs (goes_on st.frame a fs) m t (not_its_own e (give_back run e x (context_of gs a fs) st)) (c + 6)
     given_back_comes {c = c} e st (foreign k ty) lt q r = record {
       next = on a a.frame fs (cleaned_up e k ty st.world);
@@ -217,7 +218,7 @@ module _ (code : Code) (most fuel : ℕ) (run : Running) (calls : CallsRun code 
         let w = number_word (pos d) in
         let ag : Agrees code end_catch gs (look code end_catch 1) (a ∷ fs) = record { same = agrees.same } in
         let k = Coming.call_comes code most fuel run calls d (address_word (object_address e) ∷ []) (destroying w e) (a ∷ fs) gs s2
-        (record { top = destroying w e; frames = a ∷ fs; world = s2.world }) refl refl lt ag r in
+        (record { top = destroying w e; frames = a ∷ fs; world = s2.world }) refl refl refl lt ag r in
         Coming.comes_slower code most (c + 6) (omega arith) (destroyed_comes w e _
         (subst (λ n. Comes code most st.frame (destroying w e) (a ∷ fs) (goes_on st.frame (destroying w e) (a ∷ fs)) m t
         (continued (run.call d (address_word (object_address e) ∷ []) (record { guards = gs; depth = n }) s2) (λ v. pure tt)) (c + 1)) (none_more (depth_of (a ∷ fs)))
@@ -225,9 +226,9 @@ module _ (code : Code) (most fuel : ℕ) (run : Running) (calls : CallsRun code 
 
     -- the newest handler is left
     pub leave_comes : {m : State} {t c : ℕ} (st : RegionState) → st.turns < fuel
-        → Reaches code most m t (at end_catch 0 (stub_frame nothing nothing nothing) (a ∷ fs) st.world) st.turns c
+        → Paced code most m t (at end_catch 0 (stub_frame nothing nothing nothing) (a ∷ fs) st.world) st.turns c
         → Comes code most st.frame a fs (goes_on st.frame a fs) m t (watched_leave run (context_of gs a fs) st) (c + 7)
-    leave_comes {m} {t} {c} st lt r = either (may_leave st.world st.world.caught) (Coming.on_step code most r refl)
+    leave_comes {m} {t} {c} st lt r = either (may_leave st.world st.world.caught) (Coming.on_step code most r refl refl)
       where
         e : ℕ
         e = newest_of st.world.caught
@@ -235,7 +236,7 @@ module _ (code : Code) (most fuel : ℕ) (run : Running) (calls : CallsRun code 
         s1 : RegionState
         s1 = record st { world = left st.world }
 
-        go : (b : Bool) → Reaches code most m t (if b then given_back (exception_at st.world e) e 0 1 3 leaving (a ∷ fs) (left st.world)
+        go : (b : Bool) → Paced code most m t (if b then given_back (exception_at st.world e) e 0 1 3 leaving (a ∷ fs) (left st.world)
             else at end_catch 3 (stub_frame nothing nothing nothing) (a ∷ fs) (left st.world)) st.turns (c + 1)
             → Comes code most st.frame a fs (goes_on st.frame a fs) m t (not_its_own e ((if b then give_back run e (exception_at st.world e) (context_of gs a fs) else pure tt) s1)) (c + 7)
         go true k = Coming.comes_slower code most (c + 7) (omega arith) (given_back_comes e s1 (exception_at st.world e) lt refl k)
@@ -245,7 +246,7 @@ module _ (code : Code) (most fuel : ℕ) (run : Running) (calls : CallsRun code 
           comes = (refl, refl);
         }
 
-        either : (b : Bool) → Reaches code most m t (next_if b st.world (if gives_back st.world.caught then given_back (exception_at st.world e) e 0 1 3 leaving (a ∷ fs) (left st.world)
+        either : (b : Bool) → Paced code most m t (next_if b st.world (if gives_back st.world.caught then given_back (exception_at st.world e) e 0 1 3 leaving (a ∷ fs) (left st.world)
             else at end_catch 3 (stub_frame nothing nothing nothing) (a ∷ fs) (left st.world))) st.turns (c + 1)
             → Comes code most st.frame a fs (goes_on st.frame a fs) m t (not_its_own e (only_if b
             (change left >> (if gives_back st.world.caught then give_back run e (exception_at st.world e) (context_of gs a fs) else pure tt)) st)) (c + 7)

@@ -1,3 +1,4 @@
+pub mod Paying
 pub mod Effects
 pub mod Coming
 pub mod Leaving
@@ -22,6 +23,8 @@ pub mod Endings
 pub mod Functions
 pub mod Lengthening
 pub mod Programs
+pub mod Fronts
 pub mod Sound
 pub mod Watching
 mod Worked
+mod WorkedTurns

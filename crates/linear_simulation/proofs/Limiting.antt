@@ -6,7 +6,7 @@ use Rattle.region_forms.specs.World.{number_word, flying, unwinding, Frame, type
 use Rattle.region_forms.specs.Guard.{listed, allows}
 use Rattle.region_forms.specs.Outcome.{State as RegionState, Flow, normal, leaves, Result, done, stopped, stop}
 use Rattle.region_forms.specs.Ending.{Running}
-use Rattle.linear_forms.specs.Linear.{unexpected}
+use Rattle.linear_forms.specs.Linear.{jump_filter, resume, unexpected}
 use Rattle.linear_forms.specs.Tables.{Cover, Sense, cleanup, clause, list_of}
 use Rattle.linear_forms.specs.Verdict.{Verdict, target, no_way, clean, nothing_here, verdict, pad_verdict, is_cleanup, some_cleanup}
 use Rattle.linear_forms.specs.Stub.{compiled, call_unexpected}
@@ -19,7 +19,8 @@ use Rattle.linear_forms.specs.Exits.{Exit}
 use Rattle.linear_forms.specs.Emission.{Emitting, chain_of, guarded, limit_code}
 use Rattle.linear_forms.specs.Means.{Means}
 use Rattle.linear_forms.specs.Agrees.{Agrees}
-use Rattle.linear_forms.specs.CodeRuns.{HasAt, Site, context_at, SameBelow, LeftAt, ExitsAt, Any, Reaches, Runs}
+use Rattle.linear_forms.specs.Pace.{Paced}
+use Rattle.linear_forms.specs.CodeRuns.{HasAt, Site, context_at, SameBelow, LeftAt, ExitsAt, Any, Runs}
 use Rattle.linear_forms.proofs.Running
 use Rattle.linear_forms.proofs.Choosing.{handlers_are_chosen}
 use Rattle.linear_simulation.specs.Watched.{watched_limit, watched_unexpected}
@@ -85,13 +86,14 @@ module _ (code : Code) (most fuel n : ℕ) (run : Running) (calls_run : CallsRun
   -- an exception goes on that the list allows
   module _ (e tg : ℕ) (f : Frame) (st : RegionState) (same : SameBelow n st.frame f) where
     goes_on_with : {c : ℕ} {L : ExitsAt} {m : State} {t p' : ℕ} (sel : ℤ) → (sel ≡ k → ⊥) → found code (compiled s.func) s.cover (type_at st.world e) s.frames ≡ Some tg
-        → Reaches code most m t (pad_entered (fetch code (compiled s.func) (p + 1)) (flying e tg) sel (compiled s.func) (p + 1) f s.frames st.world) st.turns c
+        → Paced code most m t (pad_entered (fetch code (compiled s.func) (p + 1)) (flying e tg) sel (compiled s.func) (p + 1) f s.frames st.world) st.turns c
         → Runs code most n (c + 2) Any L s p' m t (stopped (thrown e) st)
     goes_on_with {L = L} {p' = p'} sel ne fd r =
         let x = pad_frame em (flying e tg) sel f in
         let r1 = Running.reaches_to code most n (Padding.at_pad code em s.func (p + 1) (flying e tg) sel f s.frames st.world has.3.0) r in
         let s1 = Catching.filter_step code most n em s (p + 1 + 1) (l + 2) k sel x st.world false has.3.3.0 (pad_selector em (flying e tg) sel f) (Selecting.fails sel k ne) in
-        Running.runs_slower code most n _ (omega arith) (Running.runs_after code most n (Running.reaches_on code most n r1 (Running.free_step code most n st.turns s1))
+        Running.runs_slower code most n _ (omega arith) (Running.runs_after code most n (Running.reaches_on code most n r1 (Running.free_step code most n st.turns s1
+        (Running.uncounted code most n s (p + 1 + 1) x st.world (jump_filter em.selector k (l + 2)) has.3.3.0 refl)))
         (Catching.goes_farther code most n em s {L = L} e tg (p + 1 + 1 + 1) p' x st (Padding.pad_object code s.func n em fits.behind (flying e tg) sel f)
         (Padding.pad_same code s.func n em fits.behind (flying e tg) sel st.frame f same) fd has.3.3.3.0 has.3.3.3.1))
 
@@ -114,7 +116,7 @@ module _ (code : Code) (most fuel n : ℕ) (run : Running) (calls_run : CallsRun
 
     allowed_on : {c : ℕ} {L : ExitsAt} {m : State} {t p' : ℕ} (v : Verdict) → verdict code.rows senses (chain_of s.cover) (type_at st.world e) ≡ v
         → allows code.rows types (type_at st.world e) ≡ true → found_by v (length s.frames) (found_above code (type_at st.world e) s.frames) ≡ Some tg
-        → Reaches code most m t (unwound_by code v (p + 1) tg e (compiled s.func) f s.frames st.world (unwound_above code tg e s.frames st.world)) st.turns c
+        → Paced code most m t (unwound_by code v (p + 1) tg e (compiled s.func) f s.frames st.world (unwound_above code tg e s.frames st.world)) st.turns c
         → Runs code most n (c + 39) Any L s p' m t (stopped (thrown e) st)
     allowed_on {c} {L} (target j) q al h r =
         Running.runs_slower code most n (c + 39) (omega arith) (goes_on_with {L = L} j (not_this j al (Selecting.stops_so code.rows senses (chain_of s.cover) (type_at st.world e) j q)) (out_of (target j) q h)
@@ -129,7 +131,7 @@ module _ (code : Code) (most fuel n : ℕ) (run : Running) (calls_run : CallsRun
 
     -- one that the list does not allow is passed to the runtime
     stopped_on : {c : ℕ} {L : ExitsAt} {m : State} {t p' : ℕ} → t < fuel
-        → Reaches code most m t (pad_entered (fetch code (compiled s.func) (p + 1)) (flying e tg) k (compiled s.func) (p + 1) f s.frames st.world) st.turns c
+        → Paced code most m t (pad_entered (fetch code (compiled s.func) (p + 1)) (flying e tg) k (compiled s.func) (p + 1) f s.frames st.world) st.turns c
         → Runs code most n (c + 39) Any L s p' m t (watched_unexpected run types e (context_at s) st)
     stopped_on {c} {L} {m} {t} lt r =
         let x = pad_frame em (flying e tg) k f in
@@ -145,8 +147,11 @@ module _ (code : Code) (most fuel n : ℕ) (run : Running) (calls_run : CallsRun
         let s3 = Running.step_at code most n s q x st.world (unexpected em.object em.selector) has.3.3.3.3.3.0 ∙
         ap (λ y. at call_unexpected 0 (stub_frame y (x.slots em.selector) (number_word (pos s.func))) (a ∷ s.frames) st.world) obj ∙
         ap (λ y. at call_unexpected 0 (stub_frame (flying e tg) y (number_word (pos s.func))) (a ∷ s.frames) st.world) slot in
-        let r4 = Running.reaches_on code most n (Running.reaches_on code most n (Running.reaches_on code most n r1 (Running.free_step code most n st.turns s1)) (Running.free_step code most n st.turns s2))
-        (Running.free_step code most n st.turns s3) in
+        let q1 = Running.uncounted code most n s (p + 1 + 1) x st.world (jump_filter em.selector k (l + 2)) has.3.3.0 refl in
+        let q2 = Running.label_quiet code most n s (p + 1 + 1 + 1 + 1) (l + 2) x st.world has.3.3.3.3.0 in
+        let q3 = Running.uncounted code most n s q x st.world (unexpected em.object em.selector) has.3.3.3.3.3.0 refl in
+        let r4 = Running.reaches_on code most n (Running.reaches_on code most n (Running.reaches_on code most n r1 (Running.free_step code most n st.turns s1 q1)) (Running.free_step code most n st.turns s2 q2))
+        (Running.free_step code most n st.turns s3 q3) in
         let cov = has.3.3.3.3.3.1 in
         Running.runs_slower code most n (c + 39) (omega arith) (answer_runs {L = L} q st.frame x same2 cov _
         (Unexpecting.unexpected_comes code most fuel run calls_run a s.frames s.guards (subst (λ z. Agrees code (compiled s.func) s.guards z s.frames) (sym cov) agrees) st.frame
@@ -154,7 +159,7 @@ module _ (code : Code) (most fuel n : ℕ) (run : Running) (calls_run : CallsRun
 
     -- an exception comes to the pad, or goes past it
     pub thrown_in : {c : ℕ} {L : ExitsAt} {m : State} {t p' : ℕ} → t < fuel → found code (compiled s.func) limit_cover (type_at st.world e) s.frames ≡ Some tg
-        → Reaches code most m t (unwind code limit_cover tg e (compiled s.func) f s.frames st.world) st.turns c
+        → Paced code most m t (unwind code limit_cover tg e (compiled s.func) f s.frames st.world) st.turns c
         → Runs code most n (c + 39) Any L s p' m t (watched_limit run types (context_at s) (stopped (thrown e) st))
     thrown_in {c} {L} {m} {t} {p'} lt fd r = typed (type_at st.world e) refl
       where
@@ -176,21 +181,21 @@ module _ (code : Code) (most fuel n : ℕ) (run : Running) (calls_run : CallsRun
           where
             go : (b : Bool) → allows code.rows types (type_at st.world e) ≡ b
                 → found_by (if b then verdict code.rows senses (chain_of s.cover) (type_at st.world e) else target k) (length s.frames) (found_above code (type_at st.world e) s.frames) ≡ Some tg
-                → Reaches code most m t (unwound_by code (if b then verdict code.rows senses (chain_of s.cover) (type_at st.world e) else target k) (p + 1) tg e (compiled s.func) f s.frames st.world rest) st.turns c
+                → Paced code most m t (unwound_by code (if b then verdict code.rows senses (chain_of s.cover) (type_at st.world e) else target k) (p + 1) tg e (compiled s.func) f s.frames st.world rest) st.turns c
                 → Runs code most n (c + 39) Any L s p' m t ((if b then stop (thrown e) else watched_unexpected run types e (context_at s)) st)
             go true al h z = allowed_on {L = L} (verdict code.rows senses (chain_of s.cover) (type_at st.world e)) refl al h z
             go false al h z = stopped_on {L = L} lt (Running.reaches_to code most n (Padding.target_entered code k (p + 1) tg e s.func f s.frames st.world rest (cc h)) z)
 
   -- a forced unwind comes to the pad and goes on, or goes past it
   pub cancelled_in : {c : ℕ} {L : ExitsAt} {m : State} {t p' : ℕ} (z : ℤ) (f : Frame) (st : RegionState) → SameBelow n st.frame f
-      → Reaches code most m t (force code limit_cover z (compiled s.func) f s.frames st.world) st.turns c
+      → Paced code most m t (force code limit_cover z (compiled s.func) f s.frames st.world) st.turns c
       → Runs code most n (c + 39) Any L s p' m t (stopped (cancelled z) st)
   cancelled_in {c} {L} {m} {t} {p'} z f st same r =
       go (some_cleanup senses (chain_of s.cover)) refl
       (Running.reaches_to code most n (ap (λ x. forced_by code (if is_cleanup x then true else some_cleanup senses (chain_of s.cover)) (p + 1) z (compiled s.func) f s.frames st.world (forced_above code z s.frames st.world)) means) r)
     where
       go : (b : Bool) → some_cleanup senses (chain_of s.cover) ≡ b
-          → Reaches code most m t (forced_by code b (p + 1) z (compiled s.func) f s.frames st.world (forced_above code z s.frames st.world)) st.turns c
+          → Paced code most m t (forced_by code b (p + 1) z (compiled s.func) f s.frames st.world (forced_above code z s.frames st.world)) st.turns c
           → Runs code most n (c + 39) Any L s p' m t (stopped (cancelled z) st)
       go false q re = record {
         next = force code s.cover z (compiled s.func) f s.frames st.world;
@@ -202,10 +207,12 @@ module _ (code : Code) (most fuel n : ℕ) (run : Running) (calls_run : CallsRun
           let ne : pos 0 ≡ k → ⊥ = λ y. let no : cleanup ≡ list_of types = sym fits.zero ∙ ap senses y ∙ means in absurd (cc no) in
           let r1 = Running.reaches_to code most n (Padding.at_pad code em s.func (p + 1) (unwinding z) (pos 0) f s.frames st.world has.3.0) re in
           let s1 = Catching.filter_step code most n em s (p + 1 + 1) (l + 2) k (pos 0) x st.world false has.3.3.0 (pad_selector em (unwinding z) (pos 0) f) (Selecting.fails (pos 0) k ne) in
+          let q1 = Running.uncounted code most n s (p + 1 + 1) x st.world (jump_filter em.selector k (l + 2)) has.3.3.0 refl in
+          let q2 = Running.uncounted code most n s (p + 1 + 1 + 1) x st.world (resume em.object) has.3.3.3.0 refl in
           let s2 = Resuming.resume_forced code most n em s (p + 1 + 1 + 1) z x st.world has.3.3.3.0 has.3.3.3.1 (Padding.pad_object code s.func n em fits.behind (unwinding z) (pos 0) f) in
           record {
             next = force code s.cover z (compiled s.func) x s.frames st.world;
-            reaches = Running.slower code most n (c + 39) (omega arith) (Running.reaches_on code most n (Running.reaches_on code most n r1 (Running.free_step code most n st.turns s1)) (Running.free_step code most n st.turns s2));
+            reaches = Running.slower code most n (c + 39) (omega arith) (Running.reaches_on code most n (Running.reaches_on code most n r1 (Running.free_step code most n st.turns s1 q1)) (Running.free_step code most n st.turns s2 q2));
             meets = (x, Padding.pad_same code s.func n em fits.behind (unwinding z) (pos 0) st.frame f same, refl);
           }
 

@@ -22,13 +22,16 @@ use Rattle.linear_forms.specs.Search.{found}
 use Rattle.linear_forms.specs.Unwinding.{unwind}
 use Rattle.linear_forms.specs.Forced.{force}
 use Rattle.linear_forms.specs.Agrees.{Agrees}
-use Rattle.linear_forms.specs.CodeRuns.{Site, context_at, SameBelow, ExitsAt, Any, Reaches, Runs, here, context_of, SameKinds}
+use Rattle.linear_forms.specs.Counted.{is_calling, counts_op, counts_at}
+use Rattle.linear_forms.specs.Pace.{pays, pays_at, Paced}
+use Rattle.linear_forms.specs.CodeRuns.{Site, context_at, SameBelow, ExitsAt, Any, Runs, here, context_of, SameKinds}
 use Rattle.linear_forms.proofs.Running
 use Rattle.linear_forms.proofs.Slots
 use Rattle.linear_simulation.specs.Alike.{Alike, InSlots, want_of, IsOther}
 use Rattle.linear_simulation.specs.Watched.{watched_leave, watched_operation}
 use Rattle.linear_simulation.specs.Comes.{turns_at, Comes, goes_on, goes_alike, IsEnd, ComesToEnd, CallsRun}
 use Rattle.linear_simulation.proofs.Effects.{max_left}
+use Rattle.linear_simulation.proofs.Paying.{calls_pay, quiet_no_call}
 use Rattle.linear_simulation.proofs.Effects
 use Rattle.linear_simulation.proofs.Coming
 use Rattle.linear_simulation.proofs.Leaving
@@ -50,7 +53,7 @@ want_in n leave h = tt
 
 module _ (code : Code) (most n : ℕ) where
   pub end_runs : {c : ℕ} {P : Frame → Type 0} {L : ExitsAt} {s : Site} {p' : ℕ} {m : State} {t : ℕ} (x : Stop) (st : RegionState) (y : Next)
-      → Reaches code most m t y (turns_at x st) c → IsEnd x st y → Runs code most n c P L s p' m t (stopped x st)
+      → Paced code most m t y (turns_at x st) c → IsEnd code x st y → Runs code most n c P L s p' m t (stopped x st)
   end_runs (thrown e) st y r h = absurd h
   end_runs (cancelled k) st y r h = absurd h
   end_runs (ended e) st y r h = record { next = y; reaches = r; meets = h }
@@ -100,7 +103,7 @@ module _ (code : Code) (most n : ℕ) where
   module _ (fuel : ℕ) (run : Running) (calls_run : CallsRun code most fuel run) (s : Site) (same_kinds : SameKinds code s.func n run) where
     -- an effect of an operation that never raises
     quiet_runs : {c : ℕ} {L : ExitsAt} {m : State} {t : ℕ} (want : Option Place) (p : ℕ) (f : Frame) (x y : Effect) (st : RegionState) → Alike n want false x y
-        → st.turns < fuel → Reaches code most m t (performed code y (act_of s p f) s.frames st.world) st.turns c
+        → st.turns < fuel → Paced code most m t (performed code y (act_of s p f) s.frames st.world) st.turns c
         → Runs code most n (c + 2) Any L s (p + 1) m t (continued (perform run x (context_at s) st) (λ u. pure normal))
     quiet_runs {c = c} want p f (goes g w) y st h lt r = record {
       next = at (compiled s.func) (p + 1) h.0 s.frames w;
@@ -140,6 +143,12 @@ module _ (code : Code) (most n : ℕ) where
           se : step code (here s p f st.world) ≡ performed code y (act_of s p f) s.frames st.world
           se = Running.step_at code most n s p f st.world (plain o) op
 
+          pay : is_calling x ≡ true → pays_at code (here s p f st.world) ≡ true
+          pay h = ap (λ z. pays (compiled_op z)) op ∙ calls_pay run.kinds st.frame o st.world h
+
+          count : counts_at code (here s p f st.world) ≡ is_calling y
+          count = ap (λ z. counts_op code (compiled_op z) (here s p f st.world)) op
+
           want : wanted_by (fetch code (compiled s.func) p) ≡ want_of o
           want = ap (λ z. wanted_by (compiled_op z)) op
 
@@ -149,8 +158,8 @@ module _ (code : Code) (most n : ℕ) where
               let c = cov ∙ ap (λ b. if b then s.cover else bare) e in
               Running.runs_slower code most n 8 (omega arith) (comes_runs s p st.frame f same c (perform run x (context_at s) st)
               (Performing.perform_comes code most fuel run calls_run n (act_of s p f) s.frames s.guards same_kinds (want_of o) x y st (here s p f st.world) refl h want
-              (want_in n o le) same lt (subst (λ z. Agrees code (compiled s.func) s.guards z s.frames) (sym c) agrees) se (Running.reaches_now code most n _ st.turns)))
-          go false e h = Running.runs_slower code most n 8 (omega arith) (quiet_runs (want_of o) p f x y st h lt (Running.free_step code most n st.turns se))
+              (want_in n o le) same lt (subst (λ z. Agrees code (compiled s.func) s.guards z s.frames) (sym c) agrees) se pay count (Running.reaches_now code most n _ st.turns)))
+          go false e h = Running.runs_slower code most n 8 (omega arith) (quiet_runs (want_of o) p f x y st h lt (Running.free_step code most n st.turns se (count ∙ quiet_no_call n (want_of o) x y h)))
 
   -- a frame that is as it was is as good as any
   on_alike : {m : State} {t c : ℕ} (s : Site) (p : ℕ) (x f : Frame) → SameBelow n x f → (r : Result (Unit {0}))
@@ -172,23 +181,26 @@ module _ (code : Code) (most n : ℕ) where
     leave_cleans = record {
       runs = λ gs p f st lt same ag op. Leaving.leave_comes code most fuel run calls_run (act_of s p f) s.frames gs ag
           (ap (λ z. wanted_by (compiled_op z)) op) st lt
-          (Running.free_step code most n st.turns (Running.step_at code most n s p f st.world (plain leave) op));
+          (Running.free_step code most n st.turns (Running.step_at code most n s p f st.world (plain leave) op)
+          (Running.uncounted code most n s p f st.world (plain leave) op refl));
     }
 
     destroy_at : (d : ℕ) (gs : List Guard) (p : ℕ) (f : Frame) (st : RegionState) (x : Option Address) → st.turns < fuel → SameBelow n st.frame f
         → Agrees code (compiled s.func) gs (code.cover_at s.func p) s.frames → wanted_by (fetch code (compiled s.func) p) ≡ None
         → step code (here s p f st.world) ≡ performed code (if_some x (λ a. calls None d (address_word a ∷ []))) (act_of s p f) s.frames st.world
+        → pays_at code (here s p f st.world) ≡ true
+        → counts_at code (here s p f st.world) ≡ is_calling (if_some x (λ a. calls None d (address_word a ∷ [])))
         → Comes code most st.frame (act_of s p f) s.frames (goes_on st.frame (act_of s p f) s.frames) (here s p f st.world) st.turns
         (perform run (if_some x (λ a. calls None d (address_word a ∷ []))) (context_of gs (act_of s p f) s.frames) st) 8
-    destroy_at d gs p f st None lt same ag want se = record {
+    destroy_at d gs p f st None lt same ag want se pay count = record {
       next = finishes not_defined st.world;
-      reaches = Running.slower code most n 8 (omega arith) (Running.free_step code most n st.turns se);
+      reaches = Running.slower code most n 8 (omega arith) (Running.free_step code most n st.turns se count);
       comes = refl;
     }
-    destroy_at d gs p f st (Some x) lt same ag want se =
+    destroy_at d gs p f st (Some x) lt same ag want se pay count =
         Coming.comes_slower code most 8 (omega arith) (Leaving.dropped_comes code most fuel run calls_run (act_of s p f) s.frames want _
         (calls_run.frames d (address_word x ∷ []) (act_of s p f) s.frames gs st)
-        (Coming.call_comes code most fuel run calls_run d (address_word x ∷ []) (act_of s p f) s.frames gs st (here s p f st.world) refl se lt ag
+        (Coming.call_comes code most fuel run calls_run d (address_word x ∷ []) (act_of s p f) s.frames gs st (here s p f st.world) refl se pay lt ag
         (Running.reaches_now code most n _ st.turns)))
 
     pub destroy_cleans : (q : Place) (d : ℕ) → slots_of_root q.root ≤ n → Cleans fuel s (destroy q d) (operation run (destroy q d))
@@ -196,6 +208,9 @@ module _ (code : Code) (most n : ℕ) where
       runs = λ gs p f st lt same ag op. destroy_at d gs p f st (address_of run.kinds st.frame q) lt same ag (ap (λ z. wanted_by (compiled_op z)) op)
           (Running.step_at code most n s p f st.world (plain (destroy q d)) op ∙
           ap (λ x. performed code (if_some x (λ a. calls None d (address_word a ∷ []))) (act_of s p f) s.frames st.world)
+          (Slots.address_same n run.kinds (code.kinds_at s.func) same_kinds st.frame f same st.world q le))
+          (ap (λ z. pays (compiled_op z)) op)
+          (ap (λ z. counts_op code (compiled_op z) (here s p f st.world)) op ∙ ap (λ x. is_calling (if_some x (λ a. calls None d (address_word a ∷ []))))
           (Slots.address_same n run.kinds (code.kinds_at s.func) same_kinds st.frame f same st.world q le));
     }
 

@@ -1,20 +1,22 @@
 -- Parts of code, exits of parts, and jumps between parts.
-use Rattle.std.proofs.Common.{◌≡◌, ℕ, zero, suc, ◌+◌, Bool, true, false, List, [], ◌∷◌, ◌++◌, length, Some, refl, ap, ◌∙◌, subst, arith}
+use Rattle.std.proofs.Common.{◌≡◌, ℕ, zero, suc, ◌+◌, ◌<◌, ◌≤◌, Bool, true, false, List, [], ◌∷◌, ◌++◌, length, Option, Some, None, refl, ap, ◌∙◌, subst, arith}
 use Rattle.std.specs.Prelude.{◌==◌, ◌||◌}
 use Rattle.std.proofs.lemmas.Bool.Decides.{nat_tests}
 use Rattle.scope_rules.specs.Class.{contains}
+use Rattle.region_forms.specs.Form.{Op}
 use Rattle.region_forms.specs.World.{Frame, World}
 use Rattle.region_forms.specs.Outcome.{Flow, normal, leaves, Result, done, stopped}
 use Rattle.linear_forms.specs.Linear.{label, jump}
+use Rattle.linear_forms.specs.Tables.{Cover}
 use Rattle.linear_forms.specs.Stub.{compiled}
 use Rattle.linear_forms.specs.Activation.{Code, State, at}
 use Rattle.linear_forms.specs.Machine.{step}
 use Rattle.linear_forms.specs.Sites.{Placed}
-use Rattle.linear_forms.specs.Exits.{Exit, beyond}
-use Rattle.linear_forms.specs.Emission.{Emitting}
+use Rattle.linear_forms.specs.Exits.{Exit, exit_to, beyond}
+use Rattle.linear_forms.specs.Emission.{Emitting, quiet, exit_code}
 use Rattle.linear_forms.specs.CodeRuns.{HasAt, Site, LeftAt, ExitsAt, Any, Runs, here}
 use Rattle.linear_forms.proofs.Running
-use Rattle.linear_simulation.specs.Simulates.{GoInside}
+use Rattle.linear_simulation.specs.Simulates.{GoInside, ExitsAhead}
 
 -- what has an exit among the exits of a part
 pub has_left : (a b : List ℕ) (k : ℕ) → contains a k ≡ true → contains (a ++ b) k ≡ true
@@ -64,6 +66,26 @@ inside_left d a b h k e = h k (has_left a b k e)
 pub inside_right : (d : ℕ) (a b : List ℕ) → GoInside d (a ++ b) → GoInside d b
 inside_right d a b h k e = h k (has_right a b k e)
 
+-- exits stand ahead of what is a part of more, and so does a new one whose label does
+module _ (code : Code) (f : ℕ) where
+  pub ahead_less : (q r : ℕ) (xs : List Exit) → q ≤ r → ExitsAhead code f r xs → ExitsAhead code f q xs
+  ahead_less q r xs le h k lt = let far = h k lt in omega (arith, le, far)
+
+  pub ahead_in : (q l : ℕ) (xs : List Exit) → q ≤ code.label_at f l → ExitsAhead code f q xs → ExitsAhead code f q (exit_to l ∷ xs)
+  ahead_in q l xs own h zero lt = own
+  ahead_in q l xs own h (suc k) lt = h k (omega (arith, lt))
+
+  -- with a cleanup of normal exits, all go there first
+  pub ahead_behind : (em : Emitting) (o : Option Op) (c : Cover) (xs : List Exit) (l q q0 : ℕ) (outs : List ℕ) → q ≤ q0 → q ≤ code.label_at f l
+      → HasAt code f q0 (exit_code em o c xs l outs ++ quiet (label l) ∷ []) → ExitsAhead code f q xs
+      → ExitsAhead code f q (record { cleanup = elim o [ None ↦ None | Some x ↦ Some (l + 2) ]; end = l } ∷ xs)
+  ahead_behind em None c xs l q q0 outs le own has h zero lt = own
+  ahead_behind em None c xs l q q0 outs le own has h (suc k) lt = h k (omega (arith, lt))
+  ahead_behind em (Some o) c xs l q q0 [] le own has h zero lt = let at_label = has.2 in omega (arith, le, at_label)
+  ahead_behind em (Some o) c xs l q q0 [] le own has h (suc k) lt = let at_label = has.2 in omega (arith, le, at_label)
+  ahead_behind em (Some o) c xs l q q0 (m ∷ outs) le own has h zero lt = let at_label = has.3.2 in omega (arith, le, at_label)
+  ahead_behind em (Some o) c xs l q q0 (m ∷ outs) le own has h (suc k) lt = let at_label = has.3.2 in omega (arith, le, at_label)
+
 module _ (code : Code) where
   pub has_front : (f p : ℕ) (a b : List Placed) → HasAt code f p (a ++ b) → HasAt code f p a
   has_front f p [] b h = tt
@@ -95,17 +117,18 @@ module _ (code : Code) (most n : ℕ) where
       Running.stop_runs code most n {L = LeftAt code em n s xs outs} {M = LeftAt code em n s xs more} c (omega arith) x st a
 
   -- a part whose end is followed by a jump
-  pub then_jump : {c : ℕ} {L : ExitsAt} {m : State} {t : ℕ} (s : Site) (q l p1 : ℕ) → code.op_at s.func q ≡ Some (jump l) → code.label_at s.func l ≡ p1
+  pub then_jump : {c : ℕ} {L : ExitsAt} {m : State} {t : ℕ} (s : Site) (q l p1 : ℕ) → code.op_at s.func q ≡ Some (jump l) → code.label_at s.func l ≡ p1 → q < p1
       → (r : Result Flow) → Runs code most n c Any L s q m t r → Runs code most n (c + 1) Any L s p1 m t r
-  then_jump s q l p1 e to (done normal st) a =
+  then_jump s q l p1 e to ahead (done normal st) a =
       let x = a.meets in
       record {
         next = at (compiled s.func) p1 x.0 s.frames st.world;
-        reaches = Running.reaches_on code most n (Running.reaches_to code most n x.3 a.reaches) (Running.free_step code most n st.turns (jump_step s q l p1 x.0 st.world e to));
+        reaches = Running.reaches_on code most n (Running.reaches_to code most n x.3 a.reaches) (Running.free_step code most n st.turns (jump_step s q l p1 x.0 st.world e to)
+            (Running.jump_quiet code most n s q l p1 x.0 st.world e to ahead));
         meets = (x.0, x.1, tt, refl);
       }
-  then_jump {c} s q l p1 e to (done (leaves k) st) a = record { next = a.next; reaches = Running.slower code most n (c + 1) (omega arith) a.reaches; meets = a.meets }
-  then_jump {c} {L} s q l p1 e to (stopped x st) a = Running.stop_runs code most n {L = L} {M = L} (c + 1) (omega arith) x st a
+  then_jump {c} s q l p1 e to ahead (done (leaves k) st) a = record { next = a.next; reaches = Running.slower code most n (c + 1) (omega arith) a.reaches; meets = a.meets }
+  then_jump {c} {L} s q l p1 e to ahead (stopped x st) a = Running.stop_runs code most n {L = L} {M = L} (c + 1) (omega arith) x st a
 
   -- what runs to a place, where the place is said otherwise
   pub runs_at : {c : ℕ} {P : Frame → Type 0} {L : ExitsAt} {s : Site} {p q : ℕ} {m : State} {t : ℕ} {r : Result Flow} → p ≡ q

@@ -16,7 +16,8 @@ use Rattle.linear_forms.specs.Operation.{jumped_zero}
 use Rattle.linear_forms.specs.Machine.{step}
 use Rattle.linear_forms.specs.Exits.{Exit, first_label, name_of}
 use Rattle.linear_forms.specs.Emission.{Emitting, way_place, way_test, way_tests}
-use Rattle.linear_forms.specs.CodeRuns.{HasAt, Site, Reaches, here, SlotsBehind}
+use Rattle.linear_forms.specs.Pace.{Paced}
+use Rattle.linear_forms.specs.CodeRuns.{HasAt, Site, here, SlotsBehind}
 use Rattle.linear_forms.proofs.Running
 use Rattle.linear_simulation.proofs.Parts.{has_left, has_right}
 
@@ -136,12 +137,13 @@ module _ (code : Code) (most n : ℕ) where
   pub ways_pass : (em : Emitting) (xs : List Exit) (s : Site) (z : ℕ) (f : Frame) (w : World) (t : ℕ) → SlotsBehind code s.func n em
       → f.slots em.way ≡ number_word (pos z) → (outs : List ℕ) (p : ℕ) → ((m : ℕ) → contains outs m ≡ true → z ≡ name_of m xs → ⊥)
       → HasAt code s.func p (way_tests em xs outs)
-      → Reaches code most (here s p f w) t (goes_to (here s (p + length outs) f w)) t (length outs)
+      → Paced code most (here s p f w) t (goes_to (here s (p + length outs) f w)) t (length outs)
   ways_pass em xs s z f w t b way [] p ne has =
-      subst (λ q. Reaches code most (here s p f w) t (goes_to (here s q f w)) t 0) (omega arith) (Running.reaches_now code most n (here s p f w) t)
+      subst (λ q. Paced code most (here s p f w) t (goes_to (here s q f w)) t 0) (omega arith) (Running.reaches_now code most n (here s p f w) t)
   ways_pass em xs s z f w t b way (m ∷ outs) p ne has =
       let first = pass_step em xs s p m z f w b way (ne m (ap (λ c. c || contains outs m) (itself m))) has.0 in
+      let quiet = Running.test_quiet code most n s p (binary NotEqual (load (way_place em)) (number (pos (name_of m xs)))) (first_label m xs) f w has.0 in
       let rest = ways_pass em xs s z f w t b way outs (p + 1) (λ k h. ne k (has_right (m ∷ []) outs k h)) has.3 in
       let e : p + 1 + length outs ≡ p + length (m ∷ outs) = omega arith in
-      Running.slower code most n (length (m ∷ outs)) (omega arith) (Running.reaches_on code most n (Running.free_step code most n t first)
-      (subst (λ q. Reaches code most (here s (p + 1) f w) t (goes_to (here s q f w)) t (length outs)) e rest))
+      Running.slower code most n (length (m ∷ outs)) (omega arith) (Running.reaches_on code most n (Running.free_step code most n t first quiet)
+      (subst (λ q. Paced code most (here s (p + 1) f w) t (goes_to (here s q f w)) t (length outs)) e rest))

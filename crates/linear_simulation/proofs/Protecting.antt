@@ -24,7 +24,8 @@ use Rattle.linear_forms.specs.Distinct.{distinct}
 use Rattle.linear_forms.specs.Emission.{Emitting, quiet, put, cleaned, exit_cleanup, exit_code, protect_exit, protect_code}
 use Rattle.linear_forms.specs.Means.{Means}
 use Rattle.linear_forms.specs.Agrees.{Agrees}
-use Rattle.linear_forms.specs.CodeRuns.{HasAt, Site, context_at, SameBelow, LeftAt, ExitsAt, Any, Reaches, Runs, here}
+use Rattle.linear_forms.specs.Pace.{Paced}
+use Rattle.linear_forms.specs.CodeRuns.{HasAt, Site, context_at, SameBelow, LeftAt, ExitsAt, Any, Runs, here}
 use Rattle.linear_forms.proofs.Running
 use Rattle.linear_simulation.specs.Watched.{kept_type, watched_leave, watched_protect}
 use Rattle.linear_simulation.specs.Comes.{BackOrEnd, CallsRun}
@@ -118,11 +119,11 @@ module _ (code : Code) (most fuel n : ℕ) (run : Running) (calls_run : CallsRun
       frees x w e b = next_if b w (at (compiled s.func) (p + 1 + 1 + 1) x s.frames (freed e w))
 
       reaches : (x : Frame) (st : RegionState) → SameBelow n st.frame x → (b : Bool) → is_being_built st.world (exception_in_slot st.frame y) ≡ b
-          → Reaches code most (record { top = act_of code most n s (p + 1 + 1) x; frames = s.frames; world = st.world }) st.turns (frees x st.world (exception_in_slot st.frame y) b) st.turns 10
+          → Paced code most (record { top = act_of code most n s (p + 1 + 1) x; frames = s.frames; world = st.world }) st.turns (frees x st.world (exception_in_slot st.frame y) b) st.turns 10
       reaches x st same b is =
           Running.slower code most n 10 (omega arith) (Running.free_step code most n st.turns (Running.step_at code most n s (p + 1 + 1) x st.world (free y) op ∙
           ap (λ z. frees x st.world (exception_of (address_in z)) (is_being_built st.world (exception_of (address_in z)))) (same.slots y lt) ∙
-          ap (frees x st.world (exception_in_slot st.frame y)) is))
+          ap (frees x st.world (exception_in_slot st.frame y)) is) (Running.uncounted code most n s (p + 1 + 1) x st.world (free y) op refl))
 
       go : (x : Frame) (st : RegionState) → SameBelow n st.frame x → (b : Bool) → is_being_built st.world (exception_in_slot st.frame y) ≡ b
           → BackOrEnd code most st.frame (act_of code most n s (p + 1 + 1) x) s.frames (here s (p + 1 + 1) x st.world) st.turns
@@ -133,7 +134,7 @@ module _ (code : Code) (most fuel n : ℕ) (run : Running) (calls_run : CallsRun
 
   module _ (act : Action (Unit {0})) (pads : PadRuns act) (pad_op : code.op_at s.func (p + 1) ≡ Some (pad em.object em.selector))
       (resume_op : code.op_at s.func (p + 1 + 1 + 1) ≡ Some (resume em.object)) (resume_cover : code.cover_at s.func (p + 1 + 1 + 1) ≡ s.cover) where
-    from : {m mid : State} {t u c : ℕ} {x0 : Frame} (a : Activation) (r : Result (Unit {0})) → Reaches code most m t (goes_to mid) u c
+    from : {m mid : State} {t u c : ℕ} {x0 : Frame} (a : Activation) (r : Result (Unit {0})) → Paced code most m t (goes_to mid) u c
         → BackOrEnd code most x0 a s.frames mid u r 10 → BackOrEnd code most x0 a s.frames m t r (c + 10)
     from a r k (inl (st, is, fr, re)) = inl (st, is, fr, Running.reaches_on code most n k re)
     from a r k (inr e) = inr (record { why = e.why; state = e.state; is = e.is; next = e.next; reaches = Running.reaches_on code most n k e.reaches; ends = e.ends })
@@ -141,7 +142,7 @@ module _ (code : Code) (most fuel n : ℕ) (run : Running) (calls_run : CallsRun
     -- an exception comes out of what is protected
     pub thrown_out : {c : ℕ} {L : ExitsAt} {m : State} {t p' : ℕ} (e tg : ℕ) (f : Frame) (st : RegionState) → t < fuel → SameBelow n st.frame f
         → found code (compiled s.func) inside.cover (type_at st.world e) s.frames ≡ Some tg
-        → Reaches code most m t (unwind code inside.cover tg e (compiled s.func) f s.frames st.world) st.turns c
+        → Paced code most m t (unwind code inside.cover tg e (compiled s.func) f s.frames st.world) st.turns c
         → Runs code most n (c + 11) Any L s p' m t (kept_type (type_at st.world e) (continued (act st) (λ u. stop (thrown e))))
     thrown_out {L = L} e tg f st lt same fd r =
         let en = Padding.entered_flying code em s (p + 1) chained means tg e f st.world pad_op fd in
@@ -154,7 +155,7 @@ module _ (code : Code) (most fuel n : ℕ) (run : Running) (calls_run : CallsRun
         (from (act_of code most n s (p + 1 + 1) x) (act st) (Running.reaches_to code most n en.1 r) (pads.runs x st (omega (arith, r.falls, lt)) same2)))
 
     pub cancelled_out : {c : ℕ} {L : ExitsAt} {m : State} {t p' : ℕ} (k : ℤ) (f : Frame) (st : RegionState) → t < fuel → SameBelow n st.frame f
-        → Reaches code most m t (force code inside.cover k (compiled s.func) f s.frames st.world) st.turns c
+        → Paced code most m t (force code inside.cover k (compiled s.func) f s.frames st.world) st.turns c
         → Runs code most n (c + 11) Any L s p' m t (continued (act st) (λ u. stop (cancelled k)))
     cancelled_out {L = L} k f st lt same r =
         let en = Padding.entered_forced code em s (p + 1) chained means k f st.world pad_op in
@@ -252,10 +253,12 @@ module _ (code : Code) (most fuel n : ℕ) (run : Running) (calls_run : CallsRun
         (here s p f st.world) st.turns (continued (watched_protect run cl (context_at s) r) (λ flow. pure (outwards flow)))
 
     -- to what is protected
-    entered : (cl : Cleanup) → HasAt code s.func p (protect_code em cl s.cover xs l outs body) → Reaches code most (here s p f st.world) st.turns (goes_to (here s start f st.world)) st.turns 2
+    entered : (cl : Cleanup) → HasAt code s.func p (protect_code em cl s.cover xs l outs body) → Paced code most (here s p f st.world) st.turns (goes_to (here s start f st.world)) st.turns 2
     entered cl has = Running.reaches_on code most n
-        (Running.free_step code most n st.turns (Parts.jump_step code most n s p (l + 1) (p + 1 + 1 + 1 + 1) f st.world has.0 has.3.3.3.3.2))
-        (Running.free_step code most n st.turns (Parts.label_step code most n s (p + 1 + 1 + 1 + 1) (l + 1) f st.world has.3.3.3.3.0))
+        (Running.free_step code most n st.turns (Parts.jump_step code most n s p (l + 1) (p + 1 + 1 + 1 + 1) f st.world has.0 has.3.3.3.3.2)
+        (Running.jump_quiet code most n s p (l + 1) (p + 1 + 1 + 1 + 1) f st.world has.0 has.3.3.3.3.2 (omega arith)))
+        (Running.free_step code most n st.turns (Parts.label_step code most n s (p + 1 + 1 + 1 + 1) (l + 1) f st.world has.3.3.3.3.0)
+        (Running.label_quiet code most n s (p + 1 + 1 + 1 + 1) (l + 1) f st.world has.3.3.3.3.0))
 
     -- from there to the end
     closed : (cl : Cleanup) → HasAt code s.func p (protect_code em cl s.cover xs l outs body)

@@ -17,7 +17,8 @@ use Rattle.linear_forms.specs.Unwinding.{unwind}
 use Rattle.linear_forms.specs.Forced.{force}
 use Rattle.linear_forms.specs.Machine.{step}
 use Rattle.linear_forms.specs.Emission.{Emitting}
-use Rattle.linear_forms.specs.CodeRuns.{Site, SameBelow, ExitsAt, Any, Reaches, Runs, here, context_of}
+use Rattle.linear_forms.specs.Pace.{Paced}
+use Rattle.linear_forms.specs.CodeRuns.{Site, SameBelow, ExitsAt, Any, Runs, here, context_of}
 use Rattle.linear_forms.proofs.Running
 use Rattle.linear_simulation.specs.Watched.{same_type, still, kept_type}
 use Rattle.linear_simulation.specs.Comes.{turns_at, Comes, goes_on, IsEnd, BackOrEnd, CallsRun}
@@ -71,7 +72,7 @@ module _ (code : Code) (most n : ℕ) (em : Emitting) (s : Site) where
       ap (λ y. force code y k (compiled s.func) x s.frames w) cov
 
   end_kept : {c : ℕ} {L : ExitsAt} {m : State} {t p' : ℕ} (ty : Option ℕ) (e : ℕ) (x : Stop) (st : RegionState) (y : Next)
-      → Reaches code most m t y (turns_at x st) c → IsEnd x st y
+      → Paced code most m t y (turns_at x st) c → IsEnd code x st y
       → Runs code most n c Any L s p' m t (kept_type ty (continued {A = Unit {0}} (stopped x st) (λ u. stop (thrown e))))
   end_kept ty e (thrown f) st y r h = absurd h
   end_kept ty e (cancelled k) st y r h = absurd h
@@ -101,7 +102,7 @@ module _ (code : Code) (most n : ℕ) (em : Emitting) (s : Site) where
       }
       go true h = record {
         next = unwind code s.cover tg e (compiled s.func) x s.frames st.world;
-        reaches = Coming.on_step code most re (resume_flying (q + 1) e tg x st.world op cov slot);
+        reaches = Coming.on_step code most re (resume_flying (q + 1) e tg x st.world op cov slot) (Running.uncounted code most n s (q + 1) x st.world (resume em.object) op refl);
         meets = (
           tg,
           x,
@@ -123,6 +124,6 @@ module _ (code : Code) (most n : ℕ) (em : Emitting) (s : Site) where
       subst (λ z. Runs code most n (c + 1) Any L s p' m t (continued z (λ u. stop (cancelled k)))) (sym is)
       (record {
         next = force code s.cover k (compiled s.func) x s.frames st.world;
-        reaches = Coming.on_step code most re (resume_forced (q + 1) k x st.world op cov slot);
+        reaches = Coming.on_step code most re (resume_forced (q + 1) k x st.world op cov slot) (Running.uncounted code most n s (q + 1) x st.world (resume em.object) op refl);
         meets = (x, subst (λ y. SameBelow n y x) (sym fr) same, refl);
       })

@@ -5,7 +5,7 @@ use Rattle.std.proofs.lemmas.Bool.Decides.{nat_tests}
 use Rattle.scope_rules.specs.Class.{contains}
 use Rattle.region_forms.specs.Form.{SlotKind, Slot, Root, in_slot, through, in_global, Value, number, load, unary, binary, call_value, Argument, int_argument, address_argument, handler_argument, Arguments, no_arguments, argument_then, Op, evaluate, store, bind, call, construct, destroy, make, throw, rethrow, enter, leave, Cleanup, destroy_scope, destroy_part, free_object, leave_handler, Region, seq, op, branch, loop, protect, catch, limit, barrier, leave_region, RegionList, no_regions, region_then, Clauses, no_clauses, clause_then, RegionFunction, Regions, kinds_of}
 use Rattle.region_forms.specs.Mentioned.{slots_of_root, slots_of_value, slots_of_argument, slots_of_arguments, slots_of_op, slots_of_cleanup, slots_of, slots_of_all, slots_of_clauses}
-use Rattle.region_forms.specs.WellFormed.{every, holds_ints, holds_address, is_variable, is_help, slot_test, within, within_object, int_place, address_place, pure_value, argument_test, arguments_test, callee_test, takes_object, value_test, destructor_test, op_test, cleanup_test, is_op, clause_type_test, region_test, regions_test, clauses_test, result_test, function_test, rows_test}
+use Rattle.region_forms.specs.WellFormed.{every, holds_ints, holds_address, is_reference, is_variable, is_help, slot_test, within, within_object, int_place, address_place, pure_value, argument_test, arguments_test, callee_test, takes_object, value_test, destructor_test, op_test, cleanup_test, is_op, clause_type_test, region_test, regions_test, clauses_test, result_test, function_test, rows_test}
 use Rattle.linear_forms.specs.Exits.{beyond, outs_of, outs_of_all, outs_of_clauses}
 use Rattle.linear_forms.specs.Cost.{cost, is_barred, all_barred, clauses_barred}
 use Rattle.linear_forms.proofs.Integers.{both_hold}
@@ -118,7 +118,7 @@ module _ (p : Regions) (slots : List Slot) where
   op_in (store q v) h =
       let x = both_hold (int_place p slots q) (value_test p slots v) h in greatest (slots_of_root q.root) (slots_of_value v) n (int_in q.root q.offset x.0) (called_in v x.1)
   op_in (bind s q) h =
-      let x = both_hold (slot_test holds_address slots s) (address_place p slots q) h in greatest (s + 1) (slots_of_root q.root) n (slot_in holds_address s x.0) (address_in q.root q.offset x.1)
+      let x = both_hold (slot_test is_reference slots s) (address_place p slots q) h in greatest (s + 1) (slots_of_root q.root) n (slot_in is_reference s x.0) (address_in q.root q.offset x.1)
   op_in (call c args) h = arguments_in args (both_hold (arguments_test p slots args) (callee_test p c args) h).0
   op_in (construct q m args) h =
       let x = both_hold (address_place p slots q) (arguments_test p slots args && takes_object p m args) h in

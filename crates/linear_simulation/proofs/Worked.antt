@@ -94,7 +94,8 @@ unfolding bad_exception_thrown
 bad_exception_thrown-watched = (refl, refl, refl)
 
 -- Function 1 throws an exception of type 0 that type 0 is to catch. On the way the cleanup calls function 0 with the exception's own object,
--- and there that is to be thrown once more, as type 1. Only an exception that is being built can be, so nothing more is defined.
+-- and there that is to be thrown once more, as type 1. Only an exception that is being built can be, so nothing more is defined. No program is lowered
+-- so: what takes an object takes it in a slot for addresses.
 abbrev help : Slot
 help = record { kind = help_slot; size = 8 }
 
@@ -120,7 +121,7 @@ changes_a_type = record {
 }
 
 changes_a_type-undefined :
-    (is_well_formed changes_a_type ≡ true) × ((regions_meaning changes_a_type [] [] 100 128).end ≡ Undefined) ×
+    (is_well_formed changes_a_type ≡ false) × ((regions_meaning changes_a_type [] [] 100 128).end ≡ Undefined) ×
     (seen_run (unit_run (unit_of changes_a_type) [] [] 1000) ≡ seen_of (regions_meaning changes_a_type [] [] 100 128)) ×
     ((watched_meaning changes_a_type [] [] 100 128).main ≡ stopped_by undefined)
 unfolding changes_a_type uleb_spelling uleb_spelling_within

@@ -11,7 +11,8 @@ use Rattle.linear_forms.specs.Search.{found}
 use Rattle.linear_forms.specs.Unwinding.{unwind}
 use Rattle.linear_forms.specs.Forced.{force}
 use Rattle.linear_forms.specs.Agrees.{Agrees}
-use Rattle.linear_forms.specs.CodeRuns.{SameBelow, Reaches, context_of, called_from}
+use Rattle.linear_forms.specs.Pace.{Paced, MustPay}
+use Rattle.linear_forms.specs.CodeRuns.{SameBelow, context_of, called_from}
 
 -- the state that a result leaves
 abbrev pub state_after : {A : Type 0} → Result A → RegionState
@@ -29,7 +30,8 @@ turns_left (done a st) = st.turns
 turns_left (stopped x st) = turns_at x st
 
 -- At a stop: in the middle of an unwind from the place of the call, with its target, or of a forced unwind from there, where the frame of
--- regions is as it was; at an end; or still running where the turns are used up, and where nothing more is said.
+-- regions is as it was; at an end; at an operation that would pay for a turn where the turns are used up; or still running where nothing
+-- more is said.
 abbrev pub StopsAt : Code → Frame → Activation → List Activation → Stop → RegionState → Next → Type 0
 StopsAt code f a fs (thrown e) st x =
     (t : ℕ) × (found code a.function (look code a.function a.place) (type_at st.world e) fs ≡ Some t) ×
@@ -38,7 +40,7 @@ StopsAt code f a fs (cancelled k) st x =
     (st.frame ≡ f) × (x ≡ force code (look code a.function a.place) k a.function a.frame fs st.world)
 StopsAt code f a fs (ended e) st x = x ≡ finishes (by_program e) st.world
 StopsAt code f a fs undefined st x = x ≡ finishes not_defined st.world
-StopsAt code f a fs out_of_turns st x = (m : State) × (x ≡ goes_to m) × (m.world ≡ st.world)
+StopsAt code f a fs out_of_turns st x = MustPay code st.world x
 StopsAt code f a fs deep st x = (m : State) × (x ≡ goes_to m) × (m.world ≡ st.world)
 
 -- what is said of an answer, with the state that it leaves and what is next
@@ -50,10 +52,10 @@ abbrev pub ComesTo : {A : Type 0} → Code → Frame → Activation → List Act
 ComesTo code f a fs D (done v st) x = D v st x
 ComesTo code f a fs D (stopped y st) x = StopsAt code f a fs y st x
 
--- from a state with t turns the machine comes to what the result says, in the bounds of `Reaches`
+-- from a state with t turns the machine comes to what the result says, at the pace of `Paced`
 pub record Comes {A : Type 0} (code : Code) (most : ℕ) (f : Frame) (a : Activation) (fs : List Activation) (D : Answered A) (m : State) (t : ℕ) (r : Result A) (c : ℕ) : Type 0 where
   pub next : Next
-  pub reaches : Reaches code most m t next (turns_left r) c
+  pub reaches : Paced code most m t next (turns_left r) c
   pub comes : ComesTo code f a fs D r next
 
 -- a call comes back with its value
@@ -65,13 +67,13 @@ abbrev pub goes_on : Frame → Activation → List Activation → Answered (Unit
 goes_on f a fs v st x = (st.frame ≡ f) × (x ≡ on a a.frame fs st.world)
 
 -- at a stop that goes no further
-abbrev pub IsEnd : Stop → RegionState → Next → Type 0
-IsEnd (thrown e) st x = ⊥
-IsEnd (cancelled k) st x = ⊥
-IsEnd (ended e) st x = x ≡ finishes (by_program e) st.world
-IsEnd undefined st x = x ≡ finishes not_defined st.world
-IsEnd out_of_turns st x = (m : State) × (x ≡ goes_to m) × (m.world ≡ st.world)
-IsEnd deep st x = (m : State) × (x ≡ goes_to m) × (m.world ≡ st.world)
+abbrev pub IsEnd : Code → Stop → RegionState → Next → Type 0
+IsEnd code (thrown e) st x = ⊥
+IsEnd code (cancelled k) st x = ⊥
+IsEnd code (ended e) st x = x ≡ finishes (by_program e) st.world
+IsEnd code undefined st x = x ≡ finishes not_defined st.world
+IsEnd code out_of_turns st x = MustPay code st.world x
+IsEnd code deep st x = (m : State) × (x ≡ goes_to m) × (m.world ≡ st.world)
 
 -- a result is a stop that goes no further, and the machine comes to it
 pub record ComesToEnd {A : Type 0} (code : Code) (most : ℕ) (m : State) (t : ℕ) (r : Result A) (c : ℕ) : Type 0 where
@@ -79,15 +81,15 @@ pub record ComesToEnd {A : Type 0} (code : Code) (most : ℕ) (m : State) (t : �
   pub state : RegionState
   pub is : r ≡ stopped why state
   pub next : Next
-  pub reaches : Reaches code most m t next (turns_at why state) c
-  pub ends : IsEnd why state next
+  pub reaches : Paced code most m t next (turns_at why state) c
+  pub ends : IsEnd code why state next
 
 -- a call was not opened: no turn was left, or nothing more is said
 abbrev pub IsNotOpened : Result ℤ → RegionState → Type 0
 IsNotOpened r st = ((r ≡ stopped out_of_turns st) × (st.turns ≡ 0)) ⊎ (r ≡ stopped deep st)
 
 -- A call was opened: a turn was spent, which pays for the call's step and all others that spend none. The function then comes to what the
--- result says, in as many steps as turns are spent, or more.
+-- result says, with a step that may pay for each turn that is spent.
 pub record Opened (code : Code) (most : ℕ) (a : Activation) (fs : List Activation) (m : State) (st : RegionState) (r : Result ℤ) : Type 0 where
   pub left : ℕ
   pub spent : st.turns ≡ suc left
@@ -121,4 +123,4 @@ goes_alike n a fs v st x = (g : Frame) × SameBelow n st.frame g × (x ≡ on a 
 -- something comes back, both frames as they were, or stops and goes no further
 abbrev pub BackOrEnd : Code → (most : ℕ) → Frame → Activation → List Activation → State → ℕ → Result (Unit {0}) → ℕ → Type 0
 BackOrEnd code most f a fs m t r c =
-    ((st : RegionState) × (r ≡ done tt st) × (st.frame ≡ f) × Reaches code most m t (on a a.frame fs st.world) st.turns c) ⊎ ComesToEnd code most m t r c
+    ((st : RegionState) × (r ≡ done tt st) × (st.frame ≡ f) × Paced code most m t (on a a.frame fs st.world) st.turns c) ⊎ ComesToEnd code most m t r c

@@ -4,3 +4,4 @@ pub mod Comes
 pub mod Simulates
 pub mod FunctionsRun
 pub mod ProgramRuns
+pub mod Fronts

@@ -9,7 +9,7 @@ use Rattle.region_forms.specs.Ending.{Running}
 use Rattle.linear_forms.specs.Tables.{Cover, bare, unpadded, padded, cleanup}
 use Rattle.linear_forms.specs.Stub.{compiled}
 use Rattle.linear_forms.specs.Activation.{Code}
-use Rattle.linear_forms.specs.Exits.{Exit, outs_of}
+use Rattle.linear_forms.specs.Exits.{Exit, first_label, outs_of}
 use Rattle.linear_forms.specs.Emission.{Emitting}
 use Rattle.linear_forms.specs.Code.{region_code}
 use Rattle.linear_forms.specs.Means.{FiltersMean}
@@ -62,13 +62,17 @@ abbrev mutual
 abbrev pub GoInside : ℕ → List ℕ → Type 0
 GoInside d outs = (k : ℕ) → contains outs k ≡ true → k < d
 
+-- wherever an exit to a region outside goes first, that stands at a place or behind it
+abbrev pub ExitsAhead : Code → (f q : ℕ) → List Exit → Type 0
+ExitsAhead code f q xs = (k : ℕ) → k < length xs → q ≤ code.label_at f (first_label k xs)
+
 -- the code of one region of a function with n slots does what the region does
 abbrev pub RegionRuns : Code → (most fuel : ℕ) → Running → Region → Type 0
 RegionRuns code most fuel run r =
     (em : Emitting) (n : ℕ) (s : Site) (xs : List Exit) (l p : ℕ) (f : Frame) (st : RegionState)
     → cost r ≤ most → st.turns < fuel → IsChained s.cover → Agrees code (compiled s.func) s.guards s.cover s.frames
     → Fits code run em n s.func → FiltersMean (code.sense_at s.func) em.filter r → is_barred r ≡ true → has_clauses r ≡ true
-    → GoInside (length xs) (outs_of r) → slots_of r ≤ n
+    → GoInside (length xs) (outs_of r) → ExitsAhead code s.func (p + length (region_code em s.cover xs l p r)) xs → slots_of r ≤ n
     → SameBelow n st.frame f → HasAt code s.func p (region_code em s.cover xs l p r)
     → Runs code most n (cost r) Any (LeftAt code em n s xs (outs_of r)) s (p + length (region_code em s.cover xs l p r)) (here s p f st.world) st.turns
     (watched run r (context_at s) st)

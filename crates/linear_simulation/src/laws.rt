@@ -1,4 +1,5 @@
 // Laws of the simulation: calls of no effect, whose contracts state what holds of every program.
+ghost use Rattle.linear_simulation.specs.Fronts.{EndsAreMeant, FrontsAreMeant};
 ghost use Rattle.linear_simulation.specs.FunctionsRun.{FunctionsRun, SoundWhereWellFormed};
 ghost use Rattle.linear_simulation.specs.ProgramRuns.{ProgramsRun, WatchedIsMeant};
 ghost use Rattle.linear_simulation.specs.Simulates.{CodeRunsWatched};
@@ -29,4 +30,14 @@ pub fn watched_is_meant()
 /// with the items so far. Where the watched meaning does not stop as a call that is too deep, so it is of the meaning.
 pub fn programs_run()
     ensures { ProgramsRun }
+{}
+
+/// Where a run shows a meaning, a front of the run in which fewer steps pay for turns than the meaning has shows nothing beyond the meaning.
+pub fn fronts_are_meant()
+    ensures { FrontsAreMeant }
+{}
+
+/// And where the run is over by then, so is the meaning, with the same items, end, deepest call and replies.
+pub fn ends_are_meant()
+    ensures { EndsAreMeant }
 {}

@@ -6,3 +6,4 @@ pub mod Rests
 pub mod SiteRests
 pub mod Left
 pub mod Names
+pub mod Shapes

@@ -1,7 +1,9 @@
 pub mod Stack
 pub mod Asked
+pub mod Lookups
 pub mod First
 pub mod Raise
 pub mod Entered
 pub mod Reads
 pub mod Finds
+pub mod Landings

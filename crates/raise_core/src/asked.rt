@@ -1,14 +1,17 @@
-// What the tables say of a frame.
-ghost use Rattle.std.specs.Prelude.{◌≡◌, true, option_and_then};
+// What the tables say of a frame, by the FDE that holds its look-up place and its row there.
+ghost use Rattle.std.specs.Prelude.{◌≡◌, true, List, IfSome, option_map, option_and_then};
 ghost use Rattle.eh_bytes.specs.Memory.{memory_of};
-ghost use Rattle.frame_walk.specs.Outward.{tables_of};
+ghost use Rattle.table_forms.specs.Fde as forms;
+ghost use Rattle.frame_walk.specs.Located.{located_seen};
+ghost use Rattle.frame_walk.specs.Outward.{tables_of, row_for};
 ghost use Rattle.personality.specs.Seen.{thrown_of};
-ghost use Rattle.raise_core.specs.Asked.{table_named, table_of, fde_of, verdict_of, target_at};
-ghost use Rattle.raise_core.specs.Reads.{AreTables, is_readable};
+ghost use Rattle.raise_core.specs.Asked.{table_named, verdict_of, target_at};
+ghost use Rattle.raise_core.specs.Lookups.{table_by};
+ghost use Rattle.raise_core.specs.Reads.{is_readable};
 
 use eh_bytes::Segments;
-use frame_read::{Fde, Frames};
-use frame_walk::{Frame, cfa_of, row_for};
+use frame_read::Fde;
+use frame_walk::{Frame, Located, cfa_of};
 use lsda_read::Lsda;
 use personality::{FrameView, Thrown, personality};
 use rv64_machine::Machine;
@@ -40,39 +43,43 @@ fn table_named<'a>(memory: &'a Segments, fde: &Fde) -> Option<Lsda<'a>>
 }
 
 // The exception table of a frame, if its function has one.
-fn table_for<'a>(machine: &'a Machine, frames: &Frames, frame: &Frame) -> Option<Lsda<'a>>
-    requires { AreTables machine.now frames.now }
-    ensures { (t : AreTables machine.now frames.now) → result ≡ option_and_then (table_of (tables_of machine.now)) (fde_of t.read.fdes frame.now) }
+fn table_by<'a>(machine: &'a Machine, entry: &Option<Located>) -> Option<Lsda<'a>>
+    requires { IfSome entry.now (λ l. is_readable (tables_of machine.now) l.fde ≡ true) }
+    ensures { result ≡ option_and_then (table_by (tables_of machine.now)) (option_map located_seen entry.now) }
 {
-    match frames.fde_for(frame.place()) {
+    match entry {
         None => None,
-        Some(fde) => table_named(machine.tables(), &fde),
+        Some(located) => table_named(machine.tables(), &located.fde),
     }
 }
 
 /// What becomes of an exception in a frame.
-pub fn verdict_of(machine: &Machine, frames: &Frames, thrown: &Thrown, frame: &Frame) -> Verdict
-    requires { AreTables machine.now frames.now }
-    ensures { (t : AreTables machine.now frames.now) → result ≡ verdict_of machine.now t.read.fdes (thrown_of thrown.now) frame.now }
+pub fn verdict_by(
+    machine: &Machine,
+    thrown: &Thrown,
+    frame: &Frame,
+    entry: &Option<Located>,
+) -> Verdict
+    requires { IfSome entry.now (λ l. is_readable (tables_of machine.now) l.fde ≡ true) }
+    ensures { (fdes : List forms.Fde) → option_map located_seen entry.now ≡ row_for fdes frame.now → result ≡ verdict_of machine.now fdes (thrown_of thrown.now) frame.now }
 {
     let view = FrameView {
         ip: frame.pc,
         signal: frame.signal,
-        lsda: table_for(machine, frames, frame),
+        lsda: table_by(machine, entry),
     };
     personality(NO_ACTIONS, thrown, &view)
 }
 
 /// A frame as a target; none where no FDE holds its look-up place.
-pub fn target_at(machine: &Machine, frames: &Frames, frame: &Frame) -> Option<Target>
-    requires { AreTables machine.now frames.now }
-    ensures { (t : AreTables machine.now frames.now) → result ≡ target_at t.read.fdes frame.now }
+pub fn target_by(frame: &Frame, entry: &Option<Located>) -> Option<Target>
+    ensures { (fdes : List forms.Fde) → option_map located_seen entry.now ≡ row_for fdes frame.now → result ≡ target_at fdes frame.now }
 {
-    match row_for(machine, frames, frame) {
+    match entry {
         None => None,
-        Some((fde, row)) => Some(Target {
-            cfa: cfa_of(&row, frame),
-            lsda: fde.lsda,
+        Some(located) => Some(Target {
+            cfa: cfa_of(&located.row, frame),
+            lsda: located.fde.lsda,
         }),
     }
 }

@@ -17,8 +17,14 @@ fn restore(machine: &mut Machine, frame: &Frame)
     }
 }
 
-// Control goes to the pad.
-fn install(machine: &mut Machine, frame: &Frame, target: Target, pad: u64, selector: i64) -> Raised
+// Control goes to the pad (_URC_INSTALL_CONTEXT).
+fn install_context(
+    machine: &mut Machine,
+    frame: &Frame,
+    target: Target,
+    pad: u64,
+    selector: i64,
+) -> Raised
     ensures { (result, machine.new) ≡ installs machine.old frame.now target pad selector }
 {
     restore(machine, frame);
@@ -31,9 +37,9 @@ pub fn enter(machine: &mut Machine, frame: &Frame, target: Target, verdict: Verd
     ensures { (result, machine.new) ≡ enters machine.old frame.now target verdict }
 {
     match verdict {
-        Verdict::Cleanup(pad) => install(machine, frame, target, pad, 0),
-        Verdict::Handler(pad, selector) => install(machine, frame, target, pad, selector),
-        Verdict::Spec(pad, selector) => install(machine, frame, target, pad, selector),
+        Verdict::Cleanup(pad) => install_context(machine, frame, target, pad, 0),
+        Verdict::Handler(pad, selector) => install_context(machine, frame, target, pad, selector),
+        Verdict::Spec(pad, selector) => install_context(machine, frame, target, pad, selector),
         Verdict::Nothing | Verdict::Terminate => Raised::Fault(FaultKind::Walk),
     }
 }

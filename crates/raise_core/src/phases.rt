@@ -2,16 +2,17 @@
 ghost use Rattle.std.specs.Prelude.{◌≡◌};
 ghost use Rattle.personality.specs.Seen.{thrown_of};
 ghost use Rattle.raise_core.specs.declared.goal.Goal.TheVariants as goals;
-ghost use Rattle.raise_core.specs.Asked.{target_at};
 ghost use Rattle.raise_core.specs.Stack as stack;
-ghost use Rattle.raise_core.specs.First.{first_of};
 ghost use Rattle.raise_core.specs.Raise as forms;
 ghost use Rattle.raise_core.specs.Reads.{AreTables};
 ghost use Rattle.raise_core.specs.Entered.{EntersOrStays};
+ghost use Rattle.raise_core.specs.Finds.{FindsFrame, KeepsFirstPad};
+ghost use Rattle.raise_core.specs.Landings.{lands, cleaned};
 
-use crate::asked::{Target, target_at};
+use crate::asked::Target;
 use crate::enter::{enter, stop_at};
-use crate::find::{Found, find_frame, is_at};
+use crate::find::{find_frame, is_with_cfa};
+use crate::found::{Found, Landing, Stop, landing_of};
 use crate::goal::Goal;
 use crate::raised::Raised;
 use frame_read::Frames;
@@ -20,46 +21,33 @@ use personality::Thrown;
 use rv64_machine::Machine;
 use table_forms::Verdict;
 
-// Phase two: the first frame that control enters on the way to a target.
-fn enter_first(machine: &mut Machine, frames: &Frames, thrown: &Thrown, target: Target) -> Raised
-    requires { AreTables machine.old frames.now }
-    ensures { (t : AreTables machine.old frames.now) → (result, machine.new) ≡
-        forms.entered_by machine.old t.read.fdes (thrown_of thrown.now) target (first_of machine.old t.read.fdes (thrown_of thrown.now) goals.Pad) }
+// Phase one: the frame that the exception does not pass.
+fn search_phase(machine: &Machine, frames: &Frames, thrown: &Thrown) -> Found
+    requires { AreTables machine.now frames.now }
+    ensures frame { (t : AreTables machine.now frames.now) → FindsFrame machine.now t.read.fdes (thrown_of thrown.now) goals.Target result }
+    ensures pad { (t : AreTables machine.now frames.now) → KeepsFirstPad machine.now t.read.fdes (thrown_of thrown.now) result }
 {
-    match find_frame(machine, frames, thrown, Goal::Pad) {
-        Found::EndOfStack => Raised::Fault(FaultKind::Walk),
-        Found::Broken(_) => Raised::Fault(FaultKind::Walk),
-        Found::At(frame, verdict) => enter(machine, &frame, target, verdict),
-    }
+    find_frame(machine, frames, thrown, Goal::Target)
 }
 
-// Phase two towards a frame that has a pad for it.
-fn go_to(machine: &mut Machine, frames: &Frames, thrown: &Thrown, frame: &Frame) -> Raised
-    requires { AreTables machine.old frames.now }
-    ensures { (t : AreTables machine.old frames.now) → (result, machine.new) ≡
-        forms.entered machine.old t.read.fdes (thrown_of thrown.now) (target_at t.read.fdes frame.now) }
+// Control enters a frame on the way to a target.
+fn land(machine: &mut Machine, landing: &Landing, target: Option<Target>) -> Raised
+    ensures { (result, machine.new) ≡ lands machine.old landing.now target }
 {
-    match target_at(machine, frames, frame) {
+    match target {
         None => Raised::Fault(FaultKind::Walk),
-        Some(target) => enter_first(machine, frames, thrown, target),
+        Some(target) => enter(machine, &landing.frame, target, landing.verdict),
     }
 }
 
-// Phase two towards the frame that the search has found, unless that ends the program.
-fn head_for(
-    machine: &mut Machine,
-    frames: &Frames,
-    thrown: &Thrown,
-    frame: &Frame,
-    verdict: Verdict,
-) -> Raised
-    requires { AreTables machine.old frames.now }
-    ensures { (t : AreTables machine.old frames.now) → (result, machine.new) ≡
-        forms.towards machine.old t.read.fdes (thrown_of thrown.now) frame.now verdict }
+// Phase two, up to the first frame that control enters: the first with a landing pad, which the
+// search has kept. Nothing has changed since, so it need not be looked for again.
+fn cleanup_phase(machine: &mut Machine, stop: &Stop) -> Raised
+    ensures { (result, machine.new) ≡ cleaned machine.old stop.now stop.now.verdict }
 {
-    match verdict {
+    match stop.verdict {
         Verdict::Terminate => Raised::Terminate,
-        _ => go_to(machine, frames, thrown, frame),
+        _ => land(machine, &landing_of(stop), stop.target),
     }
 }
 
@@ -75,10 +63,10 @@ pub fn raise(machine: &mut Machine, frames: &Frames, thrown: &Thrown) -> Raised
     ensures frame { (t : AreTables machine.old frames.now) → EntersOrStays (stack.frames machine.old t.read.fdes).frames result machine.old machine.new }
     ensures memory { machine.new.memory ≡ machine.old.memory }
 {
-    match find_frame(machine, frames, thrown, Goal::Target) {
+    match search_phase(machine, frames, thrown) {
         Found::EndOfStack => Raised::NoHandler,
         Found::Broken(kind) => Raised::Fault(kind),
-        Found::At(frame, verdict) => head_for(machine, frames, thrown, &frame, verdict),
+        Found::At(stop) => cleanup_phase(machine, &stop),
     }
 }
 
@@ -127,9 +115,9 @@ pub fn resume(machine: &mut Machine, frames: &Frames, thrown: &Thrown, target: u
     match find_frame(machine, frames, thrown, Goal::UpTo(target)) {
         Found::EndOfStack => Raised::Fault(FaultKind::Walk),
         Found::Broken(_) => Raised::Fault(FaultKind::Walk),
-        Found::At(frame, verdict) => {
-            let here = is_at(machine, frames, target, &frame);
-            go_on(machine, &frame, here, given, verdict)
+        Found::At(stop) => {
+            let here = is_with_cfa(target, stop.target);
+            go_on(machine, &stop.frame, here, given, stop.verdict)
         }
     }
 }
@@ -148,6 +136,6 @@ pub fn forced(machine: &mut Machine, frames: &Frames) -> Raised
     match find_frame(machine, frames, &Thrown::Forced, Goal::Cleanup) {
         Found::EndOfStack => Raised::NoHandler,
         Found::Broken(kind) => Raised::Fault(kind),
-        Found::At(frame, verdict) => stop_at(machine, &frame, nowhere, verdict),
+        Found::At(stop) => stop_at(machine, &stop.frame, nowhere, stop.verdict),
     }
 }

@@ -21,6 +21,11 @@ holds_address address_slot = true
 holds_address help_slot = true
 holds_address _ = false
 
+-- a slot of this kind is a reference
+abbrev pub is_reference : SlotKind → Bool
+is_reference address_slot = true
+is_reference _ = false
+
 -- a slot of this kind has an address of its own
 abbrev pub is_variable : SlotKind → Bool
 is_variable int_slot = true
@@ -98,7 +103,7 @@ call_test r n filled args =
 
 -- a constructor or destructor gets its object's address in slot 0
 abbrev pub takes_object : Regions → ℕ → Arguments → Bool
-takes_object r n args = call_test r n 1 args && slot_test holds_address (function_at r n).slots 0
+takes_object r n args = call_test r n 1 args && slot_test is_reference (function_at r n).slots 0
 
 -- what is called is there and takes the arguments
 abbrev pub callee_test : Regions → Callee → Arguments → Bool
@@ -124,7 +129,7 @@ destructor_test r (Some d) = takes_object r d no_arguments
 abbrev pub op_test : Regions → List Slot → Op → Bool
 op_test r slots (evaluate v) = value_test r slots v
 op_test r slots (store p v) = int_place r slots p && value_test r slots v
-op_test r slots (bind s p) = slot_test holds_address slots s && address_place r slots p
+op_test r slots (bind s p) = slot_test is_reference slots s && address_place r slots p
 op_test r slots (call c args) = arguments_test r slots args && callee_test r c args
 op_test r slots (construct p n args) = address_place r slots p && (arguments_test r slots args && takes_object r n args)
 op_test r slots (destroy p n) = address_place r slots p && takes_object r n no_arguments

@@ -16,7 +16,7 @@ use Rattle.region_forms.specs.Form.{Place, Region, Arguments, no_arguments, addr
 use Rattle.region_forms.specs.Layout.{Layout}
 use Rattle.region_forms.specs.Numbering.{number_of, declared_in_body, variables_of}
 use Rattle.region_forms.specs.LowerProgram.{slot_for, slots_for, copied_type, declared_function, implicit_default_function, implicit_copy_function, implicit_destructor_function, regions_of}
-use Rattle.region_forms.specs.WellFormed.{every, holds_address, slot_test, fits, fit, count_of, takes_object}
+use Rattle.region_forms.specs.WellFormed.{every, holds_address, is_reference, slot_test, fits, fit, count_of, takes_object}
 use Rattle.region_ir.specs.AtNumber.{IsThere, called_function}
 use Rattle.region_ir.specs.Specials.{destructor_alone, destructors_alone, TakeObjects}
 use Rattle.region_ir.proofs.AtNumber.{at_number, number_within, place_within}
@@ -25,18 +25,23 @@ use Rattle.region_ir.proofs.DestructorsAlone.{checked_alone}
 
 -- a callee takes its object where the function that it is does
 takes : (p : Checked) (l : Layout) (c : Callee) (args : Arguments) → IsThere p c → (1 + count_of args == (called_function p l c).parameters) ≡ true →
-    fit (called_function p l c).slots 1 args ≡ true → slot_test holds_address (called_function p l c).slots 0 ≡ true →
+    fit (called_function p l c).slots 1 args ≡ true → slot_test is_reference (called_function p l c).slots 0 ≡ true →
     takes_object (regions_of p l) (number_of p c) args ≡ true
 takes p l c args there counts fitting own =
     let less = number_within p l c there in
     let within : nat_lt (number_of p c) (length (regions_of p l).functions) ≡ true = grind (arith, nat_tests, less) in
     let same : function_at (regions_of p l) (number_of p c) ≡ called_function p l c = ap (λ o. unwrap_or o no_region_function) (at_number p l c there) in
     both_true (both_true within (both_true (ap (λ g. 1 + count_of args == g.parameters) same ∙ counts) (ap (λ g. fit g.slots 1 args) same ∙ fitting)))
-    (ap (λ g. slot_test holds_address g.slots 0) same ∙ own)
+    (ap (λ g. slot_test is_reference g.slots 0) same ∙ own)
 
 -- a member function's own object has an address
 pub own_address : (l : Layout) (types : List Ty) (body : Region) → slot_test holds_address (slots_for l true types body) 0 ≡ true
 own_address l types body =
+    let some : nat_lt 0 (length (slots_for l true types body)) ≡ true = grind (arith, nat_tests) in both_true some refl
+
+-- that address is a reference
+pub own_reference : (l : Layout) (types : List Ty) (body : Region) → slot_test is_reference (slots_for l true types body) 0 ≡ true
+own_reference l types body =
     let some : nat_lt 0 (length (slots_for l true types body)) ≡ true = grind (arith, nat_tests) in both_true some refl
 
 -- a place that is found is not before the first
@@ -80,13 +85,13 @@ module _ (p : Checked) (l : Layout) (k : ℕ) (below : k < length p.classes) whe
   destroyed h = by (destructor_place p k) refl
     where
       by : (o : Option ℕ) → destructor_place p k ≡ o → takes_object (regions_of p l) (number_of p (destructor k)) no_arguments ≡ true
-      by None e = takes p l (destructor k) no_arguments below (rw e refl) refl (rw e (own_address l [] (implicit_destructor_function p l k).body))
+      by None e = takes p l (destructor k) no_arguments below (rw e refl) refl (rw e (own_reference l [] (implicit_destructor_function p l k).body))
       by (Some i) e =
           let f = method_at p k i in
           let alone = at_or destructor_alone (class_at p k).functions i no_function (at_or destructors_alone p.classes k no_class h refl) refl in
           takes p l (destructor k) no_arguments below
           (rw e (alone_by (is_destructor f.kind) (length f.parameters) (at_found p k (λ g. is_destructor g.kind) i e) alone)) refl
-          (rw e (own_address l (variables_of f) (declared_function p l true false k f).body))
+          (rw e (own_reference l (variables_of f) (declared_function p l true false k f).body))
 
   -- the default constructor
   default : takes_object (regions_of p l) (number_of p (constructor k (constructor_for p k 0))) no_arguments ≡ true
@@ -94,7 +99,7 @@ module _ (p : Checked) (l : Layout) (k : ℕ) (below : k < length p.classes) whe
     where
       by : (o : Option ℕ) → place_from 0 (is_constructor_with k 0) (class_at p k).functions ≡ o →
           takes_object (regions_of p l) (number_of p (constructor k (declared_or implicit_default o))) no_arguments ≡ true
-      by None e = takes p l (constructor k implicit_default) no_arguments below refl refl (own_address l [] (implicit_default_function p l k).body)
+      by None e = takes p l (constructor k implicit_default) no_arguments below refl refl (own_reference l [] (implicit_default_function p l k).body)
       by (Some i) e =
           let f = method_at p k i in
           let other = (and_parts (is_constructor f.kind) (not (takes_copy k f.parameters) && length f.parameters == 0)
@@ -102,7 +107,7 @@ module _ (p : Checked) (l : Layout) (k : ℕ) (below : k < length p.classes) whe
           let none = (and_parts (not (takes_copy k f.parameters)) (length f.parameters == 0) other).1 in
           takes p l (constructor k (declared i)) no_arguments (below, found_within p k (is_constructor_with k 0) i e)
           (alone_by true (length f.parameters) refl none) refl
-          (own_address l (variables_of f) (declared_function p l true false k f).body)
+          (own_reference l (variables_of f) (declared_function p l true false k f).body)
 
 -- a copy constructor's parameter is a reference
 reference_fits : (l : Layout) (k : ℕ) (t : Ty) (source : Place) → is_const_ref_to k t ≡ true → (fits (slot_for l t).kind (address_argument source) && true) ≡ true
@@ -127,13 +132,13 @@ module _ (p : Checked) (l : Layout) (k : ℕ) (below : k < length p.classes) whe
           takes_object (regions_of p l) (number_of p (constructor k (declared_or implicit_copy o))) (arguments_from (address_argument source ∷ [])) ≡ true
       by None e =
           takes p l (constructor k implicit_copy) (arguments_from (address_argument source ∷ [])) below refl refl
-          (own_address l (copied_type (class_at p k)) (implicit_copy_function p l k).body)
+          (own_reference l (copied_type (class_at p k)) (implicit_copy_function p l k).body)
       by (Some i) e =
           let f = method_at p k i in
           let copies = (and_parts (is_constructor f.kind) (takes_copy k f.parameters) (at_found p k (is_copy_constructor k) i e)).1 in
           let one = one_fits l k f.parameters (declared_in_body f.body) (declared_function p l true false k f).body source copies in
           takes p l (constructor k (declared i)) (arguments_from (address_argument source ∷ [])) (below, found_within p k (is_copy_constructor k) i e)
-          one.0 one.1 (own_address l (variables_of f) (declared_function p l true false k f).body)
+          one.0 one.1 (own_reference l (variables_of f) (declared_function p l true false k f).body)
 
 pub take_objects : (p : Checked) (l : Layout) → IsChecked p → (k : ℕ) → k < length p.classes → TakeObjects p l k
 take_objects p l c k below = record {

@@ -9,4 +9,4 @@ mod line;
 mod tests;
 
 pub use item::Item;
-pub use line::put_item;
+pub use line::{Text, is_printed, put_item, text_of};

@@ -10,8 +10,8 @@ use arrayvec::ArrayString;
 use eh_outer::{Sink, SinkError};
 use itoa::Buffer;
 
-// Room for the longest line, which is that of a foreign exception.
-type Text = ArrayString<160>;
+/// Room for the longest line, which is that of a foreign exception.
+pub type Text = ArrayString<160>;
 
 // Adds a text for which there is room.
 fn push(line: &mut Text, text: &str)
@@ -79,8 +79,8 @@ fn cleaned(guest: u32, token: u32) -> Text
     line
 }
 
-// The text of an item.
-fn text_of(item: Item) -> Text
+/// The text of an item, without a line feed.
+pub fn text_of(item: Item) -> Text
     ensures text { result.bytes ≡ text_of item }
     ensures short { length result.bytes ≤ 132 }
 {
@@ -105,8 +105,8 @@ fn put_line<Out: Sink>(out: &mut Out, item: Item) -> Result<(), SinkError>
     out.put(line.as_bytes())
 }
 
-// Whether the line of an item is printed.
-fn is_printed(trace: bool, item: Item) -> bool
+/// Whether the line of an item is printed: that of an event under `trace` alone.
+pub fn is_printed(trace: bool, item: Item) -> bool
     ensures { result ≡ is_printed trace item }
 {
     trace || matches!(item, Item::Line(_))

@@ -50,13 +50,13 @@ set_twice [] i p q = refl
 set_twice (r ∷ ps) zero p q = refl
 set_twice (r ∷ ps) (suc i) p q = ap (λ qs. r ∷ qs) (set_twice ps i p q)
 
-covers_true : (part : Part) (b : ℕ) → part.address ≤ b → b < part.address + length part.bytes → covers part b ≡ true
+pub covers_true : (part : Part) (b : ℕ) → part.address ≤ b → b < part.address + length part.bytes → covers part b ≡ true
 covers_true part b low high = grind (arith, nat_tests)
 
-covers_below : (part : Part) (b : ℕ) → b < part.address → covers part b ≡ false
+pub covers_below : (part : Part) (b : ℕ) → b < part.address → covers part b ≡ false
 covers_below part b low = grind (arith, nat_tests)
 
-covers_above : (part : Part) (b : ℕ) → part.address + length part.bytes ≤ b → covers part b ≡ false
+pub covers_above : (part : Part) (b : ℕ) → part.address + length part.bytes ≤ b → covers part b ≡ false
 covers_above part b high = grind (arith, nat_tests)
 
 covers_holds : (s : Segment) (b : ℕ) → covers (part_of s) b ≡ true → Holds (extent_of s) b
@@ -157,18 +157,18 @@ segment_first (r ∷ parts) apart (suc i) s b e t = (passed (covers (part_of r) 
     passed false f = refl
     passed true f = absurd (let two : zero ≡ suc i = apart zero (suc i) b (extent_of r) (extent_of s) refl (got_extent parts i s e) (covers_holds r b f) (covers_holds s b t) in cc)
 
-pub slots_serve : (slots stack : Segment) (segments : List Segment) (a n : ℕ) → Spans (part_of slots) a n → Serves (memory_of slots stack segments) 0 (part_of slots) a n
-slots_serve slots stack segments a n (from, to) = record { from = from; to = to; first = λ b low high. (refl, covers_true (part_of slots) b (omega arith) (omega arith)) }
+pub slots_serve : (slots stack : Part) (segments : List Segment) (a n : ℕ) → Spans slots a n → Serves (memory_of slots stack segments) 0 slots a n
+slots_serve slots stack segments a n (from, to) = record { from = from; to = to; first = λ b low high. (refl, covers_true slots b (omega arith) (omega arith)) }
 
-pub stack_serves : (slots stack : Segment) (segments : List Segment) (a n : ℕ) → IsLaidOut slots stack segments → Spans (part_of stack) a n →
-    Serves (memory_of slots stack segments) 1 (part_of stack) a n
+pub stack_serves : (slots stack : Part) (segments : List Segment) (a n : ℕ) → IsLaidOut slots stack segments → Spans stack a n →
+    Serves (memory_of slots stack segments) 1 stack a n
 stack_serves slots stack segments a n laid (from, to) = record {
   from = from;
   to = to;
-  first = λ b low high. (covers_above (part_of slots) b (omega arith), (refl, covers_true (part_of stack) b (omega arith) (omega arith)));
+  first = λ b low high. (covers_above slots b (omega arith), (refl, covers_true stack b (omega arith) (omega arith)));
 }
 
-pub segment_serves : (slots stack : Segment) (segments : List Segment) (a n i : ℕ) (s : Segment) → IsLaidOut slots stack segments → AreApart (extents_of segments) →
+pub segment_serves : (slots stack : Part) (segments : List Segment) (a n i : ℕ) (s : Segment) → IsLaidOut slots stack segments → AreApart (extents_of segments) →
     slice_get segments i ≡ Some s → Spans (part_of s) a n → Serves (memory_of slots stack segments) (suc (suc i)) (part_of s) a n
 segment_serves slots stack segments a n i s laid apart e (from, to) =
     let below : s.address + length s.bytes.items ≤ 0x6000_0000 = laid.below i (extent_of s) (got_extent segments i s e) in
@@ -176,9 +176,9 @@ segment_serves slots stack segments a n i s laid apart e (from, to) =
       from = from;
       to = to;
       first = λ b low high. (
-        covers_below (part_of slots) b (omega arith),
+        covers_below slots b (omega arith),
         (
-          covers_below (part_of stack) b (omega arith),
+          covers_below stack b (omega arith),
           segment_first segments apart i s b e (covers_true (part_of s) b (omega arith) (omega arith)),
         ),
       );
@@ -236,21 +236,21 @@ held_parts (r ∷ parts) (suc i) s e = ap (λ ps. part_of r ∷ ps) (held_parts 
 
 -- ---- what a memory is with a value in one part
 
-pub slots_put : (slots stack other : Segment) (segments : List Segment) (memory : List Part) (a n m value : ℕ) → memory_of slots stack segments ≡ memory → n ≡ m →
-    Spans (part_of slots) a n → part_of other ≡ with_value_in (part_of slots) a m value → memory_of other stack segments ≡ with_value memory a m value
+pub slots_put : (slots stack other : Part) (segments : List Segment) (memory : List Part) (a n m value : ℕ) → memory_of slots stack segments ≡ memory → n ≡ m →
+    Spans slots a n → other ≡ with_value_in slots a m value → memory_of other stack segments ≡ with_value memory a m value
 slots_put slots stack other segments memory a n m value same e s f =
     let view = memory_of slots stack segments in
-    let serves : Serves view 0 (part_of slots) a m = slots_serve slots stack segments a m (subst (λ k. Spans (part_of slots) a k) e s) in
-    ap (λ p. p ∷ part_of stack ∷ map part_of segments) f ∙ sym (value_served m view 0 (part_of slots) a value refl serves) ∙ ap (λ v. with_value v a m value) same
+    let serves : Serves view 0 slots a m = slots_serve slots stack segments a m (subst (λ k. Spans slots a k) e s) in
+    ap (λ p. p ∷ stack ∷ map part_of segments) f ∙ sym (value_served m view 0 slots a value refl serves) ∙ ap (λ v. with_value v a m value) same
 
-pub stack_put : (slots stack other : Segment) (segments : List Segment) (memory : List Part) (a n m value : ℕ) → IsLaidOut slots stack segments → memory_of slots stack segments ≡ memory →
-    n ≡ m → Spans (part_of stack) a n → part_of other ≡ with_value_in (part_of stack) a m value → memory_of slots other segments ≡ with_value memory a m value
+pub stack_put : (slots stack other : Part) (segments : List Segment) (memory : List Part) (a n m value : ℕ) → IsLaidOut slots stack segments → memory_of slots stack segments ≡ memory →
+    n ≡ m → Spans stack a n → other ≡ with_value_in stack a m value → memory_of slots other segments ≡ with_value memory a m value
 stack_put slots stack other segments memory a n m value laid same e s f =
     let view = memory_of slots stack segments in
-    let serves : Serves view 1 (part_of stack) a m = stack_serves slots stack segments a m laid (subst (λ k. Spans (part_of stack) a k) e s) in
-    ap (λ p. part_of slots ∷ p ∷ map part_of segments) f ∙ sym (value_served m view 1 (part_of stack) a value refl serves) ∙ ap (λ v. with_value v a m value) same
+    let serves : Serves view 1 stack a m = stack_serves slots stack segments a m laid (subst (λ k. Spans stack a k) e s) in
+    ap (λ p. slots ∷ p ∷ map part_of segments) f ∙ sym (value_served m view 1 stack a value refl serves) ∙ ap (λ v. with_value v a m value) same
 
-pub segment_put : (slots stack : Segment) (segments after : List Segment) (memory : List Part) (a n m i value : ℕ) → IsLaidOut slots stack segments → AreApart (extents_of segments) →
+pub segment_put : (slots stack : Part) (segments after : List Segment) (memory : List Part) (a n m i value : ℕ) → IsLaidOut slots stack segments → AreApart (extents_of segments) →
     memory_of slots stack segments ≡ memory → n ≡ m → i < length segments → IfSome (slice_get segments i) (λ part. Spans (part_of part) a n) →
     IfSome (slice_get segments i) (λ part. map part_of after ≡ slice_set (map part_of segments) i (with_value_in (part_of part) a m value)) →
     memory_of slots stack after ≡ with_value memory a m value
@@ -262,8 +262,8 @@ segment_put slots stack segments after memory a n m i value laid apart same e in
     let put' : map part_of after ≡ slice_set (map part_of segments) i (with_value_in (part_of s) a m value) =
     subst (λ o. IfSome o (λ part. map part_of after ≡ slice_set (map part_of segments) i (with_value_in (part_of part) a m value))) here.1 put in
     let serves : Serves view (suc (suc i)) (part_of s) a m = segment_serves slots stack segments a m i s laid apart here.1 spans' in
-    let held : slice_set view (suc (suc i)) (part_of s) ≡ view = ap (λ ps. part_of slots ∷ part_of stack ∷ ps) (held_parts segments i s here.1) in
-    ap (λ ps. part_of slots ∷ part_of stack ∷ ps) put' ∙ sym (value_served m view (suc (suc i)) (part_of s) a value held serves) ∙ ap (λ v. with_value v a m value) same
+    let held : slice_set view (suc (suc i)) (part_of s) ≡ view = ap (λ ps. slots ∷ stack ∷ ps) (held_parts segments i s here.1) in
+    ap (λ ps. slots ∷ stack ∷ ps) put' ∙ sym (value_served m view (suc (suc i)) (part_of s) a value held serves) ∙ ap (λ v. with_value v a m value) same
 
 -- ---- byte by byte
 
@@ -292,14 +292,19 @@ found_nowhere parts p e = find_at p parts ∙ got_past parts (position_or_len p 
     step true t e = absurd (cc)
     step false t e = grind (arith, nat_tests)
 
-pub byte_nowhere : (slots stack : Segment) (segments : List Segment) (memory : List Part) (a value : ℕ) → memory_of slots stack segments ≡ memory → covers (part_of slots) a ≡ false →
-    covers (part_of stack) a ≡ false → position (λ part. covers (part_of part) a) segments ≡ None → memory ≡ with_value memory a 1 value
+-- what is found in neither slots nor stack
+pub part_behind : (slots stack : Part) (segments : List Segment) (a : ℕ) → covers slots a ≡ false → covers stack a ≡ false →
+    part_with (memory_of slots stack segments) a ≡ part_with (map part_of segments) a
+part_behind slots stack segments a e f =
+    ap (λ b. cond b (Some slots) (part_with (stack ∷ map part_of segments) a)) e ∙ ap (λ b. cond b (Some stack) (part_with (map part_of segments) a)) f
+
+pub byte_nowhere : (slots stack : Part) (segments : List Segment) (memory : List Part) (a value : ℕ) → memory_of slots stack segments ≡ memory → covers slots a ≡ false →
+    covers stack a ≡ false → position (λ part. covers (part_of part) a) segments ≡ None → memory ≡ with_value memory a 1 value
 unfolding with_value
 byte_nowhere slots stack segments memory a value same e f g =
     let none : part_with (map part_of segments) a ≡ None =
     find_mapped (λ part. covers part a) part_of segments ∙ ap (option_map part_of) (found_nowhere segments (λ part. covers (part_of part) a) g) in
-    let nowhere : part_with (memory_of slots stack segments) a ≡ None =
-    ap (λ b. cond b (Some (part_of slots)) (part_with (part_of stack ∷ map part_of segments) a)) e ∙ ap (λ b. cond b (Some (part_of stack)) (part_with (map part_of segments) a)) f ∙ none in
+    let nowhere : part_with (memory_of slots stack segments) a ≡ None = part_behind slots stack segments a e f ∙ none in
     sym (none_put memory a (value % 2 ^ 8) (ap (λ m. part_with m a) (sym same) ∙ nowhere))
 
 pub with_value-next : (memory after : List Part) (a n m value : ℕ) → n ≡ suc m → after ≡ with_value memory a 1 value → with_value memory a n value ≡ with_value after (a + 1) m (value / 2 ^ 8)

@@ -10,15 +10,15 @@ use Rattle.rv64_machine.specs.declared.memory.Access.{Access}
 abbrev pub part_of : Segment → Part
 part_of s = record { address = s.address; bytes = s.bytes.items; file_at = s.file_at; write = s.write; exec = s.exec }
 
-abbrev pub memory_of : Segment → Segment → List Segment → List Part
-memory_of slots stack segments = part_of slots ∷ part_of stack ∷ map part_of segments
+abbrev pub memory_of : Part → Part → List Segment → List Part
+memory_of slots stack segments = slots ∷ stack ∷ map part_of segments
 
 -- the slots and the stack lie at their addresses, and the segments below them
-pub record IsLaidOut (slots stack : Segment) (segments : List Segment) : Type 0 where
+pub record IsLaidOut (slots stack : Part) (segments : List Segment) : Type 0 where
   pub slots_from : slots.address ≡ 0x6000_0000
-  pub slots_size : length slots.bytes.items ≡ 0x40_0000
+  pub slots_size : length slots.bytes ≡ 0x40_0000
   pub stack_from : stack.address ≡ 0x7000_0000
-  pub stack_size : length stack.bytes.items ≡ 0x100_0000
+  pub stack_size : length stack.bytes ≡ 0x100_0000
   pub below : AreBelow 0x6000_0000 (extents_of segments)
 
 -- the part has n bytes from the address on

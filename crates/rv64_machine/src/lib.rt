@@ -2,9 +2,13 @@
 //! instruction.
 #![tactic(auto)]
 
+mod below;
 mod bytes;
+mod front;
 mod machine;
 mod memory;
+mod slots;
+mod stack;
 
 pub use machine::Machine;
 pub use rv64_isa::{FaultKind, Step};

@@ -7,6 +7,7 @@ ghost use Rattle.rv64_isa.specs.Step.{branches, calls, done, imm12, jumps, loads
 ghost use Rattle.rv64_machine.specs.Bytes.{size_of};
 ghost use Rattle.rv64_machine.specs.Initial.{initial};
 ghost use Rattle.rv64_machine.specs.Load.{extension_of, word_loaded};
+ghost use Rattle.rv64_machine.specs.Next.{next_instr};
 ghost use Rattle.rv64_machine.specs.Parts.{part_of};
 
 use crate::NoMemory;
@@ -282,6 +283,24 @@ impl Machine {
                 Err(_) => Step::Fault(FaultKind::Illegal),
                 Ok(instr) => self.execute(instr),
             },
+        }
+    }
+
+    /// The instruction that is next; none where it can't be fetched or is none.
+    #[tactic(auto, unfolding(crate::specs::Next::next_instr))]
+    pub fn next_instr(&self) -> Option<Instr>
+        ensures { result ≡ next_instr self.now }
+    {
+        if self.pc % 4 == 0 {
+            match self.memory.code_at(self.pc) {
+                None => None,
+                Some(word) => match decode(word) {
+                    Err(_) => None,
+                    Ok(instr) => Some(instr),
+                },
+            }
+        } else {
+            None
         }
     }
 

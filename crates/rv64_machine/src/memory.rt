@@ -11,6 +11,8 @@ ghost use Rattle.rv64_machine.specs.Parts.{Spans, access_in, accessed, byte_acce
 
 use crate::NoMemory;
 use crate::bytes::{Size, number_at, put_number, word_at};
+use crate::slots::Slots;
+use crate::stack::Stack;
 use eh_bytes::{Segment, Segments};
 use std::alloc::Global;
 use std::marker::Model;
@@ -33,8 +35,8 @@ pub struct Access {
 #[derive(Debug, Drop)]
 pub struct Memory {
     segments: Segments,
-    slots: Segment,
-    stack: Segment,
+    slots: Slots,
+    stack: Stack,
     last_code: usize,
     last_data: usize,
 }
@@ -166,15 +168,14 @@ impl Memory {
         ensures value { IfSome result (λ access. accessed self.now address (size_of size) ≡ Some access) }
         ensures small { IfSome result (λ access. access.value < 256 ^ size_of size) }
     {
-        let length = size.bytes();
-        if spans(&self.stack, address, length) {
-            return Some(access_in(&self.stack, address, size));
+        if let Some(access) = self.stack.near(address, size) {
+            return Some(access);
         }
-        if spans(&self.slots, address, length) {
-            return Some(access_in(&self.slots, address, size));
+        if let Some(access) = self.slots.near(address, size) {
+            return Some(access);
         }
         let part = segment_at(&self.segments.parts, hint)?;
-        if spans(part, address, length) {
+        if spans(part, address, size.bytes()) {
             Some(access_in(part, address, size))
         } else {
             None
@@ -194,26 +195,18 @@ impl Memory {
         }
     }
 
-    // The part that has a byte at the address.
-    fn part_with(&self, address: u64) -> Option<&Segment>
-        ensures first { option_map (λ part. part_of part.now) result ≡ part_with self.now address }
-        ensures spans { IfSome result (λ part. Spans (part_of part.now) address 1) }
-    {
-        if self.slots.covers(address) {
-            Some(&self.slots)
-        } else if self.stack.covers(address) {
-            Some(&self.stack)
-        } else {
-            first_in(&self.segments.parts, address)
-        }
-    }
-
     // The access to one byte.
     fn byte(&self, address: u64) -> Option<Access>
         ensures value { result ≡ byte_accessed self.now address }
         ensures small { IfSome result (λ access. access.value < 2 ^ 8) }
     {
-        let part = self.part_with(address)?;
+        if self.slots.covers(address) {
+            return Some(self.slots.byte(address));
+        }
+        if self.stack.covers(address) {
+            return Some(self.stack.byte(address));
+        }
+        let part = first_in(&self.segments.parts, address)?;
         Some(access_in(part, address, Size::Byte))
     }
 
@@ -285,6 +278,18 @@ impl Memory {
         index_in(&self.segments.parts, address)
     }
 
+    /// The word at an address, where each of its four bytes may be executed, for one who only looks.
+    pub fn code_at(&self, address: u64) -> Option<u32>
+        requires { address + 4 ≤ 2 ^ 64 }
+        ensures { result ≡ fetched self.now address }
+    {
+        let word = self.code_near(self.last_code, address);
+        if word.is_some() {
+            return word;
+        }
+        self.code_anywhere(address)
+    }
+
     /// The word at an address, where each of its four bytes may be executed.
     #[inline(always)]
     pub fn fetch(&mut self, address: u64) -> Option<u32>
@@ -342,12 +347,12 @@ impl Memory {
         ensures same { OnFalse result (self.new ≡ self.old) }
     {
         let length = size.bytes();
-        if spans(&self.stack, address, length) {
-            put_in(&mut self.stack, address, size, value);
+        if self.stack.spans(address, length) {
+            self.stack.put(address, size, value);
             return true;
         }
-        if spans(&self.slots, address, length) {
-            put_in(&mut self.slots, address, size, value);
+        if self.slots.spans(address, length) {
+            self.slots.put(address, size, value);
             return true;
         }
         if segment_spans(&self.segments.parts, hint, address, length) {
@@ -363,11 +368,11 @@ impl Memory {
         ensures { self.new ≡ with_value self.old address 1 value }
     {
         if self.slots.covers(address) {
-            put_in(&mut self.slots, address, Size::Byte, value);
+            self.slots.put(address, Size::Byte, value);
             return;
         }
         if self.stack.covers(address) {
-            put_in(&mut self.stack, address, Size::Byte, value);
+            self.stack.put(address, Size::Byte, value);
             return;
         }
         match position_in(&self.segments.parts, address) {
@@ -393,22 +398,6 @@ impl Memory {
     }
 }
 
-// So many bytes that are 0 and may be written.
-#[tactic(auto, unfolding(crate::specs::Initial::zero_part))]
-fn zeros(alloc: Global, address: u64, size: usize) -> Result<Segment, NoMemory>
-    ensures part { IfOk result (λ segment. part_of segment ≡ zero_part address size) }
-    ensures from { IfOk result (λ segment. segment.address ≡ address) }
-    ensures size { IfOk result (λ segment. length segment.bytes.items ≡ size) }
-{
-    Ok(Segment {
-        address,
-        bytes: Vec::from_elem(alloc, 0, size)?,
-        file_at: 0,
-        write: true,
-        exec: false,
-    })
-}
-
 impl Memory {
     /// These segments, with 4 MiB of exception slots and 16 MiB of stack beside them.
     pub fn new(alloc: Global, segments: Segments) -> Result<Memory, NoMemory>
@@ -417,8 +406,8 @@ impl Memory {
     {
         Ok(Memory {
             segments,
-            slots: zeros(alloc, 0x6000_0000, 0x40_0000)?,
-            stack: zeros(alloc, 0x7000_0000, 0x100_0000)?,
+            slots: Slots::new(alloc)?,
+            stack: Stack::new(alloc)?,
             last_code: 0,
             last_data: 0,
         })

@@ -15,7 +15,7 @@ use Rattle.region_forms.specs.Form.{RegionFunction}
 use Rattle.region_forms.specs.Layout.{layout_of, class_parts}
 use Rattle.region_forms.specs.LowerProgram.{declared_function, implicit_default_function, implicit_copy_function, implicit_destructor_function, regions_of}
 use Rattle.region_forms.specs.WellFormed.{every}
-use Rattle.linear_forms.specs.Machine.{Run}
+use Rattle.linear_forms.specs.Activation.{Code, State}
 use Rattle.linear_simulation.specs.FunctionsRun.{cost_bound, program_cost}
 use Rattle.linear_simulation.specs.ProgramRuns.{Shows}
 use Rattle.class_layout.proofs.Program.{classes_fit}
@@ -81,14 +81,28 @@ costs_fit p l c =
     }))
 
 -- what is shown in some steps is shown in more
-later : (main : MainOutcome) (m : Meaning) (few more : ℕ) (run : ℕ → Run) → few ≤ more → Shows main m few run → Shows main m more run
-later (returned v) m few more run le h = λ n enough. h n (omega (arith, le, enough))
-later (stopped_by (thrown e)) m few more run le h = h
-later (stopped_by (cancelled k)) m few more run le h = λ n enough. h n (omega (arith, le, enough))
-later (stopped_by (ended e)) m few more run le h = λ n enough. h n (omega (arith, le, enough))
-later (stopped_by undefined) m few more run le h = λ n enough. h n (omega (arith, le, enough))
-later (stopped_by out_of_turns) m few more run le h = λ n enough. h n (omega (arith, le, enough))
-later (stopped_by deep) m few more run le h = λ n enough. h n (omega (arith, le, enough))
+later : (main : MainOutcome) (m : Meaning) (turns few more : ℕ) (code : Code) (first : State) → few ≤ more → Shows main m turns few code first → Shows main m turns more code first
+later (returned v) m turns few more code first le h = record { ends = λ n enough. h.ends n (omega (arith, le, enough)); counts = h.counts }
+later (stopped_by (thrown e)) m turns few more code first le h = h
+later (stopped_by (cancelled k)) m turns few more code first le h = record { ends = λ n enough. h.ends n (omega (arith, le, enough)); counts = h.counts }
+later (stopped_by (ended e)) m turns few more code first le h = record { ends = λ n enough. h.ends n (omega (arith, le, enough)); counts = h.counts }
+later (stopped_by undefined) m turns few more code first le h = record { ends = λ n enough. h.ends n (omega (arith, le, enough)); counts = h.counts }
+later (stopped_by out_of_turns) m turns few more code first le h = record {
+  begins = λ n enough. h.begins n (omega (arith, le, enough));
+  short = λ one. let s = h.short one in
+      record {
+        steps = s.steps;
+        last = s.last;
+        few = omega (arith, le, s.few);
+        leads = s.leads;
+        items = s.items;
+        deepest = s.deepest;
+        pays = s.pays;
+        paid = s.paid;
+        counts = s.counts;
+      };
+}
+later (stopped_by deep) m turns few more code first le h = λ n enough. h n (omega (arith, le, enough))
 
 pub sources_run_in_time : ValidSourcesRunInTime
 sources_run_in_time source tokens p lexed tree valid =
@@ -97,6 +111,6 @@ sources_run_in_time source tokens p lexed tree valid =
     let few : program_cost r ≤ steps_for (length tokens) = costs_fit (checked p) (layout_of (checked p)) c in
     let runs = sources_run source tokens p lexed tree valid in
     record {
-      watched = λ limit input replies turns. later _ _ _ _ _ (mul-le-mul_left (turns + 1) few) (runs.watched limit input replies turns);
-      meant = λ limit input replies turns shallow. later _ _ _ _ _ (mul-le-mul_left (turns + 1) few) (runs.meant limit input replies turns shallow);
+      watched = λ limit input replies turns. later _ _ _ _ _ _ _ (mul-le-mul_left (turns + 1) few) (runs.watched limit input replies turns);
+      meant = λ limit input replies turns shallow. later _ _ _ _ _ _ _ (mul-le-mul_left (turns + 1) few) (runs.meant limit input replies turns shallow);
     }

@@ -7,7 +7,7 @@ use Rattle.std.proofs.lemmas.Bool.Decides.{nat_tests}
 use Rattle.std.specs.Cmp.Derive.{both_true}
 use Rattle.cxx_ast.specs.Limits.{most_class_bytes}
 use Rattle.region_forms.specs.Form.{SlotKind, Slot, Root, in_slot, through, in_global, Callee, defined, builtin, Value, number, load, unary, binary, call_value, Argument, int_argument, address_argument, handler_argument, Arguments, no_arguments, argument_then, Op, evaluate, store, bind, call, construct, destroy, make, throw, rethrow, enter, leave, Cleanup, destroy_scope, destroy_part, free_object, leave_handler, Region, seq, op, branch, loop, protect, catch, limit, barrier, leave_region, RegionList, no_regions, region_then, Clauses, no_clauses, clause_then, TypeRow, RegionFunction, Regions, kinds_of, function_at}
-use Rattle.region_forms.specs.WellFormed.{every, holds_ints, holds_address, is_variable, is_help, slot_test, within, within_object, int_place, address_place, pure_value, argument_test, arguments_test, count_of, fit, call_test, takes_object, callee_test, value_test, destructor_test, op_test, cleanup_test, is_op, clause_type_test, region_test, regions_test, clauses_test, result_test, function_test, rows_test}
+use Rattle.region_forms.specs.WellFormed.{every, holds_ints, holds_address, is_reference, is_variable, is_help, slot_test, within, within_object, int_place, address_place, pure_value, argument_test, arguments_test, count_of, fit, call_test, takes_object, callee_test, value_test, destructor_test, op_test, cleanup_test, is_op, clause_type_test, region_test, regions_test, clauses_test, result_test, function_test, rows_test}
 use Rattle.region_ir.proofs.EachFunction.{at_place}
 use Rattle.linear_forms.specs.Cost.{cost, cost_all, cost_clauses}
 use Rattle.checked_regions.specs.Slots.{slot_fits, slots_fit}
@@ -33,7 +33,7 @@ module _ (r : Regions) (few : Few r) where
       (filled + count_of args == (function_at r n).parameters && fit (function_at r n).slots filled args) h).0 few.functions
 
   built : (n : ℕ) (args : Arguments) → takes_object r n args ≡ true → has_field n ≡ true
-  built n args h = called n 1 args (and_parts (call_test r n 1 args) (slot_test holds_address (function_at r n).slots 0) h).0
+  built n args h = called n 1 args (and_parts (call_test r n 1 args) (slot_test is_reference (function_at r n).slots 0) h).0
 
   callee_in : (c : Callee) (args : Arguments) → callee_test r c args ≡ true → callee_has_field c ≡ true
   callee_in (defined n) args h = called n 0 args h
@@ -121,7 +121,7 @@ module _ (r : Regions) (few : Few r) where
     op_in (evaluate v) h = top_in v h
     op_in (store p v) h = let parts = and_parts (int_place r slots p) (value_test r slots v) h in both_true (int_in p.root p.offset parts.0) (top_in v parts.1)
     op_in (bind s p) h =
-        let parts = and_parts (slot_test holds_address slots s) (address_place r slots p) h in both_true (slot_in holds_address s parts.0) (address_in p.root p.offset parts.1)
+        let parts = and_parts (slot_test is_reference slots s) (address_place r slots p) h in both_true (slot_in is_reference s parts.0) (address_in p.root p.offset parts.1)
     op_in (call c args) h =
         let parts = and_parts (arguments_test r slots args) (callee_test r c args) h in both_true (callee_in c args parts.1) (arguments_in args parts.0)
     op_in (construct p n args) h =

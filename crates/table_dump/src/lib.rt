@@ -8,9 +8,9 @@ mod head;
 mod keys;
 mod line;
 mod named;
-mod row;
+pub mod row;
 mod table;
-mod text;
+pub mod text;
 
 pub use dump::dump_image;
 pub use elf_image::ImageError;

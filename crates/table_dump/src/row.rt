@@ -70,8 +70,8 @@ fn put_rule(alloc: Global, out: &mut Vec<u8>, number: u8, rule: Rule) -> Result<
     }
 }
 
-// The rules of the registers from one on.
-fn put_rules(alloc: Global, out: &mut Vec<u8>, rules: &[Rule]) -> Result<(), AllocError>
+/// The rules of the registers from x0 on.
+pub fn put_rules(alloc: Global, out: &mut Vec<u8>, rules: &[Rule]) -> Result<(), AllocError>
     requires { length rules.now ≤ 64 }
     ensures { OnOk result (out.new.items ≡ out.old.items ++ rules_text 0 rules.now) }
 {

@@ -9,3 +9,4 @@ pub mod Acts
 pub mod Kept
 pub mod Once
 pub mod Runs
+pub mod Counting

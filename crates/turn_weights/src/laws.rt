@@ -1,4 +1,5 @@
 // Laws on what runs of linear code weigh: calls of no effect, whose contracts state what holds of every program.
+ghost use Rattle.turn_weights.specs.Counting.{AllAreCounted};
 ghost use Rattle.turn_weights.specs.Once.{RunsWeighByCalls, TerminateBeginsOnce};
 ghost use Rattle.turn_weights.specs.Runs.{RunsWeighLittle};
 
@@ -16,4 +17,9 @@ pub fn terminate_begins_once()
 /// So a run of a program weighs no more for each of its calls and turns of loops, and for two more, than the longest function.
 pub fn runs_weigh_by_calls()
     ensures { RunsWeighByCalls }
+{}
+
+/// No more calls begin and no more loops turn back in a run than it has steps that count as such.
+pub fn all_are_counted()
+    ensures { AllAreCounted }
 {}

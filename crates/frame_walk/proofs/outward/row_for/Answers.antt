@@ -2,7 +2,7 @@ use Rattle.std.proofs.Common.{◌≡◌, Ok, Some, ap, sym, subst, ◌∙◌}
 use Rattle.std.specs.Prelude.{option_map}
 use Rattle.eh_bytes.specs.Memory.{Memory, memory_of}
 use Rattle.table_forms.specs.declared.found.Row.{Row}
-use Rattle.table_forms.specs.Fde.{Fde, is_in, fde_for, row_at}
+use Rattle.table_forms.specs.Fde.{is_in, fde_for, row_at}
 use Rattle.table_forms.specs.Frames as forms
 use Rattle.frame_read.specs.declared.listed.Fde as shown
 use Rattle.frame_read.specs.Listed.{fde_listed}

@@ -10,4 +10,4 @@ returns-in-None c = λ header read reads lists.
 pub returns-in-Some : goal.returns-in-Some
 returns-in-Some c = λ header read reads lists.
     let m = c.args.machine.now in let fr = c.args.frame.now in
-    c.out_by.ensures ∙ sym (next_by_row m read.fdes fr ∙ ap (by_row m fr) (sym (c.in-Some.ensures header read reads lists)))
+    c.step_by.ensures ∙ sym (next_by_row m read.fdes fr ∙ ap (by_row m fr) (sym (c.in-Some.ensures header read reads lists)))

@@ -1,24 +1,43 @@
-use Rattle.std.proofs.Common.{rules, ◌≡◌, ◌<◌, ◌≤◌, length, slice_set, Some, get_or, ◌∙◌, sym, arith}
+use Rattle.std.proofs.Common.{rules, ◌≡◌, ◌+◌, drop, get_or, Some, None, sym, ◌∙◌, arith}
+use Rattle.std.proofs.lemmas.List.{drop_all, length-set}
 use Rattle.table_forms.specs.declared.found.Rule.TheVariants as found
 use Rattle.frame_walk.specs.Registers.{register_of}
-use Rattle.frame_walk.proofs.Rules.{one_more, all_read}
+use Rattle.frame_walk.proofs.Rules.{are_changed, unchanged, next_left, one_set, all_set, not_read, small_at}
 use Rattle.frame_walk.proofs.registers.registers_of.Goals as goal
 
-pub registers-preserved : goal.registers-preserved
-registers-preserved c =
-    let inside : c.registers.number < length c.args.rules.now = search rules in
-    let many = c.registers.invariant.0 in let below = c.registers-test.true in
-    let room : c.registers.number < length c.registers.outward = omega (arith, many, below) in
-    let read : register_of c.args.machine.now c.args.cfa c.args.regs.now c.registers.number (get_or c.args.rules.now c.registers.number found.Unspecified) ≡ Some c.in_ok-outward.field-0 = search rules in
-    let kept : length (slice_set c.registers.outward c.registers.number c.in_ok-outward.field-0) ≡ 64 = search rules in (
-      kept,
-      c.registers.invariant.1 ∙
-          one_more c.args.machine.now c.args.cfa c.args.regs.now c.args.rules.now c.registers.outward c.registers.number c.in_ok-outward.field-0 found.Unspecified inside room read,
+pub changed-init : goal.changed-init
+changed-init c =
+    let regs = c.args.regs.now in (
+      length-set regs 2 c.args.cfa ∙ c.told-regs,
+      unchanged c.args.machine.now c.args.cfa regs c.args.rules.now c.args.changed.now c.told-regs (are_changed c.args.rules.now c.args.changed.now c.requires),
+    )
+
+pub bounds-rules-number : goal.bounds-rules-number
+bounds-rules-number c = small_at c.args.rules.now c.args.changed.now c.changed.at c.requires c.changed-test.true
+
+pub bounds-outward-number : goal.bounds-outward-number
+bounds-outward-number c = small_at c.args.rules.now c.args.changed.now c.changed.at c.requires c.changed-test.true
+
+pub returns-in_err-outward : goal.returns-in_err-outward
+returns-in_err-outward c =
+    let number = get_or c.args.changed.now c.changed.at 0 in
+    let many = c.told-rules in let small = small_at c.args.rules.now c.args.changed.now c.changed.at c.requires c.changed-test.true in
+    let none : c.from_residual.result ≡ None = search rules in
+    let read : register_of c.args.machine.now c.args.cfa c.args.regs.now number (get_or c.args.rules.now number found.Unspecified) ≡ None = search rules in
+    none ∙ sym (not_read c.args.machine.now c.args.cfa c.args.regs.now c.args.rules.now number (omega (arith, many, small)) read)
+
+pub changed-preserved : goal.changed-preserved
+changed-preserved c =
+    let all = c.args.changed.now in let number = get_or all c.changed.at 0 in
+    let small = small_at c.args.rules.now all c.changed.at c.requires c.changed-test.true in
+    let read : register_of c.args.machine.now c.args.cfa c.args.regs.now number (get_or c.args.rules.now number found.Unspecified) ≡ Some c.in_ok-outward.field-0 = search rules in (
+      length-set c.changed.outward number c.in_ok-outward.field-0 ∙ c.changed.invariant.0,
+      one_set c.args.machine.now c.args.cfa c.args.regs.now c.args.rules.now (drop c.changed.at all) (drop (c.changed.at + 1) all) c.changed.outward number c.in_ok-outward.field-0 c.changed.invariant.0 small
+          (next_left all c.changed.at 0 c.changed-test.true) read c.changed.invariant.1,
     )
 
 pub returns : goal.returns
 returns c =
-    let many = c.registers.invariant.0 in let ended = c.registers-test.false in
-    let all : length c.args.rules.now ≤ c.registers.number = search rules in
-    sym (c.registers.invariant.1 ∙
-    all_read c.args.machine.now c.args.cfa c.args.regs.now c.args.rules.now c.registers.outward c.registers.number all (omega (arith, many, ended)))
+    let all = c.args.changed.now in let ended = c.changed-test.false in
+    sym (all_set c.args.machine.now c.args.cfa c.args.regs.now c.args.rules.now (drop c.changed.at all) c.changed.outward c.told-rules c.changed.invariant.0
+    (drop_all c.changed.at all ended) c.changed.invariant.1)

@@ -8,14 +8,14 @@ use Rattle.rv64_machine.proofs.memory.Memory.put_byte.Goals as goal
 pub returns-then-covers : goal.returns-then-covers
 returns-then-covers c =
     let inside = c.self.inside in
-    slots_put inside.slots inside.stack c.put_in.new.part inside.segments.parts.items c.args.self.now c.args.address 1 1 c.args.value c.self.view_is refl
-    (spans_1 (part_of inside.slots) c.args.address (sym c.covers.ensures ∙ c.if-covers.true)) c.put_in.ensures.bytes
+    slots_put inside.slots inside.stack c.put.new.self inside.segments.parts.items c.args.self.now c.args.address 1 1 c.args.value c.self.view_is refl
+    (spans_1 inside.slots c.args.address (sym c.covers.ensures ∙ c.if-covers.true)) c.put.ensures.bytes
 
 pub returns-then-covers-2 : goal.returns-then-covers-2
 returns-then-covers-2 c =
     let inside = c.self.inside in
-    stack_put inside.slots inside.stack c.put_in-then-covers-2.new.part inside.segments.parts.items c.args.self.now c.args.address 1 1 c.args.value c.self.invariant c.self.view_is refl
-    (spans_1 (part_of inside.stack) c.args.address (sym c.covers-2.ensures ∙ c.if-covers-2.true)) c.put_in-then-covers-2.ensures.bytes
+    stack_put inside.slots inside.stack c.put-then-covers-2.new.self inside.segments.parts.items c.args.self.now c.args.address 1 1 c.args.value c.self.invariant c.self.view_is refl
+    (spans_1 inside.stack c.args.address (sym c.covers-2.ensures ∙ c.if-covers-2.true)) c.put-then-covers-2.ensures.bytes
 
 pub returns-in-Some : goal.returns-in-Some
 returns-in-Some c =

@@ -8,14 +8,14 @@ use Rattle.rv64_machine.proofs.memory.Memory.put_near.Goals as goal
 pub returns-then-spans-clause-put : goal.returns-then-spans-clause-put
 returns-then-spans-clause-put c =
     let inside = c.self.inside in
-    stack_put inside.slots inside.stack c.put_in.new.part inside.segments.parts.items c.args.self.now c.args.address c.bytes-length.result (size_of c.args.size) c.args.value
-    c.self.invariant c.self.view_is c.bytes-length.ensures c.if-spans.ensures c.put_in.ensures.bytes
+    stack_put inside.slots inside.stack c.put.new.self inside.segments.parts.items c.args.self.now c.args.address c.bytes-length.result (size_of c.args.size) c.args.value
+    c.self.invariant c.self.view_is c.bytes-length.ensures c.if-spans.ensures c.put.ensures.bytes
 
 pub returns-then-spans-2-clause-put : goal.returns-then-spans-2-clause-put
 returns-then-spans-2-clause-put c =
     let inside = c.self.inside in
-    slots_put inside.slots inside.stack c.put_in-then-spans-2.new.part inside.segments.parts.items c.args.self.now c.args.address c.bytes-length.result (size_of c.args.size) c.args.value
-    c.self.view_is c.bytes-length.ensures c.if-spans-2.ensures c.put_in-then-spans-2.ensures.bytes
+    slots_put inside.slots inside.stack c.put-then-spans-2.new.self inside.segments.parts.items c.args.self.now c.args.address c.bytes-length.result (size_of c.args.size) c.args.value
+    c.self.view_is c.bytes-length.ensures c.if-spans-2.ensures c.put-then-spans-2.ensures.bytes
 
 pub returns-then-segment_spans-clause-put : goal.returns-then-segment_spans-clause-put
 returns-then-segment_spans-clause-put c =

@@ -1,0 +1,98 @@
+// Bytes under a name, in place of those that were there: all of them, or none.
+
+use crate::whole::write_whole;
+use eh_outer::StoreError;
+use std::alloc::Global;
+use std::fs::{self, File, Metadata};
+use std::io::{self, ErrorKind};
+use std::rt::Files;
+
+// How many names are tried for a file beside: a call that was cut off may have left its own.
+const TRIES: u32 = 16;
+
+// The new file and its name.
+#[derive(Drop)]
+struct Beside<F: Drop> {
+    file: F,
+    name: String,
+}
+
+// A new file in the folder of the one of that name.
+fn new_beside<R: Files>(
+    files: &R,
+    alloc: Global,
+    name: &str,
+) -> Result<Beside<R::File>, StoreError> {
+    for number in 0..TRIES {
+        let beside = format!(in alloc; "{name}.ehc-{number}")?;
+        match File::create_new(files, beside.as_str()) {
+            Ok(file) => return Ok(Beside { file, name: beside }),
+            Err(e) if e.kind() == ErrorKind::AlreadyExists => {}
+            Err(_) => return Err(StoreError::Failed),
+        }
+    }
+    Err(StoreError::Failed)
+}
+
+// Gives the new file the permissions of the one that was there, and puts it in its place.
+fn put_in_place<R: Files>(
+    files: &R,
+    beside: &str,
+    name: &str,
+    there: Option<Metadata>,
+) -> io::Result<()> {
+    if let Some(there) = there {
+        fs::set_permissions(files, beside, there.permissions())?;
+    }
+    fs::rename(files, beside, name)
+}
+
+// Writes a new file beside, and puts it in the place of the one of that name. Where one of these
+// fails, the new file is removed.
+fn replace<R: Files>(
+    files: &R,
+    alloc: Global,
+    name: &str,
+    there: Option<Metadata>,
+    bytes: &[u8],
+) -> Result<(), StoreError> {
+    let mut beside = new_beside(files, alloc, name)?;
+    let done = write_whole(&mut beside.file, bytes)
+        && put_in_place(files, beside.name.as_str(), name, there).is_ok();
+    if done {
+        return Ok(());
+    }
+    let _ = fs::remove_file(files, beside.name.as_str());
+    Err(StoreError::Failed)
+}
+
+// Writes to what is there, which is no file: a device, a pipe or a link.
+fn write_through<R: Files>(files: &R, name: &str, bytes: &[u8]) -> Result<(), StoreError> {
+    let Ok(mut file) = fs::create(files, name) else {
+        return Err(StoreError::Failed);
+    };
+    if write_whole(&mut file, bytes) {
+        Ok(())
+    } else {
+        Err(StoreError::Failed)
+    }
+}
+
+/// Puts the bytes under the name. A file that stood there is replaced at once, by a rename over it
+/// (POSIX, `rename`), so that a write that fails leaves it as it was.
+///
+/// What is there and is no file of its own, as a device or a symbolic link, is written through.
+/// `Failed` where a file can't be made, written or renamed; `NoMemory` where its name has no room.
+pub fn write_file<R: Files>(
+    files: &R,
+    alloc: Global,
+    name: &str,
+    bytes: &[u8],
+) -> Result<(), StoreError> {
+    match files.symlink_metadata(name) {
+        Ok(there) if there.is_file() => replace(files, alloc, name, Some(there), bytes),
+        Ok(_) => write_through(files, name, bytes),
+        Err(e) if e.kind() == ErrorKind::NotFound => replace(files, alloc, name, None, bytes),
+        Err(_) => Err(StoreError::Failed),
+    }
+}
