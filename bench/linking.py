@@ -19,7 +19,7 @@ from compiling import EMPTY, LENGTHS, PEER, chain
 RUNS, LINKS, LOADS = 3, 41, 41
 
 NEEDS = [
-    "anyhow", "cxx_ast", "cxx_front", "scope_rules", "region_forms", "linear_forms", "emission_forms", "class_layout", "region_ir",
+    "anyhow", "cxx_ast", "cxx_front", "meaning_forms", "region_forms", "linear_forms", "machine_forms", "class_layout", "region_ir",
     "landing_pads", "rv64_emit", "image_forms", "image_link", "eh_bytes", "eh_outer", "run_items", "eh_run",
 ]
 
@@ -106,7 +106,7 @@ def written(work):
     (crate / "src/read.rt").write_text(READ)
     (crate / "proofs/read/emitted").mkdir(parents=True)
     (crate / "proofs/read/emitted/Answers.antt").write_text(ANSWERS)
-    shutil.copy(TOP / "crates/lowering_trials/proofs/Fitting.antt", crate / "proofs")
+    shutil.copy(TOP / "crates/compiler_trials/proofs/Fitting.antt", crate / "proofs")
     (crate / "proofs/Lib.antt").write_text("mod Fitting\n")
     (crate / "stdout").write_text("")
     return crate

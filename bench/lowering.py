@@ -79,7 +79,7 @@ pub layout-requires : goal.layout-requires
 layout-requires c = fitting c.args.source.now c.in-Ok.program c.in-Ok.ensures
 """
 
-NEEDS = ["cxx_ast", "cxx_front", "scope_rules", "region_forms", "linear_forms", "class_layout", "region_ir", "landing_pads", "eh_bytes"]
+NEEDS = ["cxx_ast", "cxx_front", "meaning_forms", "region_forms", "linear_forms", "class_layout", "region_ir", "landing_pads", "eh_bytes"]
 
 CLASS = "struct A { int n; A(int k) { n = k; } ~A() { n = 0; } }; int g(int a) { return a; } "
 PLAIN = "int f%d(int n, int m) { if (n < 4711) { n = n + m * (12 - n); } while (m) { m = m - 1; } return n; }\n"
@@ -120,7 +120,7 @@ def main():
         (program / "src/read.rt").write_text(READ)
         (program / "proofs/read/read").mkdir(parents=True)
         (program / "proofs/read/read/Answers.antt").write_text(ANSWERS)
-        shutil.copy(TOP / "crates/lowering_trials/proofs/Fitting.antt", program / "proofs")
+        shutil.copy(TOP / "crates/compiler_trials/proofs/Fitting.antt", program / "proofs")
         (program / "proofs/Lib.antt").write_text("mod Fitting\n")
         lines = run(["rt", "run", "--", *paths], cwd=program).splitlines()[-len(paths):]
         rows = [[int(word) for word in line.split()] for line in lines]

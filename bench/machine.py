@@ -1,7 +1,7 @@
 #!/usr/bin/env python3
 """Times the machine on three loops beside a plain C interpreter of the same words, and prints a small table.
 
-`machine_loops` runs each loop for so many steps; the C program that this script builds at -O2 does the same with a
+`bench_loops` runs each loop for so many steps; the C program that this script builds at -O2 does the same with a
 switch over the words, with the same tests of addresses. The time of a run of few steps, which is that of making the
 machine, is taken off. What it builds lies in a folder of its own.
 """
@@ -13,7 +13,7 @@ import tempfile
 import time
 
 HERE = pathlib.Path(__file__).resolve().parent
-CRATE = HERE.parent / "crates/machine_loops"
+CRATE = HERE.parent / "crates/bench_loops"
 LOOPS = ["arithmetic", "memory", "calls"]
 FEW, MANY = 1_000, 100_000_000
 
@@ -109,7 +109,7 @@ def seconds(program, loop, steps):
 def main():
     built = subprocess.run(["rt", "run", "--", "calls", "1"], cwd=CRATE, stdout=subprocess.DEVNULL, stderr=subprocess.DEVNULL)
     if built.returncode:
-        print("machine.py: machine_loops is not built", file=sys.stderr)
+        print("machine.py: bench_loops is not built", file=sys.stderr)
         return 1
     with tempfile.TemporaryDirectory() as folder:
         source, peer = pathlib.Path(folder) / "peer.c", pathlib.Path(folder) / "peer"
@@ -118,7 +118,7 @@ def main():
         print(f"{'loop':12}{'C, M/s':>10}{'machine, M/s':>14}{'ratio':>8}")
         for loop in LOOPS:
             rates = {}
-            for name, program in (("C", peer), ("machine", CRATE / "out/machine_loops")):
+            for name, program in (("C", peer), ("machine", CRATE / "out/bench_loops")):
                 took, said = [], set()
                 for _ in range(5):
                     few, _ = seconds(program, loop, FEW)

@@ -4,7 +4,7 @@ use Rattle.std.specs.Prelude.{slice_get, unwrap_or}
 use Rattle.std.proofs.lemmas.List.{length-append}
 use Rattle.cxx_ast.specs.declared.name.Name.{Name}
 use Rattle.cxx_ast.specs.Plain.{Class}
-use Rattle.scope_rules.specs.Class.{ObjectType, int_type, class_type, base_part}
+use Rattle.meaning_forms.specs.Class.{ObjectType, int_type, class_type, base_part}
 use Rattle.region_forms.specs.Layout.{ClassLayout, layout_at, size_in, sizes_in, offsets_from, member_types, class_parts, size_of_parts, class_layout, layouts_behind, layouts, offset_of_part, part_offset}
 use Rattle.class_layout.specs.Fit.{IsBefore, AreBefore, FitBehind, Fit}
 use Rattle.class_layout.specs.StandApart.{StandApart}

@@ -21,7 +21,7 @@ use Rattle.cxx_ast.specs.Declare.{with_name, next_class, with_class_name, other_
 use Rattle.cxx_ast.specs.ClassRules.{is_taken, base_found, type_place, field_found, method_names, twice_among, specials_found, size_found, method_found, class_rules_found}
 use Rattle.cxx_ast.specs.Broken.{declaration_found, declarations_found}
 use Rattle.cxx_ast.specs.Checked.{resolve_base, resolve_fields, resolve_class_tree, resolve_declarations, classes_of}
-use Rattle.scope_rules.specs.Class.{ObjectType, class_type, class_named, object_type, base_part, member_part}
+use Rattle.meaning_forms.specs.Class.{ObjectType, class_type, class_named, object_type, base_part, member_part}
 use Rattle.region_forms.specs.Layout.{ClassLayout, layout_at, size_in, sizes_in, size_of_parts, class_layout}
 use Rattle.class_layout.specs.Fit.{IsBefore, AreBefore, Fits, FitBehind}
 use Rattle.class_layout.proofs.Sound.{front_sound, back_sound, not_broken, before_test}

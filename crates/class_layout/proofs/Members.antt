@@ -1,7 +1,7 @@
 -- Members are laid out one after the other.
 use Rattle.std.proofs.Common.{◌≡◌, ℕ, ◌+◌, List, ◌++◌, length}
 use Rattle.cxx_ast.specs.Plain.{Class}
-use Rattle.scope_rules.specs.Class.{ObjectType, base_part}
+use Rattle.meaning_forms.specs.Class.{ObjectType, base_part}
 use Rattle.region_forms.specs.Layout.{ClassLayout, sizes_in, offsets_from, member_types, class_parts}
 use Rattle.class_layout.specs.Fit.{AreBefore}
 

@@ -10,7 +10,7 @@ use Rattle.cxx_ast.specs.Environment.{Kind, class_kind, Signature, Field, ClassE
 use Rattle.cxx_ast.specs.Lookup.{variable_named, in_reach, Found, field_named, is_method, method_named, first_of_two, member_of, own_meaning, builtin_named, function_meaning, thing_meaning, entry_of, outer_meaning, look}
 use Rattle.cxx_ast.specs.TypeNames.{class_meant, class_wanted, class_of_name, class_found}
 use Rattle.cxx_ast.specs.Resolve.{bind, bound_of, resolve_class}
-use Rattle.scope_rules.specs.Class.{class_named}
+use Rattle.meaning_forms.specs.Class.{class_named}
 
 -- a class that a name stands for is one of the first n
 abbrev pub ThingBelow : ℕ → Thing → Type 0

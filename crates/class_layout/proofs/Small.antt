@@ -3,7 +3,7 @@ use Rattle.std.proofs.Common.{◌≡◌, ℕ, zero, suc, ◌+◌, ◌≤◌, Lis
 use Rattle.std.specs.Prelude.{slice_get}
 use Rattle.cxx_ast.specs.Limits.{most_class_bytes}
 use Rattle.cxx_ast.specs.Plain.{Class}
-use Rattle.scope_rules.specs.Class.{ObjectType, int_type, class_type}
+use Rattle.meaning_forms.specs.Class.{ObjectType, int_type, class_type}
 use Rattle.region_forms.specs.Layout.{ClassLayout, layout_at, size_in, class_parts, class_layout, layouts_behind, layouts, part_offset}
 use Rattle.class_layout.specs.Fit.{FitBehind, Fit}
 use Rattle.class_layout.proofs.Apart.{some_words, stand_apart}

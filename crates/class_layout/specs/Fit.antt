@@ -3,7 +3,7 @@ use Rattle.std.specs.Prelude.{ℕ, ◌≤◌, ◌<◌, List, [], ◌∷◌, ◌+
 use Rattle.cxx_ast.specs.Plain.{Class, Checked}
 use Rattle.cxx_ast.specs.Limits.{most_class_bytes}
 use Rattle.cxx_ast.specs.Checked.{IsChecked}
-use Rattle.scope_rules.specs.Class.{ObjectType, int_type, class_type}
+use Rattle.meaning_forms.specs.Class.{ObjectType, int_type, class_type}
 use Rattle.region_forms.specs.Layout.{ClassLayout, class_parts, class_layout}
 
 -- a type is int, or one of n classes

@@ -1,7 +1,7 @@
 -- The parts of objects do not overlap.
 use Rattle.std.specs.Prelude.{ℕ, ◌+◌, ◌%◌, ◌≡◌, ◌≤◌, ◌<◌, List, Some, slice_get}
 use Rattle.cxx_ast.specs.Plain.{Class}
-use Rattle.scope_rules.specs.Class.{ObjectType, class_type}
+use Rattle.meaning_forms.specs.Class.{ObjectType, class_type}
 use Rattle.region_forms.specs.Layout.{ClassLayout, layout_at, size_in, class_parts, class_layout, part_offset}
 
 -- Of each class: its layout is that of its parts by their own layouts; it has some words, and its parts begin at words, lie in it, and end

@@ -2,7 +2,7 @@
 ghost use Rattle.std.specs.Prelude.{◌≡◌, ◌≤◌, ◌<◌, length, map, IfOk};
 ghost use Rattle.cxx_ast.specs.View.{class_of};
 ghost use Rattle.cxx_ast.specs.Limits.{most_class_bytes};
-ghost use Rattle.scope_rules.specs.Class.{class_named, class_type, object_type};
+ghost use Rattle.meaning_forms.specs.Class.{class_named, class_type, object_type};
 ghost use Rattle.region_forms.specs.Layout.{size_in, class_layout, layouts};
 ghost use Rattle.class_layout.specs.Fit.{IsBefore, Fits, Fit};
 ghost use Rattle.class_layout.specs.View.{class_layout_of, laid_out};

@@ -9,13 +9,13 @@ use Rattle.cxx_ast.specs.Checked.{checked}
 use Rattle.cxx_front.specs.Source.{IsProgram, IsRefused}
 use Rattle.cxx_front.specs.Fate.{HasOnly, refused, valid}
 use Rattle.cxx_image.specs.Image.{image_for}
-use Rattle.eh_driver.specs.declared.status.Status.{Status}
-use Rattle.eh_driver.specs.declared.status.Status.TheVariants.{Done, Usage, SourceRefused, ImageRefused, ReadFault, TooLong, WriteFault, NoMemory, Aborted, Budget, Stack, MachineFault, Undefined}
-use Rattle.eh_driver.specs.File.{Told, source_limit}
-use Rattle.eh_driver.specs.Mean.{Asked}
-use Rattle.eh_driver.specs.Compile.{CompilesTo, CompileCause}
+use Rattle.eh_commands.specs.declared.status.Status.{Status}
+use Rattle.eh_commands.specs.declared.status.Status.TheVariants.{Done, Usage, SourceRefused, ImageRefused, ReadFault, TooLong, WriteFault, NoMemory, Aborted, Budget, Stack, MachineFault, Undefined}
+use Rattle.eh_commands.specs.File.{Told, source_limit}
+use Rattle.eh_commands.specs.Mean.{Asked}
+use Rattle.eh_commands.specs.Compile.{CompilesTo, CompileCause}
 use Rattle.eh_driver.specs.Promise.{Undisturbed, CompilePromise}
-use Rattle.eh_driver.proofs.Sources.{told_of, valid_same, not_refused, same_refusal}
+use Rattle.eh_commands.proofs.Sources.{told_of, valid_same, not_refused, same_refusal}
 
 module _ (a : Asked) (source : List ℕ) (old new : StoreView) (out out' : SinkView) (u : Undisturbed source_limit a.source source old new out out') where
   told : (P : List ℕ → Type 0) → Told source_limit old a.source P → P source

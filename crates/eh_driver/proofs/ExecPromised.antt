@@ -11,14 +11,14 @@ use Rattle.elf_image.specs.Runnable.{runnable}
 use Rattle.cxa_runtime.specs.Run.{Ran}
 use Rattle.eh_run.specs.Program.{program_of}
 use Rattle.eh_run.specs.Runs.{IsRun}
-use Rattle.eh_driver.specs.declared.status.Status.{Status}
-use Rattle.eh_driver.specs.declared.status.Status.TheVariants.{Done, Usage, SourceRefused, ImageRefused, ReadFault, TooLong, WriteFault, NoMemory, Aborted, Budget, Stack, MachineFault, Undefined}
-use Rattle.eh_driver.specs.Image.{image_limit, status_of}
-use Rattle.eh_driver.specs.Mean.{Asked, ToldInput, UnreadEither}
-use Rattle.eh_driver.specs.RunEnd.{run_lines, status_of_run}
-use Rattle.eh_driver.specs.Exec.{RunsThis, ToldRuns, RefusesToRun, ExecCause}
+use Rattle.eh_commands.specs.declared.status.Status.{Status}
+use Rattle.eh_commands.specs.declared.status.Status.TheVariants.{Done, Usage, SourceRefused, ImageRefused, ReadFault, TooLong, WriteFault, NoMemory, Aborted, Budget, Stack, MachineFault, Undefined}
+use Rattle.eh_commands.specs.Image.{image_limit, status_of}
+use Rattle.eh_commands.specs.Mean.{Asked, ToldInput, UnreadEither}
+use Rattle.eh_commands.specs.RunEnd.{run_lines, status_of_run}
+use Rattle.eh_commands.specs.Exec.{RunsThis, ToldRuns, RefusesToRun, ExecCause}
 use Rattle.eh_driver.specs.Promise.{ExecUndisturbed, ShowsRun, ExecPromise}
-use Rattle.eh_driver.proofs.Sources.{told_of}
+use Rattle.eh_commands.proofs.Sources.{told_of}
 use Rattle.eh_driver.proofs.MeanPromised.{input_of, not_unread, not_long}
 
 -- an image that was read is one image

@@ -19,11 +19,11 @@ use Rattle.cxa_runtime.specs.Kept.{replies_of}
 use Rattle.cxa_runtime.specs.Run.{Ran}
 use Rattle.literal_mains.specs.Main.{small_main}
 use Rattle.literal_mains.specs.Laws.{LiteralMainsRun, enough_steps}
-use Rattle.eh_driver.specs.declared.status.Status.{Status}
-use Rattle.eh_driver.specs.Mean.{Asked}
-use Rattle.eh_driver.specs.Output.{line_of, exit_line, exit_pieces}
-use Rattle.eh_driver.specs.RunEnd.{run_end_line, count_lines, run_lines, status_of_run}
-use Rattle.eh_driver.specs.RunSource.{Prints}
+use Rattle.eh_commands.specs.declared.status.Status.{Status}
+use Rattle.eh_commands.specs.Mean.{Asked}
+use Rattle.eh_commands.specs.Output.{line_of, exit_line, exit_pieces}
+use Rattle.eh_commands.specs.RunEnd.{run_end_line, count_lines, run_lines, status_of_run}
+use Rattle.eh_commands.specs.RunSource.{Prints}
 use Rattle.eh_driver.specs.Promise.{ShowsLiterals}
 
 -- a valid program is a checked one

@@ -8,14 +8,14 @@ use Rattle.cxx_ast.specs.Checked.{checked}
 use Rattle.cxx_front.specs.Source.{IsProgram, IsRefused}
 use Rattle.cxx_front.specs.Fate.{HasOnly, refused, valid}
 use Rattle.run_items.specs.Output.{TakesAll}
-use Rattle.scope_rules.specs.Meaning.{Meaning}
+use Rattle.meaning_forms.specs.Meaning.{Meaning}
 use Rattle.scope_meaning.specs.Mean.{meant}
-use Rattle.eh_driver.specs.declared.status.Status.{Status}
-use Rattle.eh_driver.specs.declared.status.Status.TheVariants.{Done, Usage, SourceRefused, ImageRefused, ReadFault, TooLong, WriteFault, NoMemory, Aborted, Budget, Stack, MachineFault, Undefined}
-use Rattle.eh_driver.specs.File.{Told, source_limit}
-use Rattle.eh_driver.specs.Mean.{Asked, MeanCause, MeansThis, ToldInput, ToldMeans, UnreadEither, UnreadInput, input_limit, mean_lines, status_of_end}
+use Rattle.eh_commands.specs.declared.status.Status.{Status}
+use Rattle.eh_commands.specs.declared.status.Status.TheVariants.{Done, Usage, SourceRefused, ImageRefused, ReadFault, TooLong, WriteFault, NoMemory, Aborted, Budget, Stack, MachineFault, Undefined}
+use Rattle.eh_commands.specs.File.{Told, source_limit}
+use Rattle.eh_commands.specs.Mean.{Asked, MeanCause, MeansThis, ToldInput, ToldMeans, UnreadEither, UnreadInput, input_limit, mean_lines, status_of_end}
 use Rattle.eh_driver.specs.Promise.{MeanUndisturbed, InputIs, MeanPromise, Shows}
-use Rattle.eh_driver.proofs.Sources.{told_of, valid_same, not_refused, same_refusal}
+use Rattle.eh_commands.proofs.Sources.{told_of, valid_same, not_refused, same_refusal}
 
 -- the input of which something is told
 pub input_of : (i : Option (List ℕ)) (store : StoreView) (files : Files) (input : List ℕ) (P : List ℕ → Type 0) → store.files ≡ Some files → InputIs i files input → ToldInput store i P → P input

@@ -3,8 +3,8 @@ use Rattle.std.proofs.Common.{◌≡◌, inl, inr, ℕ, List, Option, Some, None
 use Rattle.std.specs.Prelude.{IsErrAnd}
 use Rattle.eh_outer.specs.Store.{StoreView}
 use Rattle.eh_outer.specs.Sink.{SinkView}
-use Rattle.eh_driver.specs.declared.status.Status.{Status}
-use Rattle.eh_driver.specs.declared.status.Status.TheVariants.{Done, Usage, SourceRefused, ImageRefused, ReadFault, TooLong, WriteFault, NoMemory, Aborted, Budget, Stack, MachineFault, Undefined}
+use Rattle.eh_commands.specs.declared.status.Status.{Status}
+use Rattle.eh_commands.specs.declared.status.Status.TheVariants.{Done, Usage, SourceRefused, ImageRefused, ReadFault, TooLong, WriteFault, NoMemory, Aborted, Budget, Stack, MachineFault, Undefined}
 use Rattle.table_forms.specs.Fault.{Fault}
 use Rattle.elf_image.specs.Clean.{CleanImage, clean}
 use Rattle.elf_image.specs.Reports.{reported}
@@ -12,15 +12,15 @@ use Rattle.command_line.specs.declared.command.Verb.{Verb}
 use Rattle.command_line.specs.declared.command.Verb.TheVariants.{Compile, Run, Exec, Mean, Check, Dump}
 use Rattle.command_line.specs.Command.{CommandView}
 use Rattle.eh_outer.specs.Module.{ModuleView}
-use Rattle.eh_driver.specs.Words.{asked}
-use Rattle.eh_driver.specs.Mean.{Asked}
-use Rattle.eh_driver.proofs.Sources.{told_of}
+use Rattle.eh_commands.specs.Words.{asked}
+use Rattle.eh_commands.specs.Mean.{Asked}
+use Rattle.eh_commands.proofs.Sources.{told_of}
 use Rattle.eh_driver.proofs.MeanPromised.{mean_promised}
 use Rattle.eh_driver.proofs.ExecPromised.{exec_promised}
 use Rattle.eh_driver.proofs.CompilePromised.{compile_promised}
 use Rattle.eh_driver.proofs.RunPromised.{run_promised}
-use Rattle.eh_driver.specs.Image.{ImageCause, ImagePromise, Judged, check_lines, dump_lines, image_limit, status_of}
-use Rattle.eh_driver.specs.Answer.{CommandCause, Cause}
+use Rattle.eh_commands.specs.Image.{ImageCause, ImagePromise, Judged, check_lines, dump_lines, image_limit, status_of}
+use Rattle.eh_commands.specs.Answer.{CommandCause, Cause}
 use Rattle.eh_driver.specs.Promise.{CommandPromise, Promise}
 use Rattle.literal_mains.specs.Laws.{LiteralMainsRun}
 

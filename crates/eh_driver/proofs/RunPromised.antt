@@ -8,15 +8,15 @@ use Rattle.cxx_ast.specs.Checked.{checked}
 use Rattle.cxx_front.specs.Source.{IsProgram, IsRefused}
 use Rattle.cxx_front.specs.Fate.{HasOnly, refused, valid}
 use Rattle.run_items.specs.Output.{TakesAll, bytes_of}
-use Rattle.eh_driver.specs.declared.status.Status.{Status}
-use Rattle.eh_driver.specs.declared.status.Status.TheVariants.{Done, Usage, SourceRefused, ImageRefused, ReadFault, TooLong, WriteFault, NoMemory, Aborted, Budget, Stack, MachineFault, Undefined}
-use Rattle.eh_driver.specs.File.{source_limit}
-use Rattle.eh_driver.specs.Mean.{Asked, ToldInput, UnreadEither}
-use Rattle.eh_driver.specs.RunSource.{Prints, SourcePrints, ToldPrints, RunCause}
+use Rattle.eh_commands.specs.declared.status.Status.{Status}
+use Rattle.eh_commands.specs.declared.status.Status.TheVariants.{Done, Usage, SourceRefused, ImageRefused, ReadFault, TooLong, WriteFault, NoMemory, Aborted, Budget, Stack, MachineFault, Undefined}
+use Rattle.eh_commands.specs.File.{source_limit}
+use Rattle.eh_commands.specs.Mean.{Asked, ToldInput, UnreadEither}
+use Rattle.eh_commands.specs.RunSource.{Prints, SourcePrints, ToldPrints, RunCause}
 use Rattle.eh_driver.specs.Promise.{MeanUndisturbed, ShowsImage, ShowsLiterals, RunPromise}
 use Rattle.literal_mains.specs.Laws.{LiteralMainsRun}
 use Rattle.eh_driver.proofs.LiteralsShown.{literals_shown}
-use Rattle.eh_driver.proofs.Sources.{told_of, valid_same, not_refused, same_refusal}
+use Rattle.eh_commands.proofs.Sources.{told_of, valid_same, not_refused, same_refusal}
 use Rattle.eh_driver.proofs.MeanPromised.{input_of, not_unread, not_long}
 
 module _ (a : Asked) (source input : List ℕ) (old new : StoreView) (out out' : SinkView) (u : MeanUndisturbed a source input old new out out') where

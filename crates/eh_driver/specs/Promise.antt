@@ -3,27 +3,27 @@ use Rattle.std.specs.Prelude.{◌≡◌, ◌≤◌, ◌⊎◌, ◌++◌, ⊤, �
 use Rattle.std.specs.FinMap.{get, insert}
 use Rattle.eh_outer.specs.Store.{Files, StoreView, Rose}
 use Rattle.eh_outer.specs.Sink.{SinkView, Gains}
-use Rattle.eh_driver.specs.declared.status.Status.{Status}
-use Rattle.eh_driver.specs.declared.status.Status.TheVariants.{Done, SourceRefused, NoMemory}
+use Rattle.eh_commands.specs.declared.status.Status.{Status}
+use Rattle.eh_commands.specs.declared.status.Status.TheVariants.{Done, SourceRefused, NoMemory}
 use Rattle.command_line.specs.declared.command.Verb.{Verb}
 use Rattle.command_line.specs.declared.command.Verb.TheVariants.{Compile, Run, Exec, Mean, Check, Dump}
 use Rattle.command_line.specs.Command.{CommandView}
 use Rattle.eh_outer.specs.Module.{ModuleView}
-use Rattle.scope_rules.specs.Meaning.{Meaning}
+use Rattle.meaning_forms.specs.Meaning.{Meaning}
 use Rattle.scope_meaning.specs.Mean.{meant}
-use Rattle.eh_driver.specs.Words.{asked}
-use Rattle.eh_driver.specs.Mean.{Asked, input_limit, mean_lines, status_of_end}
+use Rattle.eh_commands.specs.Words.{asked}
+use Rattle.eh_commands.specs.Mean.{Asked, input_limit, mean_lines, status_of_end}
 use Rattle.cxx_ast.specs.Plain.{Program}
 use Rattle.cxx_ast.specs.Broken.{Valid}
 use Rattle.cxx_ast.specs.Checked.{checked}
 use Rattle.cxx_front.specs.Source.{IsProgram, IsRefused}
 use Rattle.cxx_image.specs.Image.{image_for}
-use Rattle.eh_driver.specs.Exec.{RunsThis}
+use Rattle.eh_commands.specs.Exec.{RunsThis}
 use Rattle.literal_mains.specs.Main.{small_main}
 use Rattle.literal_mains.specs.Laws.{enough_steps}
 use Rattle.run_items.specs.Output.{bytes_of}
-use Rattle.eh_driver.specs.Output.{exit_pieces}
-use Rattle.eh_driver.specs.File.{source_limit}
+use Rattle.eh_commands.specs.Output.{exit_pieces}
+use Rattle.eh_commands.specs.File.{source_limit}
 use Rattle.table_forms.specs.Fault.{Fault}
 use Rattle.elf_image.specs.Clean.{CleanImage}
 use Rattle.elf_image.specs.Reports.{reported}
@@ -31,8 +31,8 @@ use Rattle.elf_image.specs.Runnable.{runnable}
 use Rattle.cxa_runtime.specs.Run.{Ran}
 use Rattle.eh_run.specs.Program.{program_of}
 use Rattle.eh_run.specs.Runs.{IsRun}
-use Rattle.eh_driver.specs.Image.{ImagePromise, check_lines, dump_lines, image_limit, status_of}
-use Rattle.eh_driver.specs.RunEnd.{count_lines, run_lines, status_of_run}
+use Rattle.eh_commands.specs.Image.{ImagePromise, check_lines, dump_lines, image_limit, status_of}
+use Rattle.eh_commands.specs.RunEnd.{count_lines, run_lines, status_of_run}
 
 -- a told file of a name within a limit, where neither the store nor the sink fails
 pub record Undisturbed (limit : ℕ) (name source : List ℕ) (old new : StoreView) (out out' : SinkView) : Type 0 where

@@ -63,12 +63,7 @@ fn makes_among(first: Option<Item>, second: Option<Item>) -> u64
 ///
 /// `max` is at most 2^40. `Budget` exactly where that many steps were counted without an end. Writes
 /// nothing; takes no memory.
-pub fn run_counted<M: Module>(
-    loaded: Loaded,
-    input: &[u8],
-    host: &mut Host<M>,
-    max: u64,
-) -> Counted
+pub fn run_counted<M: Module>(loaded: Loaded, input: &[u8], host: &mut Host<M>, max: u64) -> Counted
     requires { max ≤ 2 ^ 40 }
     ensures { CountsTo loaded input.now (map M.view host.old.modules.items) max result }
 {

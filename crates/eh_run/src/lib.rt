@@ -9,8 +9,8 @@ mod running;
 mod start;
 mod written;
 
-pub use cxa_runtime::End;
 pub use counting::{Counted, run_counted};
+pub use cxa_runtime::End;
 pub use elf_image::ImageError;
 pub use laws::a_greater_budget_goes_on;
 pub use loaded::Loaded;

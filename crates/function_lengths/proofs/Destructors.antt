@@ -1,8 +1,8 @@
 -- What a destructor becomes: a scope for each part of its class, and its statements inside.
 use Rattle.std.proofs.Common.{ℕ, ◌+◌, ◌*◌, ◌≤◌, Bool, true, false, List, [], ◌∷◌, length, Option, Some, None, arith}
 use Rattle.cxx_ast.specs.declared.types.Ty.{Ty}
-use Rattle.scope_rules.specs.Class.{ObjectType, int_type, class_type, parts_of}
-use Rattle.scope_rules.specs.Call.{statements_in}
+use Rattle.meaning_forms.specs.Class.{ObjectType, int_type, class_type, parts_of}
+use Rattle.meaning_forms.specs.Call.{statements_in}
 use Rattle.region_forms.specs.Form.{Region}
 use Rattle.region_forms.specs.LowerExpression.{Lowering}
 use Rattle.region_forms.specs.LowerStatement.{statements}

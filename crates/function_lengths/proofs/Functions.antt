@@ -6,8 +6,8 @@ use Rattle.cxx_ast.specs.declared.declaration.FuncKind.{FuncKind}
 use Rattle.cxx_ast.specs.declared.declaration.FuncKind.TheVariants.{Plain, Method, Constructor, Destructor}
 use Rattle.cxx_ast.specs.Plain.{Function, Class, Checked}
 use Rattle.cxx_ast.specs.Checked.{IsChecked}
-use Rattle.scope_rules.specs.Class.{class_at, no_class, parts_of}
-use Rattle.scope_rules.specs.Call.{statements_in}
+use Rattle.meaning_forms.specs.Class.{class_at, no_class, parts_of}
+use Rattle.meaning_forms.specs.Call.{statements_in}
 use Rattle.region_forms.specs.Form.{RegionFunction, in_order}
 use Rattle.region_forms.specs.Layout.{Layout, layout_of, class_parts}
 use Rattle.region_forms.specs.Numbering.{variables_of, type_rows}
@@ -15,8 +15,8 @@ use Rattle.region_forms.specs.LowerExpression.{Lowering}
 use Rattle.region_forms.specs.LowerProgram.{lowering, copied_type, some_constructor, declared_function, limited, body_of, last_result, own_functions, functions_of_class, functions_of_classes, regions_of}
 use Rattle.linear_forms.specs.Unit.{function_code}
 use Rattle.class_layout.proofs.Program.{classes_fit}
-use Rattle.emission_forms.specs.Routine.{routine_words}
-use Rattle.emission_forms.specs.Emitted.{function_routine}
+use Rattle.machine_forms.specs.Routine.{routine_words}
+use Rattle.machine_forms.specs.Emitted.{function_routine}
 use Rattle.source_bounds.specs.LeastTokens.{statements_tokens, function_tokens}
 use Rattle.source_bounds.specs.NamedTypes.{FunctionNamesRows}
 use Rattle.source_bounds.specs.RegionWords.{region_words, HasFewWays}

@@ -4,13 +4,13 @@ use Rattle.std.specs.List.{AllByRecursion}
 use Rattle.cxx_ast.specs.declared.declaration.FuncKind.TheVariants.{Destructor}
 use Rattle.cxx_ast.specs.Checked.{IsChecked}
 use Rattle.cxx_ast.specs.Plain.{Checked, Function}
-use Rattle.scope_rules.specs.Class.{parts_of}
-use Rattle.scope_rules.specs.Call.{statements_in}
+use Rattle.meaning_forms.specs.Class.{parts_of}
+use Rattle.meaning_forms.specs.Call.{statements_in}
 use Rattle.region_forms.specs.Form.{in_order}
 use Rattle.region_forms.specs.LowerExpression.{Lowering}
 use Rattle.region_forms.specs.LowerProgram.{limited, last_result, body_of}
-use Rattle.emission_forms.specs.Routine.{routine_words}
-use Rattle.emission_forms.specs.Emitted.{function_routine}
+use Rattle.machine_forms.specs.Routine.{routine_words}
+use Rattle.machine_forms.specs.Emitted.{function_routine}
 use Rattle.source_bounds.specs.Compiled.{unit_for}
 use Rattle.source_bounds.specs.LeastTokens.{statements_tokens}
 use Rattle.source_bounds.specs.RegionWords.{region_words}

@@ -9,7 +9,7 @@ use Rattle.elf_image.specs.Laid.{Contents}
 use Rattle.elf_image.specs.Written.{image_bytes}
 use Rattle.linear_forms.specs.Stub.{terminating}
 use Rattle.region_forms.specs.Ending.{bad_row}
-use Rattle.emission_forms.specs.StubCode.{stub_first}
+use Rattle.machine_forms.specs.StubCode.{stub_first}
 use Rattle.image_forms.specs.Placed.{globals_at, records_at, code_at, all_code, names_at, record_at, all_functions}
 use Rattle.image_forms.specs.Records.{names_bytes, records_bytes, globals_bytes}
 use Rattle.image_forms.specs.Tables.{filled, tables_bytes, linked_frames, with_tables, header_rows}

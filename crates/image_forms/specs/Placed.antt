@@ -6,7 +6,7 @@
 --     a page's first byte   names of types, exception tables, frames, and their header
 use Rattle.std.specs.Prelude.{ℕ, ◌+◌, ◌-◌, ◌*◌, ◌/◌, ◌==◌, List, ◌++◌, length, map, Option, Some, None, if◌then◌else◌}
 use Rattle.eh_bytes.specs.Listed.{ListedFunction, ListedUnit}
-use Rattle.emission_forms.specs.Emitted.{emitted_stubs}
+use Rattle.machine_forms.specs.Emitted.{emitted_stubs}
 
 -- the first address of a page at or behind a number
 abbrev pub page_from : ℕ → ℕ

@@ -5,7 +5,7 @@ use Rattle.eh_bytes.specs.Listed.{ListedFunction, ListedUnit}
 use Rattle.eh_write.specs.CanWriteFrames.{FrameIsGood, CanWriteFrames}
 use Rattle.eh_write.specs.WrittenFrames.{frames_bytes, cie_bytes}
 use Rattle.eh_write.specs.WrittenHeader.{CanWriteHeader}
-use Rattle.emission_forms.specs.Emitted.{emitted_stubs}
+use Rattle.machine_forms.specs.Emitted.{emitted_stubs}
 use Rattle.image_forms.specs.Function.{FunctionFits}
 use Rattle.image_forms.specs.Placed.{code_at, unit_at, all_code, names_at, placed_from, all_functions}
 use Rattle.image_forms.specs.Records.{names_bytes}

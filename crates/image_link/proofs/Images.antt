@@ -14,7 +14,7 @@ use Rattle.elf_image.specs.declared.program.ProgramHeader.{ProgramHeader}
 use Rattle.elf_image.specs.CanWrite.{size_of}
 use Rattle.elf_image.specs.Laid.{padding, place_for, headers_for}
 use Rattle.elf_image.specs.Written.{file_header, program_bytes, record_bytes, front_bytes, segments_from, image_bytes}
-use Rattle.emission_forms.specs.Emitted.{emitted_stubs}
+use Rattle.machine_forms.specs.Emitted.{emitted_stubs}
 use Rattle.image_forms.specs.Placed.{code_at, unit_at, all_code, names_at, placed_from, all_functions}
 use Rattle.image_forms.specs.Room.{function_room}
 use Rattle.image_forms.specs.Records.{names_bytes}

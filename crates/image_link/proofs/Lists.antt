@@ -1,7 +1,7 @@
 -- What `link` puts stands for its lists.
 use Rattle.std.proofs.Common.{◌≡◌, ℕ, ◌+◌, List, [], ◌∷◌, ◌++◌, length, sym, subst, arith}
 use Rattle.eh_bytes.specs.Listed.{ListedFrame, ListedUnit}
-use Rattle.emission_forms.specs.Emitted.{emitted_stubs}
+use Rattle.machine_forms.specs.Emitted.{emitted_stubs}
 use Rattle.image_forms.specs.Placed.{code_at, unit_at, names_at, PlacedFunction, placed_from}
 use Rattle.image_forms.specs.Tables.{placed_table, tables_bytes}
 use Rattle.image_forms.specs.Linked.{tables_at, unit_frames, frames_at, header_at}

@@ -10,8 +10,8 @@ use Rattle.eh_bytes.specs.Memory.{Part, Memory, covers, part_with, is_code}
 use Rattle.eh_write.specs.WrittenHeader.{header_bytes}
 use Rattle.elf_image.specs.CanWrite.{size_of, byte_of, CanWriteImage, CanRunImage}
 use Rattle.linear_forms.specs.Stub.{terminating}
-use Rattle.emission_forms.specs.StubCode.{stub_first}
-use Rattle.emission_forms.specs.Emitted.{emitted_stubs}
+use Rattle.machine_forms.specs.StubCode.{stub_first}
+use Rattle.machine_forms.specs.Emitted.{emitted_stubs}
 use Rattle.image_forms.specs.Placed.{globals_at, records_at, code_at, all_code, names_at}
 use Rattle.image_forms.specs.Records.{globals_bytes, records_bytes}
 use Rattle.image_forms.specs.Linked.{unit_names, unit_tables, unit_frames, frames_at, frames_written, header_at, header_written, constant_bytes, part_at, memory_for, contents_for}

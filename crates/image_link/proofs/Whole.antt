@@ -10,8 +10,8 @@ use Rattle.eh_write.specs.WrittenHeader.{header_bytes}
 use Rattle.elf_image.specs.Laid.{Contents}
 use Rattle.linear_forms.specs.Stub.{terminating}
 use Rattle.region_forms.specs.Ending.{bad_row}
-use Rattle.emission_forms.specs.StubCode.{stub_first}
-use Rattle.emission_forms.specs.Emitted.{emitted_stubs}
+use Rattle.machine_forms.specs.StubCode.{stub_first}
+use Rattle.machine_forms.specs.Emitted.{emitted_stubs}
 use Rattle.image_forms.specs.Placed.{page_from, globals_at, records_at, code_at, unit_at, all_code, names_at, record_at, placed_from}
 use Rattle.image_forms.specs.Records.{names_bytes, records_bytes, globals_bytes}
 use Rattle.image_forms.specs.Tables.{filled, tables_bytes, linked_frames, with_tables, header_rows}

@@ -2,7 +2,7 @@
 ghost use Rattle.std.specs.Prelude.{◌≡◌, ◌++◌, ◌+◌, ◌*◌, ◌<◌, ◌≤◌, ◌^◌, flat_map, length, map, true, IfOk, OnOk};
 ghost use Rattle.std.specs.Int.{w32, to_le_bytes};
 ghost use Rattle.eh_bytes.specs.Listed.{listed_unit, listed_function};
-ghost use Rattle.emission_forms.specs.Emitted.{emitted_stubs};
+ghost use Rattle.machine_forms.specs.Emitted.{emitted_stubs};
 ghost use Rattle.elf_image.specs.Stands.{contents_of, WritesImage};
 ghost use Rattle.image_forms.specs.Linked.{linked, contents_for};
 ghost use Rattle.image_forms.specs.Linkable.{IsLinkable};

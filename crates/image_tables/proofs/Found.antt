@@ -23,7 +23,7 @@ use Rattle.image_link.specs.Runs.{HasTable}
 use Rattle.image_link.proofs.Row.{InRow}
 use Rattle.image_link.proofs.Handed.{code_row}
 use Rattle.linear_forms.specs.Linear.{UnitCode}
-use Rattle.emission_forms.specs.Emitted.{emitted_of}
+use Rattle.machine_forms.specs.Emitted.{emitted_of}
 use Rattle.eh_run.specs.Program.{fdes_in, fdes_of, program_of}
 use Rattle.image_tables.specs.Read.{IsImageOf}
 use Rattle.image_tables.proofs.Sorted.{AtMostOne, find_sorted}

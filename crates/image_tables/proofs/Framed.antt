@@ -9,10 +9,10 @@ use Rattle.table_forms.specs.WrittenFrames.{moved_row}
 use Rattle.linear_forms.specs.Linear.{UnitCode}
 use Rattle.linear_forms.specs.Stub.{Function, compiled, end_catch, terminating, call_unexpected}
 use Rattle.linear_forms.specs.UnitRun.{code_at}
-use Rattle.emission_forms.specs.Shape.{Shape, frame_moves}
-use Rattle.emission_forms.specs.Routine.{routine_words, all_words}
-use Rattle.emission_forms.specs.StubCode.{stub_shape, start_routine, stub_routines}
-use Rattle.emission_forms.specs.Emitted.{shape_of}
+use Rattle.machine_forms.specs.Shape.{Shape, frame_moves}
+use Rattle.machine_forms.specs.Routine.{routine_words, all_words}
+use Rattle.machine_forms.specs.StubCode.{stub_shape, start_routine, stub_routines}
+use Rattle.machine_forms.specs.Emitted.{shape_of}
 use Rattle.image_forms.specs.Tables.{placed_moves}
 use Rattle.eh_run.specs.Program.{program_of}
 use Rattle.image_tables.specs.Functions.{routine_of, frame_of, records_end, first_byte}

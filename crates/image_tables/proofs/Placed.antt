@@ -5,9 +5,9 @@ use Rattle.linear_forms.specs.Linear.{FunctionCode, UnitCode}
 use Rattle.linear_forms.specs.Stub.{Function, compiled, end_catch, terminating, call_unexpected}
 use Rattle.linear_forms.specs.UnitRun.{no_code, code_at}
 use Rattle.linear_forms.proofs.Lists.{mapped, found_in_front, behind}
-use Rattle.emission_forms.specs.Routine.{Routine, routine_words, all_words, listed_routine, listed_routines}
-use Rattle.emission_forms.specs.StubCode.{start_routine, stub_routine, stub_routines, stub_words}
-use Rattle.emission_forms.specs.Emitted.{function_routine, unit_routines, emitted_of, emitted_stubs}
+use Rattle.machine_forms.specs.Routine.{Routine, routine_words, all_words, listed_routine, listed_routines}
+use Rattle.machine_forms.specs.StubCode.{start_routine, stub_routine, stub_routines, stub_words}
+use Rattle.machine_forms.specs.Emitted.{function_routine, unit_routines, emitted_of, emitted_stubs}
 use Rattle.image_forms.specs.Placed.{PlacedFunction, placed_from, all_functions, unit_at}
 use Rattle.image_tables.specs.Functions.{IsThere, routine_of, records_end, first_byte}
 

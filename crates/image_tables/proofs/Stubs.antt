@@ -9,8 +9,8 @@ use Rattle.linear_forms.specs.Sites.{Placed, cover_in, site_at, single_sites, me
 use Rattle.linear_forms.specs.Stub.{Function, compiled, end_catch, terminating, call_unexpected, StubRow, stub_rows, stub_cover, stub_sense}
 use Rattle.linear_forms.specs.Verdict.{judged, verdict, pad_verdict, is_cleanup, some_cleanup, clean, nothing_here}
 use Rattle.linear_forms.proofs.Merging.{sites_are_right}
-use Rattle.emission_forms.specs.StubCode.{stub_types, row_sites, stub_sites}
-use Rattle.routine_tables.specs.Verdicts.{told_of, in_words, forced_judge}
+use Rattle.machine_forms.specs.StubCode.{stub_types, row_sites, stub_sites}
+use Rattle.table_verdicts.specs.Verdicts.{told_of, in_words, forced_judge}
 
 -- ---- sites
 -- rows as operations with their covers; which these are does not matter

@@ -26,10 +26,10 @@ use Rattle.linear_forms.specs.Tables.{look_up, sense_in}
 use Rattle.linear_forms.specs.Verdict.{pad_verdict}
 use Rattle.linear_forms.specs.Activation.{look, sense}
 use Rattle.linear_forms.specs.UnitRun.{code_at, code_of}
-use Rattle.emission_forms.specs.Routine.{Routine, routine_words, op_byte, all_words, routine_table}
-use Rattle.emission_forms.specs.StubCode.{start_routine, stub_routines}
-use Rattle.emission_forms.specs.Emitted.{listed_type, emitted_of}
-use Rattle.emission_forms.proofs.Words.{words_stand}
+use Rattle.machine_forms.specs.Routine.{Routine, routine_words, op_byte, all_words, routine_table}
+use Rattle.machine_forms.specs.StubCode.{start_routine, stub_routines}
+use Rattle.machine_forms.specs.Emitted.{listed_type, emitted_of}
+use Rattle.machine_forms.proofs.Words.{words_stand}
 use Rattle.image_forms.specs.Function.{FunctionFits}
 use Rattle.image_forms.specs.Linkable.{BaseIsThere}
 use Rattle.image_forms.specs.Placed.{PlacedFunction, all_functions, all_code, names_at}
@@ -40,11 +40,11 @@ use Rattle.image_link.proofs.Handed.{fit, code_row}
 use Rattle.image_link.proofs.Row.{InRow, row_end}
 use Rattle.image_link.proofs.Stands.{constants_low}
 use Rattle.image_link.proofs.Whole.{code_end}
-use Rattle.routine_tables.specs.Verdicts.{told_of, forced_judge}
-use Rattle.routine_tables.specs.Types.{thrown_as}
-use Rattle.routine_tables.specs.Asked.{NamesType, ListsNameTypes, PadIsInside, TableIsAsked, TypesAreAsked}
-use Rattle.routine_tables.specs.Laws as routine
-use Rattle.routine_tables.proofs.Telling as routines
+use Rattle.table_verdicts.specs.Verdicts.{told_of, forced_judge}
+use Rattle.table_verdicts.specs.Types.{thrown_as}
+use Rattle.table_verdicts.specs.Asked.{NamesType, ListsNameTypes, PadIsInside, TableIsAsked, TypesAreAsked}
+use Rattle.table_verdicts.specs.Laws as routine
+use Rattle.table_verdicts.proofs.Telling as routines
 use Rattle.image_tables.specs.Read.{IsImageOf}
 use Rattle.image_tables.specs.Functions.{IsThere, routine_of, records_end, first_byte, operation_at}
 use Rattle.image_tables.specs.TableLaws.{IsRunOf, GoesOnBehind, TablesSay, StartPasses}

@@ -12,7 +12,7 @@ use Rattle.region_forms.specs.Form.{TypeRow}
 use Rattle.region_forms.specs.Guard.{base_row}
 use Rattle.linear_forms.specs.Linear.{UnitCode}
 use Rattle.linear_forms.proofs.Lists.{mapped}
-use Rattle.emission_forms.specs.Emitted.{listed_type, emitted_of}
+use Rattle.machine_forms.specs.Emitted.{listed_type, emitted_of}
 use Rattle.cxa_runtime.specs.Types.{word_at, base_of, and_bases, records_within}
 use Rattle.eh_run.specs.Program.{part_run, program_of}
 use Rattle.image_forms.specs.Linkable.{BaseIsThere}
@@ -23,8 +23,8 @@ use Rattle.image_link.proofs.Bounds.{code_length}
 use Rattle.image_link.proofs.ReadMemory.{read_part}
 use Rattle.image_link.proofs.Stands.{constants_low}
 use Rattle.image_link.proofs.Whole.{globals_end, records_end as records_done, code_end}
-use Rattle.routine_tables.specs.Types.{types_within, ChainEndsWithin}
-use Rattle.routine_tables.proofs.Matching.{base_is_there}
+use Rattle.table_verdicts.specs.Types.{types_within, ChainEndsWithin}
+use Rattle.table_verdicts.proofs.Matching.{base_is_there}
 use Rattle.image_tables.specs.Read.{IsImageOf}
 use Rattle.image_tables.specs.Functions.{records_end}
 use Rattle.image_tables.specs.TableLaws.{IsRunOf}

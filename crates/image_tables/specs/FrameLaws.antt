@@ -5,8 +5,8 @@ use Rattle.table_forms.specs.Fde.{Fde, fde_for, row_at}
 use Rattle.elf_image.specs.Clean.{CleanImage}
 use Rattle.linear_forms.specs.Linear.{UnitCode}
 use Rattle.linear_forms.specs.Stub.{Function}
-use Rattle.emission_forms.specs.Routine.{routine_words}
-use Rattle.emission_forms.specs.StubCode.{start_routine}
+use Rattle.machine_forms.specs.Routine.{routine_words}
+use Rattle.machine_forms.specs.StubCode.{start_routine}
 use Rattle.eh_run.specs.Program.{program_of}
 use Rattle.image_tables.specs.Read.{IsImageOf}
 use Rattle.image_tables.specs.Functions.{IsThere, routine_of, frame_of, records_end, first_byte}

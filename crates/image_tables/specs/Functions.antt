@@ -3,9 +3,9 @@ use Rattle.std.specs.Prelude.{⊤, ◌<◌, ℕ, ◌+◌, ◌*◌, length}
 use Rattle.linear_forms.specs.Linear.{UnitCode}
 use Rattle.linear_forms.specs.Stub.{Function, compiled}
 use Rattle.linear_forms.specs.UnitRun.{code_at}
-use Rattle.emission_forms.specs.Routine.{Routine, op_byte}
-use Rattle.emission_forms.specs.StubCode.{stub_shape, stub_routine}
-use Rattle.emission_forms.specs.Emitted.{function_routine, entry_word, emitted_of}
+use Rattle.machine_forms.specs.Routine.{Routine, op_byte}
+use Rattle.machine_forms.specs.StubCode.{stub_shape, stub_routine}
+use Rattle.machine_forms.specs.Emitted.{function_routine, entry_word, emitted_of}
 use Rattle.image_forms.specs.Placed as placed
 
 -- a number is that of a function of the unit

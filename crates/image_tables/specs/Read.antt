@@ -3,7 +3,7 @@ use Rattle.std.specs.Prelude.{◌≡◌, ℕ, List, Ok}
 use Rattle.elf_image.specs.Clean.{CleanImage}
 use Rattle.elf_image.specs.Runnable.{runnable}
 use Rattle.linear_forms.specs.Linear.{UnitCode}
-use Rattle.emission_forms.specs.Emitted.{emitted_of}
+use Rattle.machine_forms.specs.Emitted.{emitted_of}
 use Rattle.image_forms.specs.Linkable.{IsLinkable}
 use Rattle.image_link.specs.Runs.{UnitStands}
 

@@ -13,12 +13,12 @@ use Rattle.linear_forms.specs.Verdict.{pad_verdict}
 use Rattle.linear_forms.specs.Stub.{Function}
 use Rattle.linear_forms.specs.Activation.{look, sense}
 use Rattle.linear_forms.specs.UnitRun.{code_of}
-use Rattle.emission_forms.specs.Routine.{op_byte}
-use Rattle.emission_forms.specs.StubCode.{start_routine}
+use Rattle.machine_forms.specs.Routine.{op_byte}
+use Rattle.machine_forms.specs.StubCode.{start_routine}
 use Rattle.image_forms.specs.Linkable.{BaseIsThere}
-use Rattle.routine_tables.specs.Verdicts.{told_of, forced_judge}
-use Rattle.routine_tables.specs.Types.{thrown_as}
-use Rattle.routine_tables.specs.Asked.{ListsNameTypes}
+use Rattle.table_verdicts.specs.Verdicts.{told_of, forced_judge}
+use Rattle.table_verdicts.specs.Types.{thrown_as}
+use Rattle.table_verdicts.specs.Asked.{ListsNameTypes}
 use Rattle.image_tables.specs.Read.{IsImageOf}
 use Rattle.image_tables.specs.Functions.{IsThere, routine_of, records_end, first_byte, operation_at}
 

@@ -5,7 +5,7 @@ use Rattle.elf_image.specs.Clean.{CleanImage}
 use Rattle.cxa_runtime.specs.Types.{type_records}
 use Rattle.linear_forms.specs.Linear.{UnitCode}
 use Rattle.image_forms.specs.Placed.{record_at}
-use Rattle.routine_tables.specs.Types.{with_bases, ChainEnds}
+use Rattle.table_verdicts.specs.Types.{with_bases, ChainEnds}
 use Rattle.image_tables.specs.Read.{IsImageOf}
 use Rattle.image_tables.specs.Functions.{records_end}
 use Rattle.image_tables.specs.TableLaws.{IsRunOf}

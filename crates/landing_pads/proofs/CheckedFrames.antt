@@ -10,7 +10,7 @@ use Rattle.cxx_ast.specs.TypeNames.{has_body}
 use Rattle.cxx_ast.specs.Resolve.{function_number, resolve_body, resolve_function}
 use Rattle.cxx_ast.specs.Declare.{at_the_start, declare_behind, body_environment, function_scope, head_environment, head_scope, next_class}
 use Rattle.cxx_ast.specs.Checked.{resolve_methods, resolve_declarations, classes_of, functions_of, checked, IsChecked}
-use Rattle.scope_rules.specs.Class.{class_at, no_class}
+use Rattle.meaning_forms.specs.Class.{class_at, no_class}
 use Rattle.region_forms.specs.Form.{RegionFunction}
 use Rattle.region_forms.specs.Layout.{Layout, layout_of}
 use Rattle.region_forms.specs.LowerProgram.{declared_function, own_functions, functions_of_class, functions_of_classes, regions_of}

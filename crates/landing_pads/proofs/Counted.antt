@@ -27,7 +27,7 @@ use Rattle.cxx_ast.specs.StatementRules.{twice_in, object_found, caught_found, c
 use Rattle.cxx_ast.specs.FunctionRules.{params_twice, building_of, body_found, definition_found, function_found}
 use Rattle.cxx_ast.specs.Declare.{function_scope}
 use Rattle.cxx_ast.specs.TypeNames.{class_of_name}
-use Rattle.scope_rules.specs.Class.{class_bound, class_named, object_type}
+use Rattle.meaning_forms.specs.Class.{class_bound, class_named, object_type}
 use Rattle.region_forms.specs.Layout.{ClassLayout, Layout, layout_at, laid_size}
 use Rattle.region_forms.specs.LowerProgram.{slot_for}
 use Rattle.region_forms.specs.Numbering.{declared_in, declared_in_else, all_declared_in, declared_in_handlers, declared_in_body}

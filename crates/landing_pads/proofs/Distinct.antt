@@ -4,7 +4,7 @@ use Rattle.std.proofs.lemmas.List.{map-append}
 use Rattle.std.specs.Prelude.{nat_eq, nat_lt, cond, not, Some, None, ◌||◌, if◌then◌else◌}
 use Rattle.std.specs.List.{list_any, position, position_or_len}
 use Rattle.std.proofs.lemmas.Bool.Decides.{nat_tests}
-use Rattle.scope_rules.specs.Class.{some_of}
+use Rattle.meaning_forms.specs.Class.{some_of}
 use Rattle.linear_forms.specs.Distinct.{added, added_all, same_number}
 use Rattle.linear_forms.specs.Filters.{index_of}
 

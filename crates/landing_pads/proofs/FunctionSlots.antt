@@ -7,8 +7,8 @@ use Rattle.cxx_ast.specs.declared.declaration.FuncKind.{FuncKind}
 use Rattle.cxx_ast.specs.declared.declaration.FuncKind.TheVariants.{Constructor, Destructor}
 use Rattle.cxx_ast.specs.Plain.{Checked, Function, Initialiser, Expressions, no_expressions, expression_then, Statements}
 use Rattle.cxx_ast.specs.Sizes.{most_levels, arguments_of, initialisers_most, body_most}
-use Rattle.scope_rules.specs.Class.{ObjectType, int_type, class_type, class_at, parts_of}
-use Rattle.scope_rules.specs.Call.{initialiser_for, statements_in, place_named}
+use Rattle.meaning_forms.specs.Class.{ObjectType, int_type, class_type, class_at, parts_of}
+use Rattle.meaning_forms.specs.Call.{initialiser_for, statements_in, place_named}
 use Rattle.region_forms.specs.Form.{Place, Region, store, op}
 use Rattle.region_forms.specs.Layout.{Layout}
 use Rattle.region_forms.specs.Mentioned.{slots_of_root, slots_of}

@@ -11,7 +11,7 @@ use Rattle.cxx_ast.specs.declared.expression.BinaryOp.{BinaryOp}
 use Rattle.cxx_ast.specs.declared.expression.BinaryOp.TheVariants.{And, Or}
 use Rattle.cxx_ast.specs.Plain.{Expression, number, path, paren, unary, binary, call, std_call, Expressions, no_expressions, expression_then}
 use Rattle.cxx_ast.specs.Sizes.{levels, most_levels, arguments_in, arguments_of}
-use Rattle.scope_rules.specs.Expression.{lvalue_of, names_of, callee_bound, receiver, parameter_types, constructor_types, function_named}
+use Rattle.meaning_forms.specs.Expression.{lvalue_of, names_of, callee_bound, receiver, parameter_types, constructor_types, function_named}
 use Rattle.region_forms.specs.Form.{Place, Value, number as number_value, Argument, arguments_from, Region, op, evaluate, branch, regions_from, in_order}
 use Rattle.region_forms.specs.Mentioned.{slots_of_root, slots_of_value, slots_of_arguments, slots_of, slots_of_all}
 use Rattle.region_forms.specs.LowerExpression.{Lowering, Lowered, LoweredArguments, LoweredCall, first_temporary, variable_root, variable_type, named_place, has_call, some_call, both, stored_in, truth_of, call_of, call_stored, call_dropped, given_before, given_arguments, handler_arguments, receiver_argument, int_passed, address_passed, refers, place_of, lower, lower_arguments, dropped, constructor_chosen, lower_construct}

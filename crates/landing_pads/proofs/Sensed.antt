@@ -2,8 +2,8 @@
 use Rattle.std.proofs.Common.{ℕ, Bool, true, false, List, [], ◌∷◌, ◌++◌, Option, sym, subst}
 use Rattle.std.specs.Prelude.{ℤ, if◌then◌else◌}
 use Rattle.std.specs.List.{AllByRecursion}
-use Rattle.scope_rules.specs.Arithmetic.{int_equal}
-use Rattle.scope_rules.specs.Class.{some_of}
+use Rattle.meaning_forms.specs.Arithmetic.{int_equal}
+use Rattle.meaning_forms.specs.Class.{some_of}
 use Rattle.region_forms.specs.Form.{Region, seq, op, branch, loop, protect, catch, limit, barrier, leave_region, RegionList, no_regions, region_then, Clauses, no_clauses, clause_then, RegionFunction}
 use Rattle.region_forms.specs.Guard.{types_of}
 use Rattle.linear_forms.specs.Linear.{return}

@@ -2,7 +2,7 @@
 use Rattle.std.proofs.Common.{◌≡◌, ℕ, ◌+◌, ◌≤◌, ◌<◌, Bool, true, [], refl, arith}
 use Rattle.std.specs.Prelude.{◌%◌}
 use Rattle.cxx_ast.specs.Plain.{Checked, Function}
-use Rattle.scope_rules.specs.Class.{class_at}
+use Rattle.meaning_forms.specs.Class.{class_at}
 use Rattle.region_forms.specs.Layout.{Layout}
 use Rattle.region_forms.specs.LowerProgram.{copied_type, declared_function, implicit_default_function, implicit_copy_function, implicit_destructor_function}
 use Rattle.region_forms.specs.Numbering.{variables_of}

@@ -9,9 +9,9 @@ use Rattle.cxx_ast.specs.declared.types.Ty.{Ty}
 use Rattle.cxx_ast.specs.declared.types.Ty.TheVariants.{Int, Object}
 use Rattle.cxx_ast.specs.Plain.{Expression, call, std_call, Expressions, Statement, block, empty, if_else, while, return, break, continue, throw, try, assign, evaluate, local_int, local_ref, local_object, Else, no_else, else_do, Statements, no_statements, statement_then, Handlers, no_handlers, handler_then}
 use Rattle.cxx_ast.specs.Sizes.{levels, most_levels, arguments_in, arguments_of, statement_most, else_most, statements_most, handlers_most, most_in_value, Most}
-use Rattle.scope_rules.specs.Class.{ObjectType, int_type, class_type, class_named}
-use Rattle.scope_rules.specs.Frame.{local_number}
-use Rattle.scope_rules.specs.Expression.{lvalue_of, names_of, callee_bound}
+use Rattle.meaning_forms.specs.Class.{ObjectType, int_type, class_type, class_named}
+use Rattle.meaning_forms.specs.Frame.{local_number}
+use Rattle.meaning_forms.specs.Expression.{lvalue_of, names_of, callee_bound}
 use Rattle.region_forms.specs.Form.{Place, store, Region, op, branch, leave_region, in_order}
 use Rattle.region_forms.specs.Mentioned.{slots_of_root, slots_of, slots_of_clauses}
 use Rattle.region_forms.specs.Numbering.{declared_in, declared_in_else, all_declared_in, declared_in_handlers}

@@ -1,7 +1,7 @@
 // Covers in the extent of landing pads.
 ghost use Rattle.std.specs.Prelude.{◌≡◌, [], ◌∷◌, pos, IfOk};
-ghost use Rattle.scope_rules.specs.Arithmetic.{int_equal};
-ghost use Rattle.scope_rules.specs.Class.{some_of};
+ghost use Rattle.meaning_forms.specs.Arithmetic.{int_equal};
+ghost use Rattle.meaning_forms.specs.Class.{some_of};
 ghost use Rattle.linear_forms.specs.Emission as rules;
 ghost use Rattle.linear_forms.specs.Tables.{padded};
 ghost use Rattle.landing_pads.specs.View.{cover_of};

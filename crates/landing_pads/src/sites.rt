@@ -1,6 +1,6 @@
 // Call sites: neighbours with the same pad and chain are one.
 ghost use Rattle.std.specs.Prelude.{◌≡◌, ◌+◌, ◌++◌, ◌∷◌, List, map, IfOk, OnOk};
-ghost use Rattle.scope_rules.specs.Arithmetic.{int_equal};
+ghost use Rattle.meaning_forms.specs.Arithmetic.{int_equal};
 ghost use Rattle.linear_forms.specs.Linear.{CodeSite as CodeSiteMeant};
 ghost use Rattle.linear_forms.specs.Sites as rules;
 ghost use Rattle.landing_pads.specs.Joined.{joined_behind};

@@ -1,8 +1,8 @@
 -- The search by tables agrees with the guards: inside a pad's extent as outside.
 use Rattle.std.proofs.Common.{◌≡◌, ℕ, Bool, true, false, List, [], ◌∷◌, ◌++◌, length, Option, Some, None, refl, sym, ap, ◌∙◌}
 use Rattle.std.specs.Prelude.{ℤ, is_none, not, ◌||◌, find, if◌then◌else◌}
-use Rattle.scope_rules.specs.Arithmetic.{int_equal}
-use Rattle.scope_rules.specs.Class.{some_of}
+use Rattle.meaning_forms.specs.Arithmetic.{int_equal}
+use Rattle.meaning_forms.specs.Class.{some_of}
 use Rattle.region_forms.specs.Form.{TypeRow}
 use Rattle.region_forms.specs.Guard.{Guard, clauses, listed, matches, allows, stops, dooms, is_doomed}
 use Rattle.linear_forms.specs.Tables.{Cover, bare, unpadded, padded, Sense, cleanup, clause, list_of}

@@ -1,8 +1,8 @@
 -- One filter of a cleanup says as much as several.
 use Rattle.std.proofs.Common.{◌≡◌, ℕ, Bool, true, false, List, [], ◌∷◌, Option, Some, None, refl, sym, ap, ◌∙◌}
 use Rattle.std.specs.Prelude.{ℤ, ◌||◌, if◌then◌else◌}
-use Rattle.scope_rules.specs.Arithmetic.{int_equal}
-use Rattle.scope_rules.specs.Class.{some_of}
+use Rattle.meaning_forms.specs.Arithmetic.{int_equal}
+use Rattle.meaning_forms.specs.Class.{some_of}
 use Rattle.region_forms.specs.Form.{TypeRow}
 use Rattle.region_forms.specs.Guard.{matches, allows}
 use Rattle.linear_forms.specs.Tables.{Sense, cleanup, clause, list_of, no_sense}

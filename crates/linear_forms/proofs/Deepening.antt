@@ -1,8 +1,8 @@
 -- Only a step that is counted as a call opens a call of a compiled function.
 use Rattle.std.proofs.Common.{◌≡◌, ℕ, ◌+◌, ◌≤◌, Bool, true, false, List, [], ◌∷◌, length, Option, Some, None, sym, subst, arith}
 use Rattle.std.specs.Prelude.{ℤ, is_some, pos, negsuc, ◌==◌, ◌&&◌, if◌then◌else◌}
-use Rattle.scope_rules.specs.Arithmetic.{is_zero}
-use Rattle.scope_rules.specs.Outcome.{aborted}
+use Rattle.meaning_forms.specs.Arithmetic.{is_zero}
+use Rattle.meaning_forms.specs.Outcome.{aborted}
 use Rattle.region_forms.specs.Caught.{gives_back}
 use Rattle.region_forms.specs.Evaluation.{value_in}
 use Rattle.region_forms.specs.Unexpected.{kept_with}

@@ -2,7 +2,7 @@
 use Rattle.std.proofs.Common.{◌≡◌, Bool, true, false, refl, arith}
 use Rattle.std.specs.Prelude.{ℤ, pos, negsuc, ◌&&◌}
 use Rattle.std.proofs.lemmas.Bool.Decides.{nat_tests}
-use Rattle.scope_rules.specs.Arithmetic.{int_equal}
+use Rattle.meaning_forms.specs.Arithmetic.{int_equal}
 
 -- equal integers are the same
 pub equal_is_same : (a b : ℤ) → int_equal a b ≡ true → a ≡ b

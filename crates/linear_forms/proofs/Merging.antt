@@ -2,7 +2,7 @@
 use Rattle.std.proofs.Common.{◌≡◌, ℕ, zero, suc, ◌+◌, ◌<◌, ◌≤◌, Bool, true, false, List, [], ◌∷◌, ◌++◌, length, Option, Some, None, refl, sym, ap, ◌∙◌, arith}
 use Rattle.std.specs.Prelude.{ℤ, ◌==◌, ◌&&◌, ◌||◌, nat_le, nat_lt, if◌then◌else◌}
 use Rattle.std.proofs.lemmas.Bool.Decides.{nat_tests}
-use Rattle.scope_rules.specs.Arithmetic.{int_equal}
+use Rattle.meaning_forms.specs.Arithmetic.{int_equal}
 use Rattle.linear_forms.specs.Linear.{CodeSite}
 use Rattle.linear_forms.specs.Tables.{Cover, bare, unpadded, padded, cover_of, holds, look_up}
 use Rattle.linear_forms.specs.Sites.{Placed, cover_in, site_at, single_sites, same_pad, same_chain, joins, joined_from, merged, sites_of}

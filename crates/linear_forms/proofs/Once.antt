@@ -2,7 +2,7 @@
 use Rattle.std.proofs.Common.{◌≡◌, ℕ, Bool, true, false, List, [], ◌∷◌, ◌++◌, refl, ap, ◌∙◌, arith}
 use Rattle.std.specs.Prelude.{◌==◌, ◌&&◌, ◌||◌, if◌then◌else◌}
 use Rattle.std.proofs.lemmas.Bool.Decides.{nat_tests}
-use Rattle.scope_rules.specs.Class.{some_of}
+use Rattle.meaning_forms.specs.Class.{some_of}
 use Rattle.linear_forms.specs.Distinct.{among, added, added_all, same_number, same_list}
 use Rattle.linear_forms.proofs.Integers.{both_hold}
 

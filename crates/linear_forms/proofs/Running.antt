@@ -2,8 +2,8 @@
 use Rattle.std.proofs.Common.{length, ◌≡◌, ℕ, zero, suc, ◌+◌, ◌*◌, ◌<◌, ◌≤◌, Bool, true, false, List, [], ◌∷◌, Some, None, refl, sym, ap, ◌∙◌, subst, arith}
 use Rattle.std.specs.Prelude.{pos, nat_le, ◌==◌, ◌||◌, if◌then◌else◌}
 use Rattle.std.proofs.lemmas.Bool.Decides.{nat_tests}
-use Rattle.scope_rules.specs.Class.{contains}
-use Rattle.scope_rules.specs.Outcome.{Stop, thrown, cancelled, ended, undefined, out_of_turns, deep}
+use Rattle.meaning_forms.specs.Class.{contains}
+use Rattle.meaning_forms.specs.Outcome.{Stop, thrown, cancelled, ended, undefined, out_of_turns, deep}
 use Rattle.region_forms.specs.Form.{Value, number, store}
 use Rattle.region_forms.specs.World.{number_word, Frame, World, with_slot}
 use Rattle.region_forms.specs.Evaluation.{slot_location}

@@ -1,7 +1,7 @@
 -- What an operation does looks at the slots that it mentions alone, so the pads' slots behind a function's own do not matter.
 use Rattle.std.proofs.Common.{◌≡◌, ℕ, ◌<◌, ◌≤◌, ◌∷◌, Option, Some, None, refl, ap, ◌∙◌, arith}
 use Rattle.std.specs.Prelude.{max}
-use Rattle.scope_rules.specs.Arithmetic.{decided}
+use Rattle.meaning_forms.specs.Arithmetic.{decided}
 use Rattle.region_forms.specs.Form.{Kinds, SlotKind, int_slot, address_slot, object_slot, help_slot, Root, in_slot, through, in_global, Place, Value, number, load, unary, binary, call_value, Argument, int_argument, address_argument, handler_argument, Arguments, no_arguments, argument_then}
 use Rattle.region_forms.specs.World.{Address, number_word, address_word, Frame, World, address_in, number_in}
 use Rattle.region_forms.specs.Evaluation.{slot_location, location_behind, root_location, with_some, read_location, location_address, address_of, unary_result, with_right, value_in, word_in, words_in}

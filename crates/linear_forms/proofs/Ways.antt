@@ -3,8 +3,8 @@ use Rattle.std.proofs.Common.{◌≡◌, ℕ, ◌+◌, ◌<◌, Bool, true, fals
 use Rattle.std.specs.Prelude.{pos, ◌==◌, ◌||◌, not, if◌then◌else◌}
 use Rattle.std.proofs.lemmas.Bool.Decides.{nat_tests}
 use Rattle.cxx_ast.specs.declared.expression.BinaryOp.TheVariants.{NotEqual}
-use Rattle.scope_rules.specs.Arithmetic.{is_zero, truth, int_equal, decided}
-use Rattle.scope_rules.specs.Class.{contains}
+use Rattle.meaning_forms.specs.Arithmetic.{is_zero, truth, int_equal, decided}
+use Rattle.meaning_forms.specs.Class.{contains}
 use Rattle.region_forms.specs.Form.{number, load, binary}
 use Rattle.region_forms.specs.World.{number_word, number_in, Frame, World}
 use Rattle.region_forms.specs.Evaluation.{slot_location, read_location, with_some, with_right}

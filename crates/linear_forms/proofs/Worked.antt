@@ -9,8 +9,8 @@ use Rattle.cxx_ast.specs.declared.expression.BinaryOp.TheVariants.{Add, Less, Eq
 use Rattle.cxx_ast.specs.Plain.{Class as ClassTree, Checked, Expression, number, path, binary, call, std_call, Expressions, no_expressions, expression_then, Statement, if_else, block, while, return, break, throw, try, assign, evaluate, local_int, local_object, no_else, Statements, no_statements, statement_then, no_handlers, handler_then}
 use Rattle.eh_bytes.specs.Spelling.{uleb_spelling, uleb_spelling_within}
 use Rattle.run_items.specs.declared.item.Item.TheVariants.{Line, Make, Enter, Leave, Destroy, Free}
-use Rattle.scope_rules.specs.declared.ending.MeanEnd.TheVariants.{Exit, Aborted}
-use Rattle.scope_rules.proofs.Trees.{nm, pa, fn, cl, ck}
+use Rattle.meaning_forms.specs.declared.ending.MeanEnd.TheVariants.{Exit, Aborted}
+use Rattle.meaning_forms.proofs.Trees.{nm, pa, fn, cl, ck}
 use Rattle.region_forms.specs.Layout.{layout_of}
 use Rattle.region_forms.specs.LowerProgram.{regions_of}
 use Rattle.region_forms.specs.Meaning.{regions_meaning}

@@ -1,7 +1,7 @@
 -- The state of a machine for linear code: calls that are open, and the world. What is said of a place is said alike of compiled functions
 -- and of the runtime's own.
 use Rattle.std.specs.Prelude.{ℕ, ◌+◌, ℤ, pos, ◌==◌, Bool, true, false, List, [], ◌∷◌, Option, Some, None, is_some, if◌then◌else◌}
-use Rattle.scope_rules.specs.Outcome.{End, aborted}
+use Rattle.meaning_forms.specs.Outcome.{End, aborted}
 use Rattle.region_forms.specs.Form.{Kinds, help_slot, TypeRow}
 use Rattle.region_forms.specs.World.{Word, nothing, number_word, Frame, World}
 use Rattle.region_forms.specs.Effect.{new_frame, new_world}

@@ -1,7 +1,7 @@
 -- What it means that a piece of code does at the machine what a computation of regions does.
 use Rattle.std.specs.Prelude.{◌≡◌, ℕ, ◌+◌, ◌<◌, pos, true, List, [], ◌∷◌, length, Some}
-use Rattle.scope_rules.specs.Class.{contains}
-use Rattle.scope_rules.specs.Outcome.{thrown, cancelled, ended, undefined, out_of_turns, deep}
+use Rattle.meaning_forms.specs.Class.{contains}
+use Rattle.meaning_forms.specs.Outcome.{thrown, cancelled, ended, undefined, out_of_turns, deep}
 use Rattle.region_forms.specs.Form.{help_slot}
 use Rattle.region_forms.specs.World.{Word, number_word, Frame, World, type_at}
 use Rattle.region_forms.specs.Guard.{Guard}

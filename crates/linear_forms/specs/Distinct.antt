@@ -1,6 +1,6 @@
 -- What a list names, each once, in order of first use.
 use Rattle.std.specs.Prelude.{ℕ, Bool, true, false, ◌&&◌, ◌==◌, List, [], ◌∷◌, ◌++◌, if◌then◌else◌}
-use Rattle.scope_rules.specs.Class.{some_of}
+use Rattle.meaning_forms.specs.Class.{some_of}
 
 -- an item is among others, by a test of sameness
 abbrev pub among : {A : Type 0} → (A → A → Bool) → List A → A → Bool

@@ -5,8 +5,8 @@ use Rattle.std.specs.Prelude.{ℕ, ◌+◌, ℤ, pos, Bool, true, false, List, [
 use Rattle.cxx_ast.specs.declared.expression.BinaryOp.TheVariants.{NotEqual}
 use Rattle.cxx_ast.specs.declared.name.Builtin.{Builtin}
 use Rattle.cxx_ast.specs.declared.name.Builtin.TheVariants.{Module, Cancel}
-use Rattle.scope_rules.specs.Arithmetic.{int_equal}
-use Rattle.scope_rules.specs.Class.{some_of}
+use Rattle.meaning_forms.specs.Arithmetic.{int_equal}
+use Rattle.meaning_forms.specs.Class.{some_of}
 use Rattle.region_forms.specs.Form.{in_slot, through, Place, Callee, defined, builtin, Value, number, load, binary, call_value, Op, evaluate, store, bind, call, construct, destroy, throw, rethrow, leave, Cleanup, destroy_scope, destroy_part, free_object, leave_handler}
 use Rattle.linear_forms.specs.Linear.{LinearOp, plain, label, jump, jump_zero, pad, jump_filter, free, resume, unexpected}
 use Rattle.linear_forms.specs.Tables.{Cover, bare, unpadded, padded, Sense, cleanup, clause}

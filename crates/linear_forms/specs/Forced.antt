@@ -1,6 +1,6 @@
 -- A forced unwind (Itanium C++ ABI: Exception Handling, level I, "Forced unwinding"): every frame is unwound, and behind the last one the program ends.
 use Rattle.std.specs.Prelude.{ℕ, ℤ, pos, Bool, true, false, List, [], ◌∷◌}
-use Rattle.scope_rules.specs.Outcome.{exit}
+use Rattle.meaning_forms.specs.Outcome.{exit}
 use Rattle.region_forms.specs.World.{unwinding, Frame, World}
 use Rattle.linear_forms.specs.Tables.{Cover, bare, unpadded, padded}
 use Rattle.linear_forms.specs.Verdict.{has_cleanup}

@@ -1,7 +1,7 @@
 -- What the machine does at one operation of linear code.
 use Rattle.std.specs.Prelude.{ℕ, ℤ, Bool, false, List, [], ◌∷◌, Option, Some, None, if◌then◌else◌}
-use Rattle.scope_rules.specs.Arithmetic.{is_zero, int_equal}
-use Rattle.scope_rules.specs.Outcome.{exit}
+use Rattle.meaning_forms.specs.Arithmetic.{is_zero, int_equal}
+use Rattle.meaning_forms.specs.Outcome.{exit}
 use Rattle.region_forms.specs.Form.{Place, store}
 use Rattle.region_forms.specs.World.{Word, nothing, number_word, flying, unwinding, World, exception_in_slot}
 use Rattle.region_forms.specs.Lives.{is_live, is_being_built}

@@ -1,6 +1,6 @@
 -- Call sites: what covers each operation, and the sites that say so. Neighbouring sites with the same pad and chain are one.
 use Rattle.std.specs.Prelude.{ℕ, ◌+◌, ℤ, Bool, true, false, ◌&&◌, ◌==◌, List, [], ◌∷◌, ◌++◌, Option, Some, None, slice_get, if◌then◌else◌}
-use Rattle.scope_rules.specs.Arithmetic.{int_equal}
+use Rattle.meaning_forms.specs.Arithmetic.{int_equal}
 use Rattle.linear_forms.specs.Linear.{LinearOp, CodeSite}
 use Rattle.linear_forms.specs.Tables.{Cover, bare, unpadded, padded}
 

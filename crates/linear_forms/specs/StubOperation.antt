@@ -1,8 +1,8 @@
 -- What the machine does at one operation that only the runtime makes (ISO/IEC 14882:2003, 15.5; Itanium C++ ABI: Exception Handling, section 2.5.3).
 use Rattle.std.specs.Prelude.{ℕ, ◌+◌, ℤ, pos, Bool, false, ◌==◌, ◌&&◌, max, List, [], ◌∷◌, Option, Some, None, if◌then◌else◌}
 use Rattle.run_items.specs.declared.item.Item.TheVariants.{Destroy}
-use Rattle.scope_rules.specs.Class.{contains}
-use Rattle.scope_rules.specs.Outcome.{aborted}
+use Rattle.meaning_forms.specs.Class.{contains}
+use Rattle.meaning_forms.specs.Outcome.{aborted}
 use Rattle.region_forms.specs.Form.{TypeRow}
 use Rattle.region_forms.specs.Caught.{gives_back}
 use Rattle.region_forms.specs.World.{Word, number_word, address_word, World, Exception, building, native, foreign, object_address, with_slot, address_in, exception_of, exception_in_slot, with_item, exception_at, type_at}

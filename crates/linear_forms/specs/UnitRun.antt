@@ -2,10 +2,10 @@
 use Rattle.std.specs.Prelude.{ℕ, List, [], slice_get, unwrap_or}
 use Rattle.eh_outer.specs.declared.module.Reply.{Reply}
 use Rattle.run_items.specs.declared.item.Item.{Item}
-use Rattle.scope_rules.specs.declared.ending.MeanEnd.{MeanEnd}
-use Rattle.scope_rules.specs.declared.ending.MeanEnd.TheVariants.{Exit, Aborted, Undefined, OutOfTurns}
-use Rattle.scope_rules.specs.Outcome.{exit, aborted}
-use Rattle.scope_rules.specs.Meaning.{Meaning}
+use Rattle.meaning_forms.specs.declared.ending.MeanEnd.{MeanEnd}
+use Rattle.meaning_forms.specs.declared.ending.MeanEnd.TheVariants.{Exit, Aborted, Undefined, OutOfTurns}
+use Rattle.meaning_forms.specs.Outcome.{exit, aborted}
+use Rattle.meaning_forms.specs.Meaning.{Meaning}
 use Rattle.region_forms.specs.Form.{kinds_of}
 use Rattle.region_forms.specs.World.{World}
 use Rattle.region_forms.specs.Effect.{new_frame, new_world}

@@ -1,6 +1,6 @@
 -- The second phase: an exception is raised, and the frames up to its target are unwound (Itanium C++ ABI: Exception Handling, level I, "Throwing an Exception").
 use Rattle.std.specs.Prelude.{ℕ, ◌+◌, ℤ, pos, ◌==◌, List, [], ◌∷◌, length, Option, Some, None, if◌then◌else◌}
-use Rattle.scope_rules.specs.Outcome.{aborted}
+use Rattle.meaning_forms.specs.Outcome.{aborted}
 use Rattle.region_forms.specs.World.{Word, number_word, flying, Frame, World, Exception, native, with_slot, exception_at, type_at}
 use Rattle.region_forms.specs.Effect.{entered_doomed, flies}
 use Rattle.linear_forms.specs.Linear.{pad}

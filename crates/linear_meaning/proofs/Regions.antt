@@ -3,16 +3,16 @@ use Rattle.std.proofs.Common.{◌≡◌, ◌⊎◌, inl, inr, ℕ, List, refl, s
 use Rattle.cxx_ast.specs.Checked.{IsChecked}
 use Rattle.cxx_ast.specs.Plain.{Checked}
 use Rattle.eh_outer.specs.declared.module.Reply.{Reply}
-use Rattle.scope_rules.specs.Meaning.{Meaning, MainOutcome, returned, stopped_by, program_meaning}
-use Rattle.scope_rules.specs.Outcome.{thrown, cancelled, ended, undefined, out_of_turns, deep}
+use Rattle.meaning_forms.specs.Meaning.{Meaning, MainOutcome, returned, stopped_by, program_meaning}
+use Rattle.meaning_forms.specs.Outcome.{thrown, cancelled, ended, undefined, out_of_turns, deep}
 use Rattle.region_forms.specs.Laws.{CaughtListFollows}
 use Rattle.region_forms.specs.Layout.{layout_of}
 use Rattle.region_forms.specs.LowerProgram.{regions_of}
 use Rattle.region_forms.specs.Meaning.{regions_meaning}
 use Rattle.linear_simulation.specs.ProgramRuns.{WatchedIsMeant}
 use Rattle.linear_simulation.specs.Watched.{watched_meaning}
-use Rattle.statement_simulation.specs.Programs.{MeansTheSameBy}
-use Rattle.source_simulation.proofs.Sources.{checked_programs_mean_the_same}
+use Rattle.region_statements.specs.Programs.{MeansTheSameBy}
+use Rattle.region_meaning.proofs.Sources.{checked_programs_mean_the_same}
 use Rattle.linear_meaning.specs.Regions.{CheckedRegionsBreakNothing}
 
 same_where_defined : (m other : Meaning) (x : MainOutcome) → MeansTheSameBy x m other → (x ≡ stopped_by undefined → ⊥) → other ≡ m

@@ -6,7 +6,7 @@ use Rattle.region_forms.specs.Layout.{layout_of}
 use Rattle.region_forms.specs.LowerProgram.{regions_of}
 use Rattle.linear_simulation.specs.FunctionsRun.{program_cost}
 use Rattle.linear_simulation.specs.ProgramRuns.{RunShows}
-use Rattle.source_runs.specs.Runs.{CheckedProgramsRun}
+use Rattle.linear_meaning.specs.WatchedRuns.{CheckedProgramsRun}
 use Rattle.linear_meaning.proofs.Regions.{watched_means}
 use Rattle.linear_meaning.specs.Runs.{CheckedProgramsRunAsMeant, ValidSourcesRunAsMeant}
 

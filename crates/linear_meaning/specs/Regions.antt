@@ -3,8 +3,8 @@ use Rattle.std.specs.Prelude.{ℕ, ◌≡◌, List}
 use Rattle.cxx_ast.specs.Checked.{IsChecked}
 use Rattle.cxx_ast.specs.Plain.{Checked}
 use Rattle.eh_outer.specs.declared.module.Reply.{Reply}
-use Rattle.scope_rules.specs.Meaning.{stopped_by, program_meaning}
-use Rattle.scope_rules.specs.Outcome.{deep, undefined}
+use Rattle.meaning_forms.specs.Meaning.{stopped_by, program_meaning}
+use Rattle.meaning_forms.specs.Outcome.{deep, undefined}
 use Rattle.region_forms.specs.Layout.{layout_of}
 use Rattle.region_forms.specs.LowerProgram.{regions_of}
 use Rattle.region_forms.specs.Meaning.{regions_meaning}

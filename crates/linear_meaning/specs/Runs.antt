@@ -7,8 +7,8 @@ use Rattle.cxx_ast.specs.Lex.{Lex}
 use Rattle.cxx_ast.specs.Plain.{Program, Checked}
 use Rattle.cxx_ast.specs.Tree.{Tree}
 use Rattle.eh_outer.specs.declared.module.Reply.{Reply}
-use Rattle.scope_rules.specs.Meaning.{stopped_by, program_meaning}
-use Rattle.scope_rules.specs.Outcome.{undefined}
+use Rattle.meaning_forms.specs.Meaning.{stopped_by, program_meaning}
+use Rattle.meaning_forms.specs.Outcome.{undefined}
 use Rattle.region_forms.specs.Layout.{layout_of}
 use Rattle.region_forms.specs.LowerProgram.{regions_of}
 use Rattle.linear_simulation.specs.FunctionsRun.{program_cost}

@@ -2,9 +2,9 @@
 ghost use Rattle.linear_meaning.specs.Regions.{CheckedRegionsBreakNothing};
 ghost use Rattle.linear_meaning.specs.Runs.{CheckedProgramsRunAsMeant, ValidSourcesRunAsMeant};
 
+use linear_meaning::watched::checked_programs_run;
 use linear_simulation::laws::watched_is_meant;
 use region_forms::laws::caught_list_follows;
-use source_runs::laws::checked_programs_run;
 
 /// The regions of a checked program break nothing that is watched, where the program comes to nothing that is undefined: watched, they mean what it
 /// means, and they stop as a call that is too deep only where it does; elsewhere they mean it unwatched too.

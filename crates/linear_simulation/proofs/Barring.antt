@@ -1,6 +1,6 @@
 -- A barrier, which holds one operation.
 use Rattle.std.proofs.Common.{ℕ, ◌+◌, ◌<◌, ◌∷◌, sym, subst, arith}
-use Rattle.scope_rules.specs.Outcome.{thrown, cancelled, ended, undefined, out_of_turns, deep}
+use Rattle.meaning_forms.specs.Outcome.{thrown, cancelled, ended, undefined, out_of_turns, deep}
 use Rattle.region_forms.specs.Guard.{everything}
 use Rattle.region_forms.specs.Outcome.{Flow, normal, leaves, Result, done, stopped}
 use Rattle.region_forms.specs.Ending.{Running, after_barrier}

@@ -2,7 +2,7 @@
 use Rattle.std.proofs.Common.{◌≡◌, ℕ, zero, suc, ◌+◌, ◌<◌, ◌≤◌, true, false, List, [], ◌∷◌, ◌++◌, length, refl, sym, ap, subst, arith, length-append}
 use Rattle.std.specs.Prelude.{max, ◌==◌, ◌||◌, ◌*◌}
 use Rattle.std.proofs.lemmas.Bool.Decides.{nat_tests}
-use Rattle.scope_rules.specs.Class.{contains}
+use Rattle.meaning_forms.specs.Class.{contains}
 use Rattle.region_forms.specs.Form.{Value, Op, Cleanup, Region, seq, op, branch, loop, protect, catch, limit, barrier, leave_region, RegionList, no_regions, region_then}
 use Rattle.region_forms.specs.World.{Frame}
 use Rattle.region_forms.specs.Guard.{listed, everything}

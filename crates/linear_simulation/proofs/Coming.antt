@@ -1,7 +1,7 @@
 -- Terminate, calls and raised exceptions, whichever open call they are made in.
 use Rattle.std.proofs.Common.{◌≡◌, ℕ, ◌+◌, ◌<◌, ◌≤◌, ◌⊎◌, inl, inr, Bool, true, false, List, [], ◌∷◌, Option, Some, None, refl, sym, ap, ◌∙◌, subst, arith}
 use Rattle.std.specs.Prelude.{ℤ, pos, is_none, is_some, if◌then◌else◌}
-use Rattle.scope_rules.specs.Outcome.{Stop, thrown, cancelled, ended, undefined, out_of_turns, deep, aborted}
+use Rattle.meaning_forms.specs.Outcome.{Stop, thrown, cancelled, ended, undefined, out_of_turns, deep, aborted}
 use Rattle.region_forms.specs.World.{Word, Frame, nothing, number_word, Exception, building, native, foreign, exception_at, type_at}
 use Rattle.region_forms.specs.Guard.{Guard, everything, is_doomed}
 use Rattle.region_forms.specs.Effect.{entered_doomed, flies}

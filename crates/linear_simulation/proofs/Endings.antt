@@ -6,9 +6,9 @@ use Rattle.run_items.specs.declared.item.Item.TheVariants.{Line, Foreign, Make, 
 use Rattle.run_items.specs.declared.item.Item.{Item}
 use Rattle.eh_outer.specs.declared.module.Reply.{Reply}
 use Rattle.eh_outer.specs.declared.module.Reply.TheVariants.{Value as ValueReply, Raise}
-use Rattle.scope_rules.specs.Arithmetic.{is_zero, truth}
-use Rattle.scope_rules.specs.Class.{contains}
-use Rattle.scope_rules.specs.Outcome.{Stop, thrown, cancelled, ended, undefined, out_of_turns, deep, aborted}
+use Rattle.meaning_forms.specs.Arithmetic.{is_zero, truth}
+use Rattle.meaning_forms.specs.Class.{contains}
+use Rattle.meaning_forms.specs.Outcome.{Stop, thrown, cancelled, ended, undefined, out_of_turns, deep, aborted}
 use Rattle.region_forms.specs.Caught.{Entry, holds_other, gives_back}
 use Rattle.region_forms.specs.Form.{Kinds, SlotKind, int_slot, address_slot, object_slot, help_slot, Place, Callee, defined, builtin, Value, number, load, unary, binary, call_value, Op, evaluate, store, bind, call, construct, destroy, make, throw, rethrow, enter, leave, Cleanup, destroy_scope, destroy_part, free_object, leave_handler, Region, seq, op, branch, loop, protect, catch, limit, barrier, leave_region, RegionList, no_regions, region_then, Clauses, no_clauses, clause_then, RegionFunction, Regions, kinds_of}
 use Rattle.region_forms.specs.World.{Word, nothing, with_item, number_word, address_word, flying, unwinding, with_slot, World, Frame, Exception, building, native, foreign, exception_in_slot, exception_at, type_at, object_address, written}

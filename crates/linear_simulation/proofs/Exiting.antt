@@ -3,8 +3,8 @@ use Rattle.std.proofs.Common.{◌≡◌, ℕ, zero, suc, ◌+◌, ◌<◌, ◌�
 use Rattle.std.proofs.lemmas.List.{length-map}
 use Rattle.std.specs.Prelude.{pos, ◌==◌, if◌then◌else◌}
 use Rattle.std.proofs.lemmas.Bool.Decides.{nat_tests}
-use Rattle.scope_rules.specs.Class.{contains}
-use Rattle.scope_rules.specs.Outcome.{thrown, cancelled, ended, undefined, out_of_turns, deep}
+use Rattle.meaning_forms.specs.Class.{contains}
+use Rattle.meaning_forms.specs.Outcome.{thrown, cancelled, ended, undefined, out_of_turns, deep}
 use Rattle.region_forms.specs.Form.{Op, store, number}
 use Rattle.region_forms.specs.Evaluation.{slot_location}
 use Rattle.region_forms.specs.Effect.{stored_at}

@@ -2,8 +2,8 @@
 use Rattle.std.proofs.Common.{◌≡◌, ℕ, suc, ◌+◌, ◌-◌, ◌*◌, ◌<◌, ◌≤◌, ◌⊎◌, inl, inr, Bool, true, false, refl, sym, ap, ◌∙◌, subst, arith}
 use Rattle.std.specs.Prelude.{nat_le}
 use Rattle.std.proofs.lemmas.Bool.Decides.{nat_tests}
-use Rattle.scope_rules.specs.Outcome.{exit, aborted, thrown, cancelled, ended, undefined, out_of_turns, deep}
-use Rattle.scope_rules.specs.Meaning.{Meaning, MainOutcome, returned, stopped_by}
+use Rattle.meaning_forms.specs.Outcome.{exit, aborted, thrown, cancelled, ended, undefined, out_of_turns, deep}
+use Rattle.meaning_forms.specs.Meaning.{Meaning, MainOutcome, returned, stopped_by}
 use Rattle.region_forms.specs.World.{World}
 use Rattle.linear_forms.specs.Activation.{Code, State, Final, goes_to, by_program, not_defined, fault}
 use Rattle.linear_forms.specs.Machine.{step, Run, over, budget, exec}

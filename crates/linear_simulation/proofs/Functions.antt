@@ -1,7 +1,7 @@
 -- Every function of a program runs, with every fuel.
 use Rattle.std.proofs.Common.{◌≡◌, ℕ, zero, suc, ◌+◌, ◌<◌, ◌⊎◌, inl, inr, Bool, true, false, List, [], ◌∷◌, ◌++◌, length, Option, Some, None, refl, sym, ap, ◌∙◌, subst, arith}
 use Rattle.std.specs.Prelude.{ℤ, nat_le, slice_get, unwrap_or, if◌then◌else◌}
-use Rattle.scope_rules.specs.Outcome.{thrown, cancelled, ended, undefined, out_of_turns, deep}
+use Rattle.meaning_forms.specs.Outcome.{thrown, cancelled, ended, undefined, out_of_turns, deep}
 use Rattle.region_forms.specs.Form.{Kinds, help_slot, in_slot, load, RegionFunction, Regions, kind_of, kinds_of, Slot}
 use Rattle.region_forms.specs.LowerProgram.{help}
 use Rattle.region_forms.specs.World.{Word, Frame, World}

@@ -1,7 +1,7 @@
 -- Regions that catch: the handlers in order, and the whole.
 use Rattle.std.proofs.Common.{◌≡◌, ℕ, ◌+◌, ◌<◌, ◌≤◌, Bool, true, false, List, [], ◌∷◌, ◌++◌, length, Option, Some, None, refl, sym, ap, ◌∙◌, subst, arith, length-append}
 use Rattle.std.specs.Prelude.{ℤ, max, find, if◌then◌else◌}
-use Rattle.scope_rules.specs.Outcome.{thrown}
+use Rattle.meaning_forms.specs.Outcome.{thrown}
 use Rattle.region_forms.specs.Form.{Region, catch, Clauses, no_clauses, clause_then, TypeRow}
 use Rattle.region_forms.specs.World.{number_word, flying, Frame, type_at}
 use Rattle.region_forms.specs.Guard.{clauses, matches, types_of}

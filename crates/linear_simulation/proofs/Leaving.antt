@@ -3,7 +3,7 @@ use Rattle.std.proofs.Common.{◌≡◌, ℕ, zero, suc, ◌+◌, ◌<◌, inl, 
 use Rattle.std.specs.Prelude.{ℤ, pos, not, ◌==◌, max, nat_le, if◌then◌else◌}
 use Rattle.std.proofs.lemmas.Bool.Decides.{nat_tests}
 use Rattle.run_items.specs.declared.item.Item.TheVariants.{Destroy}
-use Rattle.scope_rules.specs.Outcome.{thrown, cancelled, ended, undefined, out_of_turns, deep}
+use Rattle.meaning_forms.specs.Outcome.{thrown, cancelled, ended, undefined, out_of_turns, deep}
 use Rattle.region_forms.specs.World.{Word, nothing, number_word, address_word, flying, Frame, World, Live, Exception, building, native, foreign, object_address, with_slot, with_item, exception_in, exception_at, exception_type, type_at, unwinding}
 use Rattle.region_forms.specs.Guard.{Guard}
 use Rattle.region_forms.specs.Caught.{gives_back}

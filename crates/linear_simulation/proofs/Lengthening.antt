@@ -8,8 +8,8 @@ use Rattle.region_forms.specs.World.{Word, nothing, number_word, address_word, f
 use Rattle.region_forms.specs.Evaluation.{value_in}
 use Rattle.region_forms.specs.Effect.{Effect, goes, calls, raises, terminates, ends, cancels, leaves_newest, meaningless, effect, entered_doomed, left, newest_of, result_in, finished, flies, freed, entered}
 use Rattle.region_forms.specs.Unexpected.{kept_with}
-use Rattle.scope_rules.specs.Arithmetic.{is_zero}
-use Rattle.scope_rules.specs.Outcome.{aborted}
+use Rattle.meaning_forms.specs.Arithmetic.{is_zero}
+use Rattle.meaning_forms.specs.Outcome.{aborted}
 use Rattle.linear_forms.specs.Linear.{LinearOp, plain, label, jump, jump_zero, pad, jump_filter, free, resume, unexpected, return}
 use Rattle.linear_forms.specs.Tables.{Cover, bare, unpadded, padded}
 use Rattle.linear_forms.specs.Verdict.{Verdict, target, no_way, clean, nothing_here, pad_verdict, has_cleanup}

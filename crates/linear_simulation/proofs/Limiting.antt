@@ -1,7 +1,7 @@
 -- A region with a specification: its pad, and what the runtime's function makes of what the list does not allow.
 use Rattle.std.proofs.Common.{◌≡◌, ℕ, ◌+◌, ◌<◌, inl, inr, Bool, true, false, List, [], ◌∷◌, length, Option, Some, None, refl, sym, ap, ◌∙◌, subst, arith}
 use Rattle.std.specs.Prelude.{ℤ, pos, if◌then◌else◌}
-use Rattle.scope_rules.specs.Outcome.{thrown, cancelled, ended, undefined, out_of_turns, deep}
+use Rattle.meaning_forms.specs.Outcome.{thrown, cancelled, ended, undefined, out_of_turns, deep}
 use Rattle.region_forms.specs.World.{number_word, flying, unwinding, Frame, type_at}
 use Rattle.region_forms.specs.Guard.{listed, allows}
 use Rattle.region_forms.specs.Outcome.{State as RegionState, Flow, normal, leaves, Result, done, stopped, stop}

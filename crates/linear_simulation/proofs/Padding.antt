@@ -2,8 +2,8 @@
 use Rattle.std.proofs.Common.{◌≡◌, ℕ, ◌+◌, ◌<◌, ◌≤◌, Bool, true, false, List, [], ◌∷◌, length, Option, Some, refl, sym, ap, ◌∙◌, arith}
 use Rattle.std.specs.Prelude.{ℤ, pos, ◌==◌, if◌then◌else◌}
 use Rattle.std.proofs.lemmas.Bool.Decides.{nat_tests}
-use Rattle.scope_rules.specs.Arithmetic.{int_equal}
-use Rattle.scope_rules.specs.Class.{some_of}
+use Rattle.meaning_forms.specs.Arithmetic.{int_equal}
+use Rattle.meaning_forms.specs.Class.{some_of}
 use Rattle.region_forms.specs.World.{Word, number_word, flying, unwinding, Frame, World, with_slot, type_at}
 use Rattle.linear_forms.specs.Linear.{pad}
 use Rattle.linear_forms.specs.Tables.{Cover, bare, unpadded, padded, cleanup}

@@ -3,8 +3,8 @@ use Rattle.std.proofs.Common.{◌≡◌, ℕ, zero, suc, ◌+◌, ◌*◌, ◌-�
 use Rattle.std.specs.Prelude.{ℤ, nat_le, slice_get, if◌then◌else◌}
 use Rattle.eh_outer.specs.declared.module.Reply.{Reply}
 use Rattle.run_items.specs.declared.item.Item.{Item}
-use Rattle.scope_rules.specs.Meaning.{Meaning, stopped_by}
-use Rattle.scope_rules.specs.Outcome.{exit, aborted, thrown, cancelled, ended, undefined, out_of_turns, deep}
+use Rattle.meaning_forms.specs.Meaning.{Meaning, stopped_by}
+use Rattle.meaning_forms.specs.Outcome.{exit, aborted, thrown, cancelled, ended, undefined, out_of_turns, deep}
 use Rattle.region_forms.specs.Form.{RegionFunction, Regions, kinds_of}
 use Rattle.region_forms.specs.World.{World}
 use Rattle.region_forms.specs.Effect.{result_in}

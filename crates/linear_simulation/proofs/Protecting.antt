@@ -1,8 +1,8 @@
 -- A region that is protected by a cleanup.
 use Rattle.std.proofs.Common.{◌≡◌, ℕ, zero, suc, ◌+◌, ◌<◌, ◌≤◌, inl, inr, true, List, [], ◌∷◌, ◌++◌, length, Some, None, refl, sym, ap, ◌∙◌, subst, arith, length-append, Bool, false}
 use Rattle.std.specs.Prelude.{ℤ, pos}
-use Rattle.scope_rules.specs.Class.{contains}
-use Rattle.scope_rules.specs.Outcome.{Stop, thrown, cancelled, ended, undefined, out_of_turns, deep}
+use Rattle.meaning_forms.specs.Class.{contains}
+use Rattle.meaning_forms.specs.Outcome.{Stop, thrown, cancelled, ended, undefined, out_of_turns, deep}
 use Rattle.region_forms.specs.Form.{Place, Op, destroy, leave, Cleanup, destroy_scope, destroy_part, free_object, leave_handler}
 use Rattle.region_forms.specs.World.{flying, unwinding, address_in, exception_of, exception_in_slot, Frame, type_at, World}
 use Rattle.region_forms.specs.Guard.{everything}

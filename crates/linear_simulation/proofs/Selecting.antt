@@ -1,7 +1,7 @@
 -- Selectors: which filter a pad is entered with, and which tests it passes.
 use Rattle.std.proofs.Common.{◌≡◌, ℕ, ◌⊎◌, inl, inr, Bool, true, false, List, [], ◌∷◌, Option, Some, None, refl, sym, ap, ◌∙◌, subst}
 use Rattle.std.specs.Prelude.{ℤ, pos, if◌then◌else◌}
-use Rattle.scope_rules.specs.Arithmetic.{int_equal}
+use Rattle.meaning_forms.specs.Arithmetic.{int_equal}
 use Rattle.region_forms.specs.Form.{TypeRow}
 use Rattle.region_forms.specs.World.{number_word}
 use Rattle.region_forms.specs.Guard.{matches, allows}

@@ -2,7 +2,7 @@
 use Rattle.std.proofs.Common.{◌≡◌, ℕ, zero, suc, ◌+◌, ◌<◌, ◌≤◌, Bool, true, false, List, [], ◌∷◌, ◌++◌, length, Option, Some, None, refl, sym, ap, ◌∙◌, arith}
 use Rattle.std.specs.Prelude.{max, nat_lt, nat_le, ◌==◌, ◌&&◌, ◌||◌, slice_get}
 use Rattle.std.proofs.lemmas.Bool.Decides.{nat_tests}
-use Rattle.scope_rules.specs.Class.{contains}
+use Rattle.meaning_forms.specs.Class.{contains}
 use Rattle.region_forms.specs.Form.{SlotKind, Slot, Root, in_slot, through, in_global, Value, number, load, unary, binary, call_value, Argument, int_argument, address_argument, handler_argument, Arguments, no_arguments, argument_then, Op, evaluate, store, bind, call, construct, destroy, make, throw, rethrow, enter, leave, Cleanup, destroy_scope, destroy_part, free_object, leave_handler, Region, seq, op, branch, loop, protect, catch, limit, barrier, leave_region, RegionList, no_regions, region_then, Clauses, no_clauses, clause_then, RegionFunction, Regions, kinds_of}
 use Rattle.region_forms.specs.Mentioned.{slots_of_root, slots_of_value, slots_of_argument, slots_of_arguments, slots_of_op, slots_of_cleanup, slots_of, slots_of_all, slots_of_clauses}
 use Rattle.region_forms.specs.WellFormed.{every, holds_ints, holds_address, is_reference, is_variable, is_help, slot_test, within, within_object, int_place, address_place, pure_value, argument_test, arguments_test, callee_test, takes_object, value_test, destructor_test, op_test, cleanup_test, is_op, clause_type_test, region_test, regions_test, clauses_test, result_test, function_test, rows_test}

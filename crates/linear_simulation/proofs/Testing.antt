@@ -1,7 +1,7 @@
 -- Branches and loops.
 use Rattle.std.proofs.Common.{◌≡◌, ℕ, zero, suc, ◌+◌, ◌<◌, ◌≤◌, Bool, true, false, List, [], ◌∷◌, length, Option, Some, None, refl, ap, ◌∙◌, arith}
 use Rattle.std.specs.Prelude.{ℤ, if◌then◌else◌}
-use Rattle.scope_rules.specs.Arithmetic.{is_zero}
+use Rattle.meaning_forms.specs.Arithmetic.{is_zero}
 use Rattle.region_forms.specs.Form.{Value}
 use Rattle.region_forms.specs.World.{Frame}
 use Rattle.region_forms.specs.Evaluation.{value_in}

@@ -2,8 +2,8 @@
 use Rattle.std.proofs.Common.{◌≡◌, ℕ, ◌+◌, ◌<◌, ◌≤◌, inl, inr, Bool, true, false, List, [], ◌∷◌, length, Option, Some, None, refl, sym, ap, ◌∙◌, subst, arith, is_none}
 use Rattle.std.specs.Prelude.{ℤ, pos, ◌==◌, ◌&&◌, if◌then◌else◌}
 use Rattle.std.proofs.lemmas.Bool.Decides.{nat_tests}
-use Rattle.scope_rules.specs.Class.{contains}
-use Rattle.scope_rules.specs.Outcome.{Stop, thrown, cancelled, ended, undefined, out_of_turns, deep}
+use Rattle.meaning_forms.specs.Class.{contains}
+use Rattle.meaning_forms.specs.Outcome.{Stop, thrown, cancelled, ended, undefined, out_of_turns, deep}
 use Rattle.region_forms.specs.Caught.{Entry, entered_on, counted, holds_other}
 use Rattle.region_forms.specs.World.{Word, nothing, number_word, address_word, object_address, flying, unwinding, Frame, World, with_slot, type_at, exception_at}
 use Rattle.region_forms.specs.Guard.{Guard, clauses, everything, allows, is_doomed}

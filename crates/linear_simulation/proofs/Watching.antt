@@ -2,21 +2,21 @@
 use Rattle.std.proofs.Common.{◌≡◌, ℕ, zero, suc, ◌+◌, ◌⊎◌, inl, inr, Bool, true, false, List, [], ◌∷◌, Option, Some, None, refl, sym, ap, ◌∙◌, subst}
 use Rattle.std.specs.Prelude.{ℤ, not, max, ◌==◌, slice_get, unwrap_or, if◌then◌else◌}
 use Rattle.run_items.specs.declared.item.Item.TheVariants.{Destroy}
-use Rattle.scope_rules.specs.Arithmetic.{is_zero}
-use Rattle.scope_rules.specs.Class.{contains}
-use Rattle.scope_rules.specs.Outcome.{Stop, thrown, cancelled, ended, undefined, out_of_turns, deep, aborted}
+use Rattle.meaning_forms.specs.Arithmetic.{is_zero}
+use Rattle.meaning_forms.specs.Class.{contains}
+use Rattle.meaning_forms.specs.Outcome.{Stop, thrown, cancelled, ended, undefined, out_of_turns, deep, aborted}
 use Rattle.region_forms.specs.Caught.{gives_back}
 use Rattle.region_forms.specs.Form.{Op, evaluate, store, bind, call, construct, destroy, make, throw, rethrow, enter, leave, Cleanup, destroy_scope, destroy_part, free_object, leave_handler, Region, seq, op, branch, loop, protect, catch, limit, barrier, leave_region, RegionList, no_regions, region_then, Clauses, no_clauses, clause_then, RegionFunction, Regions, Value, kinds_of, no_function}
 use Rattle.region_forms.specs.World.{Word, address_word, object_address, Frame, Exception, building, native, foreign, exception_at, type_at, with_item}
 use Rattle.region_forms.specs.Guard.{clauses, listed, everything, matches, allows, types_of, is_doomed}
-use Rattle.scope_rules.specs.World.{Installed}
+use Rattle.meaning_forms.specs.World.{Installed}
 use Rattle.region_forms.specs.Evaluation.{value_in}
 use Rattle.region_forms.specs.Effect.{Effect, goes, calls, raises, terminates, ends, cancels, leaves_newest, meaningless, effect, finished, newest_of, left, enters, flies, is_full}
 use Rattle.region_forms.specs.Outcome.{State, Context, Flow, normal, leaves, Result, done, stopped, Action, continued, pure, stop, some, change, guarded_by, ◌>>=◌, ◌>>◌, only_if}
 use Rattle.region_forms.specs.Ending.{Running, terminate_with, terminate, run_terminate_handler, after_terminate_handler, terminate_because, enter_and_terminate, raise, after_barrier, behind_barrier, unwound, after_scope, after_part, after_destructor, spend, empty_call, open_call, call_destructor, give_back, leave_newest, settled, perform, bad_row}
 use Rattle.region_forms.specs.Unexpected.{kept_with, throw_bad, pass_on, made, while_handled, after_unexpected, run_unexpected_handler, unexpected, after_limit, keep_bad, enter_stopped}
 use Rattle.region_forms.specs.Meaning.{outwards, followed, operation, value_of, loop_of, cleaned, after_try, with_object, region, regions, caught, after_call, called_state, function_result, run_function, call_with, no_frame, first_world, after_main}
-use Rattle.scope_rules.specs.Meaning.{stopped_by}
+use Rattle.meaning_forms.specs.Meaning.{stopped_by}
 use Rattle.linear_simulation.specs.ProgramRuns.{WatchedIsMeant}
 use Rattle.linear_simulation.specs.Watched.{same_type, still, kept_type, kept_on, not_its_own, watched_leave, watched_operation, watched_cleaned, watched_handled, watched_pass, terminate_for, watched_after, watched_handler, watched_unexpected, watched_limit, watched_protect, watched, watched_all, watched_caught, watched_function, watched_call, watched_call_of}
 use Rattle.region_forms.specs.Lives.{may_leave}

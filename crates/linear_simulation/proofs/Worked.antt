@@ -8,10 +8,10 @@ use Rattle.cxx_ast.specs.declared.types.Ty.TheVariants.{Int, Void, Object, Objec
 use Rattle.cxx_ast.specs.declared.declaration.FuncKind.TheVariants.{Plain, Constructor, Destructor}
 use Rattle.cxx_ast.specs.Plain.{Class as ClassTree, Checked, Expression, number, path, call, std_call, Expressions, no_expressions, expression_then, Statement, return, throw, try, assign, evaluate, local_object, Statements, no_statements, statement_then, no_handlers, handler_then}
 use Rattle.eh_bytes.specs.Spelling.{uleb_spelling, uleb_spelling_within}
-use Rattle.scope_rules.specs.Outcome.{undefined}
-use Rattle.scope_rules.specs.Meaning.{stopped_by}
-use Rattle.scope_rules.specs.declared.ending.MeanEnd.TheVariants.{Undefined}
-use Rattle.scope_rules.proofs.Trees.{nm, pa, fn, cl, ck}
+use Rattle.meaning_forms.specs.Outcome.{undefined}
+use Rattle.meaning_forms.specs.Meaning.{stopped_by}
+use Rattle.meaning_forms.specs.declared.ending.MeanEnd.TheVariants.{Undefined}
+use Rattle.meaning_forms.proofs.Trees.{nm, pa, fn, cl, ck}
 use Rattle.region_forms.specs.Form.{help_slot, Slot, through, make, throw as throw_op, destroy_scope, op, protect, catch, no_clauses, clause_then, in_order, TypeRow, Regions}
 use Rattle.region_forms.specs.Layout.{layout_of}
 use Rattle.region_forms.specs.LowerProgram.{regions_of}

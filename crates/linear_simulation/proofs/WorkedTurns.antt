@@ -2,8 +2,8 @@
 use Rattle.std.specs.Prelude.{◌≡◌, refl, pos, [], ◌∷◌, None}
 use Rattle.cxx_ast.specs.declared.expression.BinaryOp.TheVariants.{Subtract}
 use Rattle.eh_bytes.specs.Spelling.{uleb_spelling, uleb_spelling_within}
-use Rattle.scope_rules.specs.Outcome.{out_of_turns}
-use Rattle.scope_rules.specs.Meaning.{returned, stopped_by}
+use Rattle.meaning_forms.specs.Outcome.{out_of_turns}
+use Rattle.meaning_forms.specs.Meaning.{returned, stopped_by}
 use Rattle.region_forms.specs.Form.{int_slot, Slot, in_slot, Place, defined, number, load, binary, store, call, no_arguments, op, loop, in_order, Regions}
 use Rattle.region_forms.specs.Meaning.{regions_meaning}
 use Rattle.linear_forms.specs.Activation.{Code, State}

@@ -1,6 +1,6 @@
 -- What the machine comes to where something that an open call does comes out so: an operation of it, or a call that it makes.
 use Rattle.std.specs.Prelude.{◌≡◌, ℕ, suc, ◌+◌, ◌<◌, ◌≤◌, ◌⊎◌, ℤ, true, List, ◌∷◌, Some}
-use Rattle.scope_rules.specs.Outcome.{Stop, thrown, cancelled, ended, undefined, out_of_turns, deep}
+use Rattle.meaning_forms.specs.Outcome.{Stop, thrown, cancelled, ended, undefined, out_of_turns, deep}
 use Rattle.region_forms.specs.World.{Word, Frame, type_at}
 use Rattle.region_forms.specs.Guard.{Guard}
 use Rattle.region_forms.specs.Outcome.{State as RegionState, Result, done, stopped}

@@ -1,8 +1,8 @@
 -- What a front of a run shows, against a meaning with so many turns.
 use Rattle.std.specs.Prelude.{◌≡◌, ℕ, ◌<◌, List}
 use Rattle.eh_outer.specs.declared.module.Reply.{Reply}
-use Rattle.scope_rules.specs.Outcome.{deep}
-use Rattle.scope_rules.specs.Meaning.{Meaning, stopped_by}
+use Rattle.meaning_forms.specs.Outcome.{deep}
+use Rattle.meaning_forms.specs.Meaning.{Meaning, stopped_by}
 use Rattle.region_forms.specs.Form.{Regions}
 use Rattle.region_forms.specs.World.{World}
 use Rattle.linear_forms.specs.Activation.{Final}

@@ -2,8 +2,8 @@
 use Rattle.std.specs.Prelude.{◌≡◌, ℕ, ◌+◌, ◌*◌, ◌≤◌, ◌⊎◌, true, List, ◌++◌}
 use Rattle.eh_outer.specs.declared.module.Reply.{Reply}
 use Rattle.run_items.specs.declared.item.Item.{Item}
-use Rattle.scope_rules.specs.Outcome.{thrown, cancelled, ended, undefined, out_of_turns, deep}
-use Rattle.scope_rules.specs.Meaning.{Meaning, MainOutcome, returned, stopped_by}
+use Rattle.meaning_forms.specs.Outcome.{thrown, cancelled, ended, undefined, out_of_turns, deep}
+use Rattle.meaning_forms.specs.Meaning.{Meaning, MainOutcome, returned, stopped_by}
 use Rattle.region_forms.specs.Form.{Regions}
 use Rattle.region_forms.specs.Meaning.{regions_meaning}
 use Rattle.region_forms.specs.WellFormed.{is_well_formed}

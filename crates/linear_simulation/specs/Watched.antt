@@ -4,10 +4,10 @@
 -- way is chosen by the type that it has then. Regions of a source are meant to break none of this; that none does is not shown here.
 use Rattle.std.specs.Prelude.{ℕ, zero, suc, ◌+◌, ℤ, Bool, true, false, not, ◌==◌, List, [], ◌∷◌, Option, Some, None, slice_get, if◌then◌else◌}
 use Rattle.eh_outer.specs.declared.module.Reply.{Reply}
-use Rattle.scope_rules.specs.Arithmetic.{is_zero}
-use Rattle.scope_rules.specs.Class.{contains}
-use Rattle.scope_rules.specs.Outcome.{thrown, out_of_turns, deep}
-use Rattle.scope_rules.specs.Meaning.{Meaning}
+use Rattle.meaning_forms.specs.Arithmetic.{is_zero}
+use Rattle.meaning_forms.specs.Class.{contains}
+use Rattle.meaning_forms.specs.Outcome.{thrown, out_of_turns, deep}
+use Rattle.meaning_forms.specs.Meaning.{Meaning}
 use Rattle.region_forms.specs.Form.{Op, destroy, leave, Cleanup, destroy_scope, destroy_part, free_object, leave_handler, Region, seq, op, branch, loop, protect, catch, limit, barrier, leave_region, RegionList, no_regions, region_then, Clauses, no_clauses, clause_then, RegionFunction, Regions, kinds_of}
 use Rattle.region_forms.specs.World.{Word, type_at, exception_at}
 use Rattle.region_forms.specs.Guard.{clauses, listed, matches, allows, types_of}

@@ -17,7 +17,7 @@ use Rattle.cxx_ast.specs.Environment.{Environment, Scope}
 use Rattle.cxx_ast.specs.Locals.{declare_param, declare_params}
 use Rattle.cxx_ast.specs.Resolve.{resolve_statements, resolve_param, resolve_params, resolve_specification, resolve_initialiser, resolve_body, resolve_function}
 use Rattle.cxx_ast.specs.TypeNames.{has_body}
-use Rattle.code_simulation.specs.MainTree.{LineTree, AnswerTree, main_statements, main_function}
+use Rattle.machine_pieces.specs.MainTree.{LineTree, AnswerTree, main_statements, main_function}
 use Rattle.literal_mains.specs.Main.{is_empty, main_of_body, is_plain_int, is_bare, main_of_declarations}
 use Rattle.literal_mains.proofs.Trees.{some_none, both, IsMain, main_tree}
 use Rattle.literal_mains.proofs.Literals.{AreInts}

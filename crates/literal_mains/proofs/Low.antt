@@ -1,6 +1,6 @@
 -- Where the code of an image ends.
 use Rattle.std.proofs.Common.{arith, length-append}
-use Rattle.emission_forms.specs.Emitted.{emitted_stubs}
+use Rattle.machine_forms.specs.Emitted.{emitted_stubs}
 use Rattle.image_link.proofs.Bounds.{types_length}
 use Rattle.image_link.proofs.Images.{stub_words}
 use Rattle.literal_mains.specs.Laws.{CodeIsLow}

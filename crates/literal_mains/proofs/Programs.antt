@@ -16,7 +16,7 @@ use Rattle.cxx_ast.specs.Limits.{most_tokens}
 use Rattle.cxx_ast.specs.Declare.{at_the_start, definitions, body_environment, function_scope}
 use Rattle.cxx_ast.specs.Resolve.{function_number, resolve_function}
 use Rattle.cxx_ast.specs.Checked.{IsChecked, checked, resolve_declarations, classes_of, functions_of, bad_exception}
-use Rattle.code_simulation.specs.MainTree.{LineTree, AnswerTree, main_function}
+use Rattle.machine_pieces.specs.MainTree.{LineTree, AnswerTree, main_function}
 use Rattle.literal_mains.specs.Main.{main_of_declarations, small_main}
 use Rattle.literal_mains.proofs.Trees.{some_none}
 use Rattle.literal_mains.proofs.Literals.{AreInts, source_small, pieces_count}

@@ -9,9 +9,9 @@ use Rattle.eh_bytes.specs.Listed.{ListedUnit}
 use Rattle.region_forms.specs.Layout.{Layout, layout_of}
 use Rattle.source_bounds.specs.Compiled.{emitted_for}
 use Rattle.source_bounds.specs.Laws.{CheckedIsLinkable}
-use Rattle.code_simulation.specs.Laws.{LinkedMainsRun}
-use Rattle.code_simulation.specs.MainTree.{LineTree}
-use Rattle.code_simulation.specs.Numbers.{IsInt}
+use Rattle.machine_pieces.specs.Laws.{LinkedMainsRun}
+use Rattle.machine_pieces.specs.MainTree.{LineTree}
+use Rattle.machine_pieces.specs.Numbers.{IsInt}
 use Rattle.literal_mains.specs.Laws.{LiteralMainsRun}
 use Rattle.literal_mains.proofs.Low.{code_is_low}
 use Rattle.literal_mains.proofs.Programs.{checked_main}

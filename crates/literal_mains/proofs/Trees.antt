@@ -7,7 +7,7 @@ use Rattle.cxx_ast.specs.declared.name.Bound.TheVariants.{Free, Global, Local, F
 use Rattle.cxx_ast.specs.declared.name.Builtin.TheVariants.{WriteInt, ReadByte, Exit, Module, Cancel, Terminate, SetTerminate, SetUnexpected, Uncaught, BadException}
 use Rattle.cxx_ast.specs.declared.name.Name.{Name}
 use Rattle.cxx_ast.specs.Plain.{Expression, number, path, paren, unary, binary, call, std_call, Expressions, no_expressions, expression_then, Statement, block, empty, if_else, while, return, break, continue, throw, try, assign, evaluate, local_int, local_ref, local_object, Statements, no_statements, statement_then}
-use Rattle.code_simulation.specs.MainTree.{LineTree, write_name, line_statement, AnswerTree, main_statements}
+use Rattle.machine_pieces.specs.MainTree.{LineTree, write_name, line_statement, AnswerTree, main_statements}
 use Rattle.literal_mains.specs.Main.{literal_of, only_argument, is_write_int, calls_write_int, line_of, answer_of, behind, main_of}
 
 pub some_same : {A : Type 0} {x y : A} → Some x ≡ Some y → x ≡ y

@@ -10,19 +10,19 @@ use Rattle.region_forms.specs.Layout.{Layout}
 use Rattle.region_forms.specs.LowerProgram.{functions_of_classes, implicit_default_function, implicit_copy_function, implicit_destructor_function, regions_of}
 use Rattle.linear_forms.specs.Linear.{label, return, FunctionCode, UnitCode}
 use Rattle.linear_forms.specs.Unit.{function_code, unit_of}
-use Rattle.emission_forms.specs.Piece.{Target, Piece, Places, words_from}
-use Rattle.emission_forms.specs.Shape.{Shape, prologue, epilogue}
-use Rattle.emission_forms.specs.RuntimeCall.{zero_given}
-use Rattle.emission_forms.specs.Routine.{Routine, routine_words, routine_places, routine_code, routines_code}
-use Rattle.emission_forms.specs.StubCode.{stub_words}
-use Rattle.emission_forms.specs.Emitted.{shape_of, function_routine, unit_routines, main_jump, target_byte, unit_words, emitted_of, emitted_stubs}
+use Rattle.machine_forms.specs.Piece.{Target, Piece, Places, words_from}
+use Rattle.machine_forms.specs.Shape.{Shape, prologue, epilogue}
+use Rattle.machine_forms.specs.RuntimeCall.{zero_given}
+use Rattle.machine_forms.specs.Routine.{Routine, routine_words, routine_places, routine_code, routines_code}
+use Rattle.machine_forms.specs.StubCode.{stub_words}
+use Rattle.machine_forms.specs.Emitted.{shape_of, function_routine, unit_routines, main_jump, target_byte, unit_words, emitted_of, emitted_stubs}
 use Rattle.image_forms.specs.Placed.{all_code}
-use Rattle.code_simulation.specs.MainTree.{LineTree, AnswerTree, main_function}
-use Rattle.code_simulation.specs.SmallMain.{pieces_of}
-use Rattle.code_simulation.specs.Standing.{PieceFits, HaveBits}
-use Rattle.code_simulation.specs.UnitAt.{routine_pieces}
-use Rattle.code_simulation.proofs.Fitting.{all_then, prologue_fits, epilogue_fits, main_fits}
-use Rattle.code_simulation.proofs.Lowering.{main_lowered, lowered_ops}
+use Rattle.machine_pieces.specs.MainTree.{LineTree, AnswerTree, main_function}
+use Rattle.machine_pieces.specs.SmallMain.{pieces_of}
+use Rattle.machine_pieces.specs.Standing.{PieceFits, HaveBits}
+use Rattle.machine_pieces.specs.UnitAt.{routine_pieces}
+use Rattle.machine_pieces.proofs.Fitting.{all_then, prologue_fits, epilogue_fits, main_fits}
+use Rattle.machine_pieces.proofs.Lowering.{main_lowered, lowered_ops}
 use Rattle.literal_mains.proofs.Words.{words_have_bits}
 
 abbrev IsWord : ℕ → Type 0

@@ -4,8 +4,8 @@ use Rattle.rv64_isa.specs.declared.instr.Instr.{Instr}
 use Rattle.rv64_isa.specs.declared.instr.Instr.TheVariants.{Lui, Auipc, Jal, Jalr, Beq, Bne, Blt, Bge, Bltu, Bgeu, Lb, Lh, Lw, Ld, Lbu, Lhu, Lwu, Sb, Sh, Sw, Sd, Addi, Slti, Sltiu, Xori, Ori, Andi, Slli, Srli, Srai, Add, Sub, Sll, Slt, Sltu, Xor, Srl, Sra, Or, And, Addiw, Slliw, Srliw, Sraiw, Addw, Subw, Sllw, Srlw, Sraw, Fence, Ecall, Ebreak, Mul, Mulh, Mulhsu, Mulhu, Div, Divu, Rem, Remu, Mulw, Divw, Divuw, Remw, Remuw}
 use Rattle.rv64_isa.specs.Format.{R, Shift, I, S, B, U, J, encoded, IsInRange}
 use Rattle.rv64_isa.specs.Listing.{form_of, word_of}
-use Rattle.code_simulation.proofs.Fetching.{placed_fits}
-use Rattle.emission_forms.specs.Piece.{placed}
+use Rattle.machine_pieces.proofs.Fetching.{placed_fits}
+use Rattle.machine_forms.specs.Piece.{placed}
 use Rattle.literal_mains.specs.Laws.{WordsHaveBits}
 
 -- ---- the word of a format

@@ -8,7 +8,7 @@ use Rattle.eh_outer.specs.declared.module.Reply.{Reply}
 use Rattle.cxx_ast.specs.Checked.{IsChecked}
 use Rattle.cxx_ast.specs.Plain.{Checked}
 use Rattle.rv64_isa.specs.Listing.{word_of}
-use Rattle.emission_forms.specs.Piece.{Piece, Places, placed}
+use Rattle.machine_forms.specs.Piece.{Piece, Places, placed}
 use Rattle.eh_bytes.specs.Listed.{ListedUnit}
 use Rattle.elf_image.specs.Clean.{CleanImage}
 use Rattle.elf_image.specs.Stands.{ImageStands}
@@ -17,7 +17,7 @@ use Rattle.image_forms.specs.Linked.{contents_for}
 use Rattle.image_forms.specs.Placed.{code_at, all_code}
 use Rattle.source_bounds.specs.Compiled.{emitted_for}
 use Rattle.eh_run.specs.Program.{program_of}
-use Rattle.code_simulation.specs.Standing.{PieceFits}
+use Rattle.machine_pieces.specs.Standing.{PieceFits}
 use Rattle.literal_mains.specs.Main.{small_main}
 
 -- the word of a piece whose fields are in their ranges has 32 bits, wherever it stands

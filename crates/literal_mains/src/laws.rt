@@ -1,7 +1,7 @@
 // Laws of mains of literals and of their images: calls of no effect, whose contracts state what holds of every program.
 ghost use Rattle.literal_mains.specs.Laws.{CodeIsLow, LiteralMainsRun, WordsHaveBits};
 
-use code_simulation::laws::linked_mains_run;
+use machine_pieces::laws::linked_mains_run;
 use source_bounds::laws::checked_is_linkable;
 
 /// The word of a piece of code has 32 bits, wherever the piece stands.

@@ -12,7 +12,7 @@ use Rattle.raise_core.specs.Stack.{first_frame}
 use Rattle.raise_core.specs.Asked.{verdict_of}
 use Rattle.raise_core.specs.First.{first_in, first_of, is_at}
 use Rattle.raise_core.specs.Raise.{raise, resume, forced_unwind, installs, installed, at_cfa, goes_on, stops_at, resumed_at, resumed_to, forced_to, ended}
-use Rattle.scope_rules.specs.Outcome.{exit}
+use Rattle.meaning_forms.specs.Outcome.{exit}
 use Rattle.region_forms.specs.World.{flying, unwinding, World, type_at}
 use Rattle.linear_forms.specs.Verdict.{Verdict, target, no_way, clean, nothing_here}
 use Rattle.linear_forms.specs.Stub.{Function}

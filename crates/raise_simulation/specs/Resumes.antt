@@ -5,7 +5,7 @@ use Rattle.table_forms.specs.Verdict.{Thrown, forced}
 use Rattle.rv64_isa.specs.State.{State}
 use Rattle.raise_core.specs.declared.raised.Raised.TheVariants as answers
 use Rattle.raise_core.specs.Raise.{resume, forced_unwind}
-use Rattle.scope_rules.specs.Outcome.{exit}
+use Rattle.meaning_forms.specs.Outcome.{exit}
 use Rattle.region_forms.specs.World.{flying, unwinding, World, type_at}
 use Rattle.linear_forms.specs.Tables.{padded}
 use Rattle.linear_forms.specs.Verdict.{target}

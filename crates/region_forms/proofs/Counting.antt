@@ -2,7 +2,7 @@
 use Rattle.std.proofs.Common.{◌≡◌, ℕ, suc, Bool, true, false, List, [], ◌∷◌, refl, sym, ap, ◌∙◌, subst, arith}
 use Rattle.std.specs.Prelude.{nat_eq, if◌then◌else◌, not, ◌||◌}
 use Rattle.std.proofs.lemmas.Bool.Decides.{nat_tests}
-use Rattle.scope_rules.specs.Class.{contains}
+use Rattle.meaning_forms.specs.Class.{contains}
 use Rattle.region_forms.specs.Caught.{Entry, counted, handled_on, flown, left_of, last_count, gives_back, caught_of, only_front}
 
 abbrev mem : ℕ → List ℕ → Bool

@@ -9,8 +9,8 @@ use Rattle.cxx_ast.specs.declared.expression.BinaryOp.TheVariants.{Add, Less, Eq
 use Rattle.cxx_ast.specs.Plain.{Class as ClassTree, Checked, Expression, number, path, binary, call, std_call, Expressions, no_expressions, expression_then, Statement, if_else, block, while, return, break, continue, throw, try, assign, evaluate, local_int, local_object, no_else, Statements, no_statements, statement_then, no_handlers, handler_then}
 use Rattle.eh_outer.specs.declared.module.Reply.{Reply}
 use Rattle.eh_outer.specs.declared.module.Reply.TheVariants.{Raise}
-use Rattle.scope_rules.specs.Meaning.{program_meaning}
-use Rattle.scope_rules.proofs.Trees.{nm, pa, ini, fn, cl, ck}
+use Rattle.meaning_forms.specs.Meaning.{program_meaning}
+use Rattle.meaning_forms.proofs.Trees.{nm, pa, ini, fn, cl, ck}
 use Rattle.region_forms.specs.Form.{Place, in_slot, through, defined, builtin, Value, number as number_value, load, binary as binary_value, Arguments, no_arguments, argument_then, int_argument, store, call as call_op, construct, enter, destroy_scope, leave_handler, Region, op, protect, catch, leave_region, no_clauses, clause_then, in_order, function_at}
 use Rattle.region_forms.specs.Layout.{layout_of}
 use Rattle.region_forms.specs.LowerProgram.{regions_of}

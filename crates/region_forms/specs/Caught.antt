@@ -1,7 +1,7 @@
 -- The caught list with signed counts (Itanium C++ ABI: Exception Handling, 2.2.2). A run of one exception among the handled ones is one entry: `more` counts the handlers of it
 -- after the first, and `again` says that it travels again, which a machine writes as a negative count.
 use Rattle.std.specs.Prelude.{ℕ, zero, suc, Bool, true, false, not, ◌||◌, ◌==◌, List, [], ◌∷◌, if◌then◌else◌}
-use Rattle.scope_rules.specs.Class.{contains}
+use Rattle.meaning_forms.specs.Class.{contains}
 
 -- one entry: its exception's number, how many handlers of it there are behind the first, and whether it travels again
 pub record Entry : Type 0 where

@@ -4,8 +4,8 @@ use Rattle.std.specs.Prelude.{ℕ, zero, suc, ◌+◌, ◌-◌, ℤ, pos, negsuc
 use Rattle.cxx_ast.specs.declared.name.Builtin.{Builtin}
 use Rattle.cxx_ast.specs.declared.name.Builtin.TheVariants.{WriteInt, ReadByte, Exit, Module, Cancel, Terminate, SetTerminate, SetUnexpected, Uncaught, BadException}
 use Rattle.run_items.specs.declared.item.Item.TheVariants.{Line, Make, Foreign, Enter, Leave, Free, Clean}
-use Rattle.scope_rules.specs.Arithmetic.{truth}
-use Rattle.scope_rules.specs.Outcome.{End, exit}
+use Rattle.meaning_forms.specs.Arithmetic.{truth}
+use Rattle.meaning_forms.specs.Outcome.{End, exit}
 use Rattle.eh_outer.specs.declared.module.Reply.{Reply}
 use Rattle.eh_outer.specs.declared.module.Reply.TheVariants.{Value as ValueReply, Raise}
 use Rattle.region_forms.specs.Form.{Kinds, SlotKind, int_slot, in_slot, Place, Callee, defined, builtin, Value, load, call_value, Op, evaluate, store, bind, call, construct, destroy, make, throw, rethrow, enter, leave}

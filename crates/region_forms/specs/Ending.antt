@@ -1,7 +1,7 @@
 -- Raising, terminate and barriers, and what is done at the end of a scope or a handler (ISO/IEC 14882:2003, 15.1, 15.2, 15.5.1).
 use Rattle.std.specs.Prelude.{ℕ, zero, suc, ◌+◌, max, ℤ, true, nat_le, ◌==◌, List, [], ◌∷◌, Option, Some, None, if◌then◌else◌}
 use Rattle.run_items.specs.declared.item.Item.TheVariants.{Destroy}
-use Rattle.scope_rules.specs.Outcome.{Stop, thrown, cancelled, ended, undefined, out_of_turns, deep, aborted}
+use Rattle.meaning_forms.specs.Outcome.{Stop, thrown, cancelled, ended, undefined, out_of_turns, deep, aborted}
 use Rattle.region_forms.specs.Form.{TypeRow}
 use Rattle.region_forms.specs.World.{Word, address_word, Exception, building, native, foreign, object_address, with_item, exception_at, type_at}
 use Rattle.region_forms.specs.Caught.{gives_back}

@@ -5,7 +5,7 @@ use Rattle.cxx_ast.specs.declared.expression.UnaryOp.{UnaryOp}
 use Rattle.cxx_ast.specs.declared.expression.UnaryOp.TheVariants.{Minus, Not}
 use Rattle.cxx_ast.specs.declared.expression.BinaryOp.{BinaryOp}
 use Rattle.cxx_ast.specs.declared.expression.BinaryOp.TheVariants.{Add, Subtract, Multiply, Divide, Remainder, Less, Greater, LessEqual, GreaterEqual, Equal, NotEqual, And, Or}
-use Rattle.scope_rules.specs.Arithmetic.{fits_int, is_zero, truth, int_equal, decided}
+use Rattle.meaning_forms.specs.Arithmetic.{fits_int, is_zero, truth, int_equal, decided}
 use Rattle.region_forms.specs.Form.{Kinds, SlotKind, int_slot, address_slot, object_slot, help_slot, Root, in_slot, through, in_global, Place, Value, number, load, unary, binary, call_value, Argument, int_argument, address_argument, handler_argument, Arguments, no_arguments, argument_then}
 use Rattle.region_forms.specs.World.{Address, of_global, of_variable, Word, number_word, address_word, Frame, World, behind, address_in, number_in}
 use Rattle.region_forms.specs.Lives.{is_there}

@@ -1,6 +1,6 @@
 -- Which guard stops an exception (ISO/IEC 14882:2003, 15.3/3, 15.4/9, 15.5.1). Types are numbers of rows; a foreign exception has none.
 use Rattle.std.specs.Prelude.{ℕ, zero, suc, Bool, true, false, not, ◌||◌, ◌==◌, List, [], ◌∷◌, length, Option, Some, None, find, is_none, slice_get}
-use Rattle.scope_rules.specs.Class.{some_of}
+use Rattle.meaning_forms.specs.Class.{some_of}
 use Rattle.region_forms.specs.Form.{TypeRow, Clauses, no_clauses, clause_then}
 
 -- what may stop an exception on its way outwards: clauses, each with its type or none for `...`; a specification's list; a barrier

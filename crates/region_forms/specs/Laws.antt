@@ -1,6 +1,6 @@
 -- Laws of the caught list, whatever is handled and whatever travels: it stays a function of both.
 use Rattle.std.specs.Prelude.{ℕ, ◌≡◌, true, false, not, List, ◌∷◌}
-use Rattle.scope_rules.specs.Class.{contains}
+use Rattle.meaning_forms.specs.Class.{contains}
 use Rattle.region_forms.specs.Caught.{entered_on, flown, left_of, gives_back, caught_of, only_front}
 
 -- What is done with exception e, while others travel and are handled. A new exception that is thrown leaves the list as it is. One that

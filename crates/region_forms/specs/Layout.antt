@@ -4,7 +4,7 @@
 use Rattle.std.specs.Prelude.{ℕ, zero, suc, Option, Some, None, ◌+◌, List, [], ◌∷◌, ◌++◌, map, slice_get, unwrap_or}
 use Rattle.cxx_ast.specs.declared.name.Name.{Name}
 use Rattle.cxx_ast.specs.Plain.{Class, Checked}
-use Rattle.scope_rules.specs.Class.{ObjectType, int_type, class_type, class_at, base_part, member_part}
+use Rattle.meaning_forms.specs.Class.{ObjectType, int_type, class_type, class_at, base_part, member_part}
 
 -- the size of a class, and the offsets of its members, in bytes
 pub record ClassLayout : Type 0 where

@@ -1,6 +1,6 @@
 -- What must hold of an exception where an operation is about it: that it is live, is being built, can travel, or may be entered or left.
 use Rattle.std.specs.Prelude.{ℕ, not, ◌==◌, ◌&&◌, ◌||◌, Bool, true, false, List, [], ◌∷◌}
-use Rattle.scope_rules.specs.Class.{some_of}
+use Rattle.meaning_forms.specs.Class.{some_of}
 use Rattle.region_forms.specs.Caught.{Entry}
 use Rattle.region_forms.specs.World.{Base, of_global, of_variable, of_exception, Exception, building, native, foreign, World, exception_at}
 

@@ -11,10 +11,10 @@ use Rattle.cxx_ast.specs.declared.types.Ty.TheVariants.{Int, IntRef, ObjectRef}
 use Rattle.cxx_ast.specs.declared.expression.BinaryOp.{BinaryOp}
 use Rattle.cxx_ast.specs.declared.expression.BinaryOp.TheVariants.{And, Or, NotEqual}
 use Rattle.cxx_ast.specs.Plain.{Checked, Expression, number, path, paren, unary, binary, call, std_call, Expressions, no_expressions, expression_then}
-use Rattle.scope_rules.specs.Class.{ObjectType, int_type, class_type, class_at, object_type, derives}
-use Rattle.scope_rules.specs.Running.{Constructor, method, constructor}
-use Rattle.scope_rules.specs.Construct.{constructor_for, copy_constructor}
-use Rattle.scope_rules.specs.Expression.{lvalue_of, names_of, count_of, callee_bound, receiver, parameter_types, constructor_types, is_reference, function_named}
+use Rattle.meaning_forms.specs.Class.{ObjectType, int_type, class_type, class_at, object_type, derives}
+use Rattle.meaning_forms.specs.Running.{Constructor, method, constructor}
+use Rattle.meaning_forms.specs.Construct.{constructor_for, copy_constructor}
+use Rattle.meaning_forms.specs.Expression.{lvalue_of, names_of, count_of, callee_bound, receiver, parameter_types, constructor_types, is_reference, function_named}
 use Rattle.region_forms.specs.Form.{Root, in_slot, through, in_global, Place, Callee, defined, builtin, Value, number as number_value, load, unary as unary_value, binary as binary_value, call_value, Argument, int_argument, address_argument, handler_argument, arguments_from, store, evaluate, construct, call as call_only, Region, op, branch, in_order}
 use Rattle.region_forms.specs.Layout.{Layout, laid_member}
 use Rattle.region_forms.specs.Numbering.{number_of}

@@ -6,10 +6,10 @@ use Rattle.cxx_ast.specs.declared.types.Ty.TheVariants.{Int, Void, Object, IntRe
 use Rattle.cxx_ast.specs.declared.declaration.FuncKind.{FuncKind}
 use Rattle.cxx_ast.specs.declared.declaration.FuncKind.TheVariants.{Constructor as ConstructorKind, Destructor as DestructorKind}
 use Rattle.cxx_ast.specs.Plain.{Checked, Function, Class as ClassTree, Expressions, no_expressions, expression_then}
-use Rattle.scope_rules.specs.Class.{ObjectType, int_type, class_type, class_at, object_type, parts_of}
-use Rattle.scope_rules.specs.Running.{constructor, destructor}
-use Rattle.scope_rules.specs.Construct.{constructor_for, copy_constructor, is_constructor}
-use Rattle.scope_rules.specs.Call.{initialiser_for, statements_in}
+use Rattle.meaning_forms.specs.Class.{ObjectType, int_type, class_type, class_at, object_type, parts_of}
+use Rattle.meaning_forms.specs.Running.{constructor, destructor}
+use Rattle.meaning_forms.specs.Construct.{constructor_for, copy_constructor, is_constructor}
+use Rattle.meaning_forms.specs.Call.{initialiser_for, statements_in}
 use Rattle.region_forms.specs.Form.{int_slot, address_slot, object_slot, help_slot, Slot, Place, number, load, address_argument, no_arguments, arguments_from, store, construct, destroy_scope, destroy_part, Region, op, protect, limit, in_order, RegionFunction, Regions}
 use Rattle.region_forms.specs.Layout.{Layout, laid_part, laid_size}
 use Rattle.region_forms.specs.Numbering.{number_of, type_number, type_rows, variables_of}

@@ -1,9 +1,9 @@
 -- What regions do.
 use Rattle.std.specs.Prelude.{ℕ, zero, suc, ◌+◌, ℤ, false, ◌==◌, List, [], Option, None, slice_get, if◌then◌else◌}
-use Rattle.scope_rules.specs.Arithmetic.{is_zero}
-use Rattle.scope_rules.specs.Outcome.{thrown, cancelled, out_of_turns}
+use Rattle.meaning_forms.specs.Arithmetic.{is_zero}
+use Rattle.meaning_forms.specs.Outcome.{thrown, cancelled, out_of_turns}
 use Rattle.eh_outer.specs.declared.module.Reply.{Reply}
-use Rattle.scope_rules.specs.Meaning.{Meaning as ProgramMeaning, MainOutcome, returned, stopped_by, end_of}
+use Rattle.meaning_forms.specs.Meaning.{Meaning as ProgramMeaning, MainOutcome, returned, stopped_by, end_of}
 use Rattle.region_forms.specs.Form.{Value, Op, destroy, leave, Cleanup, destroy_scope, destroy_part, free_object, leave_handler, Region, seq, op, branch, loop, protect, catch, limit, barrier, leave_region, RegionList, no_regions, region_then, Clauses, no_clauses, clause_then, RegionFunction, Regions, Kinds, kinds_of, function_at}
 use Rattle.region_forms.specs.World.{Base, of_global, Word, nothing, address_word, Frame, World, object_address, with_slot, exception_in_slot, type_at}
 use Rattle.region_forms.specs.Lives.{is_being_built}

@@ -4,9 +4,9 @@ use Rattle.cxx_ast.specs.declared.name.Name.{Name}
 use Rattle.cxx_ast.specs.declared.types.Ty.{Ty}
 use Rattle.cxx_ast.specs.declared.types.Ty.TheVariants.{Int, Object}
 use Rattle.cxx_ast.specs.Plain.{Checked, Class as ClassTree, Function, Statement, block, if_else, while, try, local_int, local_ref, local_object, Else, no_else, else_do, Statements, no_statements, statement_then, Handlers, no_handlers, handler_then}
-use Rattle.scope_rules.specs.Class.{ObjectType, int_type, class_type, class_at, class_named}
-use Rattle.scope_rules.specs.Running.{declared, implicit_default, implicit_copy, Callee, function, method, constructor, destructor}
-use Rattle.scope_rules.specs.Construct.{destructor_place}
+use Rattle.meaning_forms.specs.Class.{ObjectType, int_type, class_type, class_at, class_named}
+use Rattle.meaning_forms.specs.Running.{declared, implicit_default, implicit_copy, Callee, function, method, constructor, destructor}
+use Rattle.meaning_forms.specs.Construct.{destructor_place}
 use Rattle.region_forms.specs.Form.{TypeRow}
 
 -- the sum of numbers

@@ -1,6 +1,6 @@
 -- How a region comes out, and how computations follow one another.
 use Rattle.std.specs.Prelude.{ℕ, Option, Some, None, Bool, true, false}
-use Rattle.scope_rules.specs.Outcome.{Stop, undefined}
+use Rattle.meaning_forms.specs.Outcome.{Stop, undefined}
 use Rattle.region_forms.specs.World.{Frame, World}
 use Rattle.region_forms.specs.Guard.{Guard}
 use Rattle.std.specs.Prelude.{List, ◌∷◌}

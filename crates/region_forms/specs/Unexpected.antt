@@ -1,9 +1,9 @@
 -- What becomes of an exception that a specification stops (ISO/IEC 14882:2003, 15.5.2).
 use Rattle.std.specs.Prelude.{ℕ, ◌+◌, ◌&&◌, ℤ, List, [], ◌∷◌, Option, Some, None, if◌then◌else◌}
 use Rattle.run_items.specs.declared.item.Item.TheVariants.{Make}
-use Rattle.scope_rules.specs.Class.{contains}
-use Rattle.scope_rules.specs.Outcome.{thrown}
-use Rattle.scope_rules.specs.World.{Installed}
+use Rattle.meaning_forms.specs.Class.{contains}
+use Rattle.meaning_forms.specs.Outcome.{thrown}
+use Rattle.meaning_forms.specs.World.{Installed}
 use Rattle.region_forms.specs.World.{World, Exception, building, native, with_item, exception_at, type_at}
 use Rattle.region_forms.specs.Lives.{is_native, is_being_built, may_enter}
 use Rattle.region_forms.specs.Guard.{clauses, allows}

@@ -4,7 +4,7 @@
 use Rattle.std.specs.Prelude.{ℕ, ◌+◌, ℤ, Bool, false, not, ◌&&◌, ◌==◌, List, [], ◌∷◌, ◌++◌, map, filter, Option, Some, None, if◌then◌else◌}
 use Rattle.run_items.specs.declared.item.Item.{Item}
 use Rattle.eh_outer.specs.declared.module.Reply.{Reply}
-use Rattle.scope_rules.specs.World.{Installed}
+use Rattle.meaning_forms.specs.World.{Installed}
 use Rattle.region_forms.specs.Caught.{Entry}
 
 -- where an address begins: at a global, at a slot of a call, or at an exception object

@@ -1,8 +1,8 @@
 -- Parts that are built or destroyed around what is left.
 use Rattle.std.proofs.Common.{◌≡◌, ◌∙◌, ◌+◌, ℕ, List, [], ◌∷◌, ◌++◌, map, ap, sym}
 use Rattle.std.proofs.lemmas.List.{map_push}
-use Rattle.scope_rules.specs.Class.{ObjectType, int_type, class_type}
-use Rattle.scope_rules.specs.Running.{destructor}
+use Rattle.meaning_forms.specs.Class.{ObjectType, int_type, class_type}
+use Rattle.meaning_forms.specs.Running.{destructor}
 use Rattle.region_forms.specs.Form.{Region, Cleanup, destroy_part, destroy_scope, protect, in_order}
 use Rattle.region_forms.specs.Numbering.{number_of}
 use Rattle.region_forms.specs.LowerExpression.{Lowering}

@@ -4,9 +4,9 @@ use Rattle.std.specs.Prelude.{slice_get, unwrap_or}
 use Rattle.std.proofs.lemmas.List.{length-map, length-append}
 use Rattle.std.proofs.lemmas.Option.{slice_get_within}
 use Rattle.cxx_ast.specs.Plain.{Checked, Class, Function}
-use Rattle.scope_rules.specs.Class.{class_at, no_class, no_function, function_at, method_at}
-use Rattle.scope_rules.specs.Construct.{is_destructor, place_from, destructor_place}
-use Rattle.scope_rules.specs.Running.{Callee, function, method, constructor, destructor, declared, implicit_default, implicit_copy}
+use Rattle.meaning_forms.specs.Class.{class_at, no_class, no_function, function_at, method_at}
+use Rattle.meaning_forms.specs.Construct.{is_destructor, place_from, destructor_place}
+use Rattle.meaning_forms.specs.Running.{Callee, function, method, constructor, destructor, declared, implicit_default, implicit_copy}
 use Rattle.region_forms.specs.Form.{RegionFunction}
 use Rattle.region_forms.specs.Layout.{Layout}
 use Rattle.region_forms.specs.Numbering.{sum_of, class_functions, number_of}

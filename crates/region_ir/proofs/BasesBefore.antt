@@ -7,7 +7,7 @@ use Rattle.std.specs.Cmp.Derive.{both_true}
 use Rattle.cxx_ast.specs.declared.name.Name.{Name}
 use Rattle.cxx_ast.specs.Plain.{Class, Checked}
 use Rattle.cxx_ast.specs.Checked.{IsChecked}
-use Rattle.scope_rules.specs.Class.{ObjectType, base_part, member_part}
+use Rattle.meaning_forms.specs.Class.{ObjectType, base_part, member_part}
 use Rattle.region_forms.specs.Layout.{ClassLayout, class_layout}
 use Rattle.region_forms.specs.Numbering.{base_number, class_row, class_rows, type_rows}
 use Rattle.region_forms.specs.WellFormed.{rows_test}

@@ -2,7 +2,7 @@
 use Rattle.std.proofs.Common.{◌≡◌, ◌≢◌, ℕ, List, [], ◌∷◌, length, refl, ap}
 use Rattle.cxx_ast.specs.declared.expression.Expr.{Expr}
 use Rattle.cxx_ast.specs.View.{expressions_of}
-use Rattle.scope_rules.specs.Construct.{constructor_for}
+use Rattle.meaning_forms.specs.Construct.{constructor_for}
 use Rattle.scope_flow.proofs.Counted.{counted}
 use Rattle.region_forms.specs.LowerExpression.{Lowering, constructor_chosen}
 

@@ -5,8 +5,8 @@ use Rattle.cxx_ast.specs.declared.name.Name.{Name}
 use Rattle.cxx_ast.specs.declared.types.Ty.{Ty}
 use Rattle.cxx_ast.specs.Plain.{Expressions}
 use Rattle.cxx_ast.specs.View.{expressions_of}
-use Rattle.scope_rules.specs.Running.{Constructor, constructor}
-use Rattle.scope_rules.specs.Expression.{constructor_types}
+use Rattle.meaning_forms.specs.Running.{Constructor, constructor}
+use Rattle.meaning_forms.specs.Expression.{constructor_types}
 use Rattle.region_forms.specs.Form.{Arguments, Callee, Place, Region, argument_then, arguments_from, construct, op}
 use Rattle.region_forms.specs.Numbering.{number_of}
 use Rattle.region_forms.specs.LowerExpression.{Lowering, LoweredCall, constructed, constructor_chosen, lower_arguments, lower_construct}

@@ -12,7 +12,7 @@ use Rattle.cxx_ast.specs.Written.{Member, data_member, function_member, Written,
 use Rattle.cxx_ast.specs.Resolve.{resolve_params, resolve_function}
 use Rattle.cxx_ast.specs.Declare.{at_the_start, next_class, declare_behind, head_environment, head_scope, function_scope}
 use Rattle.cxx_ast.specs.Checked.{resolve_methods, resolve_declarations, classes_of, checked, IsChecked}
-use Rattle.scope_rules.specs.Construct.{is_destructor}
+use Rattle.meaning_forms.specs.Construct.{is_destructor}
 use Rattle.region_forms.specs.WellFormed.{every}
 use Rattle.region_ir.specs.Specials.{destructor_alone, destructors_alone}
 

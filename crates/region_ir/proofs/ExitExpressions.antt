@@ -9,7 +9,7 @@ use Rattle.cxx_ast.specs.declared.types.Ty.{Ty}
 use Rattle.cxx_ast.specs.declared.expression.BinaryOp.{BinaryOp}
 use Rattle.cxx_ast.specs.declared.expression.BinaryOp.TheVariants.{And, Or}
 use Rattle.cxx_ast.specs.Plain.{Expression, number, path, paren, unary, binary, call, std_call, Expressions, no_expressions, expression_then}
-use Rattle.scope_rules.specs.Expression.{lvalue_of, names_of, callee_bound, parameter_types, constructor_types}
+use Rattle.meaning_forms.specs.Expression.{lvalue_of, names_of, callee_bound, parameter_types, constructor_types}
 use Rattle.region_forms.specs.Form.{Place, Region, op, evaluate, regions_from}
 use Rattle.region_forms.specs.LowerExpression.{Lowering, Lowered, LoweredArguments, has_call, some_call, both, given_before, int_passed, address_passed, refers, place_of, lower, lower_arguments, dropped, constructor_chosen, lower_construct}
 use Rattle.region_ir.specs.Exits.{exits_inside, all_exits_inside}

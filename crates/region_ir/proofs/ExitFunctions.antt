@@ -7,8 +7,8 @@ use Rattle.cxx_ast.specs.declared.declaration.FuncKind.{FuncKind}
 use Rattle.cxx_ast.specs.declared.declaration.FuncKind.TheVariants.{Constructor, Destructor}
 use Rattle.cxx_ast.specs.Plain.{Checked, Function, Expressions, no_expressions, expression_then}
 use Rattle.cxx_ast.specs.Checked.{IsChecked}
-use Rattle.scope_rules.specs.Class.{ObjectType, int_type, class_type, class_at, no_class, parts_of}
-use Rattle.scope_rules.specs.Call.{initialiser_for, statements_in}
+use Rattle.meaning_forms.specs.Class.{ObjectType, int_type, class_type, class_at, no_class, parts_of}
+use Rattle.meaning_forms.specs.Call.{initialiser_for, statements_in}
 use Rattle.region_forms.specs.Form.{Place, Region, RegionFunction}
 use Rattle.region_forms.specs.Layout.{Layout}
 use Rattle.region_forms.specs.Numbering.{variables_of}

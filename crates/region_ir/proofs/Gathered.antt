@@ -6,7 +6,7 @@ use Rattle.cxx_ast.specs.declared.declaration.ClassDecl.{ClassDecl}
 use Rattle.cxx_ast.specs.declared.program.Checked.{Checked as CheckedValue}
 use Rattle.cxx_ast.specs.Plain.{Checked}
 use Rattle.cxx_ast.specs.View.{checked_of, class_of}
-use Rattle.scope_rules.specs.Class.{class_at, no_class}
+use Rattle.meaning_forms.specs.Class.{class_at, no_class}
 use Rattle.region_forms.specs.Form.{RegionFunction}
 use Rattle.region_forms.specs.Layout.{Layout}
 use Rattle.region_forms.specs.LowerProgram.{functions_of_class, functions_of_classes}

@@ -8,7 +8,7 @@ use Rattle.std.specs.Cmp.Derive.{both_true}
 use Rattle.cxx_ast.specs.declared.types.Ty.{Ty}
 use Rattle.cxx_ast.specs.Plain.{Checked, Class}
 use Rattle.cxx_ast.specs.Checked.{IsChecked}
-use Rattle.scope_rules.specs.Class.{ObjectType, int_type, class_type, class_at, no_class, parts_of}
+use Rattle.meaning_forms.specs.Class.{ObjectType, int_type, class_type, class_at, no_class, parts_of}
 use Rattle.region_forms.specs.Form.{Slot, Region, regions_from}
 use Rattle.region_forms.specs.Layout.{Layout, ClassLayout, class_layout, class_parts, laid_part, layout_of}
 use Rattle.region_forms.specs.LowerStatement.{nothing_more}

@@ -24,7 +24,7 @@ use Rattle.cxx_ast.specs.DeclaredNames.{once_only_found}
 use Rattle.cxx_ast.specs.Broken.{Valid, broken, declaration_found, declarations_found, has_main, function_name_found}
 use Rattle.cxx_ast.specs.Checked.{resolve_methods, resolve_class_tree, resolve_declarations, classes_of, functions_of, checked, IsChecked}
 use Rattle.cxx_rules.proofs.ScopeLaws.{behind_within}
-use Rattle.scope_rules.specs.Call.{statements_in}
+use Rattle.meaning_forms.specs.Call.{statements_in}
 use Rattle.region_forms.specs.WellFormed.{every}
 use Rattle.region_ir.specs.Exits.{jumps_stand, else_jumps_stand, all_jumps_stand, handler_jumps_stand, function_jumps_stand, class_jumps_stand, program_jumps_stand}
 use Rattle.region_ir.proofs.Sound.{Sound, sound_parts, held, nothing_refused}

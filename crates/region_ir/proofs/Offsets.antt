@@ -6,7 +6,7 @@ use Rattle.cxx_ast.specs.View.{option_of}
 use Rattle.cxx_ast.specs.declared.name.Name.{Name}
 use Rattle.cxx_ast.specs.declared.name.Bound.{Bound}
 use Rattle.cxx_ast.specs.declared.name.Bound.TheVariants.{Free, Global, Local, Field, Class, Func, Method, Builtin}
-use Rattle.scope_rules.specs.Class.{class_at, class_named}
+use Rattle.meaning_forms.specs.Class.{class_at, class_named}
 use Rattle.region_forms.specs.Layout.{Layout, laid_member, laid_part, layout_at, offset_of_part}
 use Rattle.region_forms.specs.LowerExpression.{Lowering, members_offset}
 use Rattle.region_ir.specs.Given.{offset_named}

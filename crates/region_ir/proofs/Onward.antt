@@ -5,7 +5,7 @@ use Rattle.std.proofs.lemmas.List.{append-nil}
 use Rattle.std.specs.Prelude.{if◌then◌else◌, nat_lt}
 use Rattle.cxx_ast.specs.declared.types.Ty.{Ty}
 use Rattle.cxx_ast.specs.Plain.{Expression, Expressions, no_expressions, expression_then}
-use Rattle.scope_rules.specs.Expression.{lvalue_of, names_of}
+use Rattle.meaning_forms.specs.Expression.{lvalue_of, names_of}
 use Rattle.region_forms.specs.Form.{Argument, Place, Region}
 use Rattle.region_forms.specs.LowerExpression.{Lowering, Lowered, LoweredArguments, has_call, some_call, lower, lower_arguments, refers, place_of, stored_in, address_passed, int_passed}
 use Rattle.region_ir.specs.declared.value.Arg.{Arg as ArgTree}

@@ -4,7 +4,7 @@ use Rattle.std.specs.Prelude.{if◌then◌else◌}
 use Rattle.cxx_ast.specs.declared.expression.BinaryOp.{BinaryOp}
 use Rattle.cxx_ast.specs.declared.types.Ty.{Ty}
 use Rattle.cxx_ast.specs.Plain.{Expression, number, path, paren, unary, binary, call, std_call, Expressions, no_expressions, expression_then}
-use Rattle.scope_rules.specs.Expression.{lvalue_of, names_of}
+use Rattle.meaning_forms.specs.Expression.{lvalue_of, names_of}
 use Rattle.region_forms.specs.Form.{Place, Value, binary as binary_value}
 use Rattle.region_forms.specs.LowerExpression.{Lowering, Lowered, LoweredArguments, has_call, some_call, both, lower, lower_arguments, refers, place_of, address_passed, int_passed}
 

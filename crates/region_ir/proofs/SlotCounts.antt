@@ -6,7 +6,7 @@ use Rattle.std.specs.Cmp.Derive.{both_true}
 use Rattle.cxx_ast.specs.declared.types.Ty.{Ty}
 use Rattle.cxx_ast.specs.declared.types.Ty.TheVariants.{Int}
 use Rattle.cxx_ast.specs.Plain.{Checked, Function}
-use Rattle.scope_rules.specs.Class.{class_at, parts_of}
+use Rattle.meaning_forms.specs.Class.{class_at, parts_of}
 use Rattle.region_forms.specs.Form.{Slot, help_slot, Region, kinds_of, in_order}
 use Rattle.region_forms.specs.Layout.{Layout}
 use Rattle.region_forms.specs.Mentioned.{slots_of}

@@ -9,9 +9,9 @@ use Rattle.cxx_ast.specs.declared.types.Ty.TheVariants.{Int, Void, Object, IntRe
 use Rattle.cxx_ast.specs.declared.types.Param.{Param}
 use Rattle.cxx_ast.specs.Plain.{Checked, Function}
 use Rattle.cxx_ast.specs.Checked.{IsChecked}
-use Rattle.scope_rules.specs.Class.{class_at, no_class, no_function, method_at}
-use Rattle.scope_rules.specs.Construct.{is_constructor, is_destructor, is_const_ref_to, takes_copy, is_copy_constructor, is_constructor_with, place_from, declared_or, constructor_for, copy_constructor, destructor_place}
-use Rattle.scope_rules.specs.Running.{Callee, constructor, destructor, declared, implicit_default, implicit_copy}
+use Rattle.meaning_forms.specs.Class.{class_at, no_class, no_function, method_at}
+use Rattle.meaning_forms.specs.Construct.{is_constructor, is_destructor, is_const_ref_to, takes_copy, is_copy_constructor, is_constructor_with, place_from, declared_or, constructor_for, copy_constructor, destructor_place}
+use Rattle.meaning_forms.specs.Running.{Callee, constructor, destructor, declared, implicit_default, implicit_copy}
 use Rattle.region_forms.specs.Form.{Place, Region, Arguments, no_arguments, address_argument, arguments_from, function_at, no_function as no_region_function}
 use Rattle.region_forms.specs.Layout.{Layout}
 use Rattle.region_forms.specs.Numbering.{number_of, declared_in_body, variables_of}

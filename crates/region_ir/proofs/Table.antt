@@ -6,8 +6,8 @@ use Rattle.std.specs.Prelude.{slice_get, unwrap_or}
 use Rattle.cxx_ast.specs.Plain.{Checked, Class}
 use Rattle.cxx_ast.specs.View.{checked_of, function_of, class_of}
 use Rattle.cxx_ast.specs.declared.program.Checked.{Checked as CheckedValue}
-use Rattle.scope_rules.specs.Class.{class_at, no_class}
-use Rattle.scope_rules.specs.Construct.{destructor_place, is_destructor, place_from}
+use Rattle.meaning_forms.specs.Class.{class_at, no_class}
+use Rattle.meaning_forms.specs.Construct.{destructor_place, is_destructor, place_from}
 use Rattle.region_forms.specs.Numbering.{sum_of, class_functions, first_function, first_implicit, destructor_number}
 use Rattle.region_ir.specs.declared.numbers.ClassNumbers.{ClassNumbers}
 use Rattle.region_ir.specs.Numbered.{found, numbers_in}

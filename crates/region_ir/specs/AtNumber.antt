@@ -1,9 +1,9 @@
 -- The functions of a program's regions by their numbers.
 use Rattle.std.specs.Prelude.{ℕ, ◌<◌, ◌==◌, false, true, length, Option, Some, None}
 use Rattle.cxx_ast.specs.Plain.{Checked}
-use Rattle.scope_rules.specs.Class.{class_at, function_at, method_at}
-use Rattle.scope_rules.specs.Construct.{destructor_place}
-use Rattle.scope_rules.specs.Running.{Callee, function, method, constructor, destructor, declared, implicit_default, implicit_copy}
+use Rattle.meaning_forms.specs.Class.{class_at, function_at, method_at}
+use Rattle.meaning_forms.specs.Construct.{destructor_place}
+use Rattle.meaning_forms.specs.Running.{Callee, function, method, constructor, destructor, declared, implicit_default, implicit_copy}
 use Rattle.region_forms.specs.Form.{RegionFunction}
 use Rattle.region_forms.specs.Layout.{Layout}
 use Rattle.region_forms.specs.LowerProgram.{declared_function, implicit_default_function, implicit_copy_function, implicit_destructor_function}

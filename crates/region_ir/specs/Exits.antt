@@ -1,7 +1,7 @@
 -- Where exits lead: each leaves regions that hold it, since each jump of the source stands in a loop.
 use Rattle.std.specs.Prelude.{ℕ, ◌+◌, Bool, true, false, ◌&&◌, nat_le}
 use Rattle.cxx_ast.specs.Plain.{Class, Function, Statement, block, if_else, while, break, continue, try, Else, no_else, else_do, Statements, no_statements, statement_then, Handlers, no_handlers, handler_then, Checked}
-use Rattle.scope_rules.specs.Call.{statements_in}
+use Rattle.meaning_forms.specs.Call.{statements_in}
 use Rattle.region_forms.specs.Form.{Region, seq, op, branch, loop, protect, catch, limit, barrier, leave_region, RegionList, no_regions, region_then, Clauses, no_clauses, clause_then, Regions}
 use Rattle.region_forms.specs.WellFormed.{every}
 

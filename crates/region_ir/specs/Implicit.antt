@@ -1,7 +1,7 @@
 -- What is asked of the operations, cleanups and clauses of implicit functions, and of those that are declared.
 use Rattle.std.specs.Prelude.{ℕ, ◌≡◌, ◌<◌, Bool, true, false, length, Some, slice_get}
 use Rattle.cxx_ast.specs.Plain.{Checked, Function}
-use Rattle.scope_rules.specs.Class.{class_at}
+use Rattle.meaning_forms.specs.Class.{class_at}
 use Rattle.region_forms.specs.Form.{RegionFunction, Regions}
 use Rattle.region_forms.specs.Layout.{Layout}
 use Rattle.region_forms.specs.LowerProgram.{declared_function, implicit_default_function, implicit_copy_function, implicit_destructor_function, regions_of}

@@ -1,7 +1,7 @@
 -- The numbers of a class's functions, kept in a table.
 use Rattle.std.specs.Prelude.{ℕ, List, slice_get, unwrap_or}
 use Rattle.cxx_ast.specs.Plain.{Checked}
-use Rattle.scope_rules.specs.Construct.{destructor_place}
+use Rattle.meaning_forms.specs.Construct.{destructor_place}
 use Rattle.region_forms.specs.Numbering.{first_function, first_implicit, destructor_number}
 use Rattle.region_ir.specs.declared.numbers.ClassNumbers.{ClassNumbers}
 

@@ -5,7 +5,7 @@ use Rattle.cxx_ast.specs.declared.name.Bound.TheVariants.{Builtin as BuiltinBoun
 use Rattle.cxx_ast.specs.declared.name.Builtin.TheVariants.{SetTerminate, SetUnexpected}
 use Rattle.cxx_ast.specs.declared.name.Name.{Name}
 use Rattle.cxx_ast.specs.Plain.{Expression, Expressions, no_expressions, expression_then}
-use Rattle.scope_rules.specs.Expression.{callee_bound, lvalue_of, names_of, parameter_types, receiver}
+use Rattle.meaning_forms.specs.Expression.{callee_bound, lvalue_of, names_of, parameter_types, receiver}
 use Rattle.region_forms.specs.Form.{Argument, Region}
 use Rattle.region_forms.specs.LowerExpression.{Lowering, LoweredArguments, LoweredCall, place_of, has_call, lower, lower_arguments, call_of, address_passed, int_passed}
 use Rattle.region_ir.specs.declared.value.Arg.{Arg as ArgTree}

@@ -1,8 +1,8 @@
 -- How the parts of an object are built.
 use Rattle.std.specs.Prelude.{ℕ, List, map}
 use Rattle.cxx_ast.specs.View.{initialiser_of}
-use Rattle.scope_rules.specs.Class.{ObjectType}
-use Rattle.scope_rules.specs.Call.{initialiser_for}
+use Rattle.meaning_forms.specs.Class.{ObjectType}
+use Rattle.meaning_forms.specs.Call.{initialiser_for}
 use Rattle.region_forms.specs.Form.{Region}
 use Rattle.region_forms.specs.LowerExpression.{Lowering}
 use Rattle.region_forms.specs.LowerProgram.{default_part, copy_part, initial_part}

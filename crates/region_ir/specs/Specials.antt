@@ -1,8 +1,8 @@
 -- The functions that are called for objects themselves: destructors, copy constructors and default constructors.
 use Rattle.std.specs.Prelude.{ℕ, ◌≡◌, ◌==◌, Bool, true, [], ◌∷◌, length, if◌then◌else◌}
 use Rattle.cxx_ast.specs.Plain.{Class, Function, Checked}
-use Rattle.scope_rules.specs.Construct.{is_destructor, copy_constructor, constructor_for}
-use Rattle.scope_rules.specs.Running.{constructor, destructor}
+use Rattle.meaning_forms.specs.Construct.{is_destructor, copy_constructor, constructor_for}
+use Rattle.meaning_forms.specs.Running.{constructor, destructor}
 use Rattle.region_forms.specs.Form.{Place, address_argument, no_arguments, arguments_from}
 use Rattle.region_forms.specs.Layout.{Layout}
 use Rattle.region_forms.specs.LowerProgram.{regions_of}

@@ -1,7 +1,7 @@
 // What is called, and which constructor arguments select.
 ghost use Rattle.std.specs.Prelude.{◌≡◌, IfOk, map};
 ghost use Rattle.cxx_ast.specs.View.{checked_of, expression_of, expressions_of};
-ghost use Rattle.scope_rules.specs.Expression.{lvalue_of};
+ghost use Rattle.meaning_forms.specs.Expression.{lvalue_of};
 ghost use Rattle.scope_world.specs.Objects.{type_of};
 ghost use Rattle.scope_flow.specs.Asked.{constructor_of, parameter_types_of};
 ghost use Rattle.region_forms.specs.LowerExpression as rules;

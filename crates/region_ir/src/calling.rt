@@ -1,7 +1,7 @@
 // Calls with their arguments.
 ghost use Rattle.std.specs.Prelude.{◌≡◌, ◌++◌, List, map, IfOk, OnOk};
 ghost use Rattle.cxx_ast.specs.View.{expressions_of};
-ghost use Rattle.scope_rules.specs.Expression.{function_named};
+ghost use Rattle.meaning_forms.specs.Expression.{function_named};
 ghost use Rattle.region_forms.specs.Form.{Region as RegionMeant, call_value};
 ghost use Rattle.region_forms.specs.LowerExpression as rules;
 ghost use Rattle.region_forms.specs.LowerExpression.{Lowered as LoweredMeant, LoweredCall as CallMeant};

@@ -1,6 +1,6 @@
 // What handlers and specifications are lowered to: copies, parameters, and the numbers of types.
 ghost use Rattle.std.specs.Prelude.{◌≡◌, ◌∷◌, [], map, IfOk};
-ghost use Rattle.scope_rules.specs.Class.{object_type};
+ghost use Rattle.meaning_forms.specs.Class.{object_type};
 ghost use Rattle.region_forms.specs.Numbering.{type_number};
 ghost use Rattle.region_forms.specs.LowerStatement as rules;
 ghost use Rattle.region_ir.specs.Given.{lowering_of};

@@ -2,7 +2,7 @@
 ghost use Rattle.std.specs.Prelude.{◌≡◌, [], if◌then◌else◌, map, IfOk};
 ghost use Rattle.cxx_ast.specs.View.{checked_of, class_of, function_of as function_meant};
 ghost use Rattle.class_layout.specs.View.{laid_out};
-ghost use Rattle.scope_rules.specs.Class.{class_at, parts_of};
+ghost use Rattle.meaning_forms.specs.Class.{class_at, parts_of};
 ghost use Rattle.region_forms.specs.LowerProgram as rules;
 ghost use Rattle.region_forms.specs.LowerStatement.{nothing_more};
 ghost use Rattle.region_ir.specs.Given.{lowering_of};

@@ -1,7 +1,7 @@
 // Which initialiser of a constructor builds a part.
 ghost use Rattle.std.specs.Prelude.{◌≡◌, map};
 ghost use Rattle.cxx_ast.specs.View.{checked_of, expressions_of, initialiser_of, option_of};
-ghost use Rattle.scope_rules.specs.Call as rules;
+ghost use Rattle.meaning_forms.specs.Call as rules;
 
 use cxx_ast::declaration::Init;
 use cxx_ast::expression::Expr;

@@ -3,7 +3,7 @@ ghost use Rattle.std.specs.Prelude.{ℕ, ◌≡◌, ◌<◌, Bool, true, List, S
 ghost use Rattle.cxx_ast.specs.declared.types.Ty.{Ty};
 ghost use Rattle.cxx_ast.specs.Plain.{Checked};
 ghost use Rattle.cxx_ast.specs.Checked.{IsChecked};
-ghost use Rattle.scope_rules.specs.Running.{Callee};
+ghost use Rattle.meaning_forms.specs.Running.{Callee};
 ghost use Rattle.region_forms.specs.Form.{Region};
 ghost use Rattle.region_forms.specs.Layout.{Layout, layout_of};
 ghost use Rattle.region_forms.specs.LowerProgram.{regions_of};

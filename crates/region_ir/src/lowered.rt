@@ -2,7 +2,7 @@
 ghost use Rattle.std.specs.Prelude.{◌≡◌, ◌++◌, true, false, map, length, IfOk, OnOk};
 ghost use Rattle.cxx_ast.specs.View.{checked_of, class_of, function_of as function_meant};
 ghost use Rattle.class_layout.specs.View.{laid_out};
-ghost use Rattle.scope_rules.specs.Class.{class_at};
+ghost use Rattle.meaning_forms.specs.Class.{class_at};
 ghost use Rattle.region_forms.specs.LowerProgram as rules;
 ghost use Rattle.region_ir.specs.Shape.{all_shaped};
 ghost use Rattle.region_ir.specs.View.{function_of, regions_view};

@@ -1,7 +1,7 @@
 // How the functions and types of a program are numbered.
 ghost use Rattle.std.specs.Prelude.{◌≡◌, ℕ, IfOk};
 ghost use Rattle.cxx_ast.specs.View.{checked_of};
-ghost use Rattle.scope_rules.specs.Running.{constructor, destructor, method};
+ghost use Rattle.meaning_forms.specs.Running.{constructor, destructor, method};
 ghost use Rattle.scope_flow.specs.Asked.{constructor_of};
 ghost use Rattle.scope_world.specs.Objects.{type_of};
 ghost use Rattle.region_forms.specs.Numbering as rules;

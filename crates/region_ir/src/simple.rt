@@ -1,8 +1,8 @@
 // What statements are lowered to that go no deeper into the tree than an expression.
 ghost use Rattle.std.specs.Prelude.{◌≡◌, ◌++◌, ◌∷◌, [], true, false, map, IfOk, OnOk};
 ghost use Rattle.cxx_ast.specs.View.{expression_of, option_of};
-ghost use Rattle.scope_rules.specs.Frame.{local_number};
-ghost use Rattle.scope_rules.specs.Running.{destructor};
+ghost use Rattle.meaning_forms.specs.Frame.{local_number};
+ghost use Rattle.meaning_forms.specs.Running.{destructor};
 ghost use Rattle.region_forms.specs.Form.{branch, destroy_scope, leave_region, op, protect, store};
 ghost use Rattle.region_forms.specs.LowerExpression.{first_temporary, has_call, lower};
 ghost use Rattle.region_forms.specs.LowerStatement as rules;

@@ -2,7 +2,7 @@
 // between calls.
 ghost use Rattle.std.specs.Prelude.{◌≡◌, ◌++◌, ◌∷◌, [], true, map, replicate, IfOk, OnOk};
 ghost use Rattle.class_layout.specs.View.{laid_out};
-ghost use Rattle.scope_rules.specs.Class.{class_type};
+ghost use Rattle.meaning_forms.specs.Class.{class_type};
 ghost use Rattle.region_forms.specs.Layout.{laid_size};
 ghost use Rattle.region_forms.specs.LowerProgram as rules;
 ghost use Rattle.region_ir.specs.Given.{lowering_of};

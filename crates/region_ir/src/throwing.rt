@@ -1,8 +1,8 @@
 // What is thrown: the exception object is made, built, and thrown.
 ghost use Rattle.std.specs.Prelude.{◌≡◌, ◌++◌, ◌∷◌, [], map, OnOk};
 ghost use Rattle.cxx_ast.specs.View.{expression_of, expressions_of, option_of};
-ghost use Rattle.scope_rules.specs.Class.{class_type};
-ghost use Rattle.scope_rules.specs.Expression.{lvalue_of};
+ghost use Rattle.meaning_forms.specs.Class.{class_type};
+ghost use Rattle.meaning_forms.specs.Expression.{lvalue_of};
 ghost use Rattle.scope_world.specs.Objects.{type_of};
 ghost use Rattle.region_forms.specs.LowerExpression.{lvalue_type, place_of};
 ghost use Rattle.region_forms.specs.LowerStatement as rules;

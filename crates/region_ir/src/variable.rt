@@ -2,7 +2,7 @@
 ghost use Rattle.std.specs.Prelude.{◌≡◌, ◌++◌, ◌∷◌, [], map, IfOk, OnOk};
 ghost use Rattle.cxx_ast.specs.View.{function_of, statement_of, statements_of};
 ghost use Rattle.cxx_rules.specs.Walk.{handlers_of};
-ghost use Rattle.scope_rules.specs.Class.{object_type};
+ghost use Rattle.meaning_forms.specs.Class.{object_type};
 ghost use Rattle.scope_world.specs.Objects.{type_of};
 ghost use Rattle.region_forms.specs.Numbering as rules;
 ghost use Rattle.region_ir.specs.Variables.{declared_by, type_in};

@@ -1,11 +1,11 @@
 -- Assignments.
 use Rattle.std.proofs.Common.{◌≡◌, ℤ, List, [], ◌∷◌, Some, refl, sym, ap, ◌∙◌, subst, arith, true}
 use Rattle.cxx_ast.specs.declared.name.Name.{Name}
-use Rattle.scope_rules.specs.Class.{int_type}
-use Rattle.scope_rules.specs.World.{object_at, written as source_written}
-use Rattle.scope_rules.specs.Part.{cell, with_part_at}
-use Rattle.scope_rules.specs.Frame.{lvalue}
-use Rattle.scope_rules.specs.Outcome.{Action as SourceAction, write}
+use Rattle.meaning_forms.specs.Class.{int_type}
+use Rattle.meaning_forms.specs.World.{object_at, written as source_written}
+use Rattle.meaning_forms.specs.Part.{cell, with_part_at}
+use Rattle.meaning_forms.specs.Frame.{lvalue}
+use Rattle.meaning_forms.specs.Outcome.{Action as SourceAction, write}
 use Rattle.region_forms.specs.Form.{Value, op, store, regions_from}
 use Rattle.region_forms.specs.World.{Address, written}
 use Rattle.region_forms.specs.Evaluation.{in_memory, locate, value_in}

@@ -3,13 +3,13 @@ use Rattle.std.proofs.Common.{◌≡◌, ℕ, zero, suc, ◌<◌, ◌≤◌, ℤ
 use Rattle.std.specs.Prelude.{slice_get, unwrap_or}
 use Rattle.cxx_ast.specs.declared.types.Ty.{Ty}
 use Rattle.cxx_ast.specs.Plain.{Checked}
-use Rattle.scope_rules.specs.Part.{cell, part_at}
-use Rattle.scope_rules.specs.World.{World as SourceWorld, native}
-use Rattle.scope_rules.specs.Context.{Context as SourceContext}
-use Rattle.scope_rules.specs.Frame.{Frame as SourceFrame}
-use Rattle.scope_rules.specs.Running.{Argument as SourceArgument, by_value, by_reference}
-use Rattle.scope_rules.specs.Outcome.{done as source_done, Action as SourceAction, ◌>>=◌}
-use Rattle.scope_rules.specs.Expression.{value_at}
+use Rattle.meaning_forms.specs.Part.{cell, part_at}
+use Rattle.meaning_forms.specs.World.{World as SourceWorld, native}
+use Rattle.meaning_forms.specs.Context.{Context as SourceContext}
+use Rattle.meaning_forms.specs.Frame.{Frame as SourceFrame}
+use Rattle.meaning_forms.specs.Running.{Argument as SourceArgument, by_value, by_reference}
+use Rattle.meaning_forms.specs.Outcome.{done as source_done, Action as SourceAction, ◌>>=◌}
+use Rattle.meaning_forms.specs.Expression.{value_at}
 use Rattle.region_forms.specs.Form.{load, call_value, Callee, arguments_from, regions_from}
 use Rattle.region_forms.specs.Layout.{Layout}
 use Rattle.region_forms.specs.World.{Address, Word, World}

@@ -1,11 +1,11 @@
 -- Calls whose values are stored.
 use Rattle.std.proofs.Common.{◌≡◌, ℕ, ◌≤◌, ℤ, List, [], ◌∷◌, ◌++◌, Option, Some, refl, sym, ap, ◌∙◌, subst, arith}
 use Rattle.cxx_ast.specs.declared.types.Ty.{Ty}
-use Rattle.scope_rules.specs.World.{Reference, World as SourceWorld}
-use Rattle.scope_rules.specs.Context.{Context as SourceContext}
-use Rattle.scope_rules.specs.Frame.{Frame as SourceFrame}
-use Rattle.scope_rules.specs.Running.{Argument as SourceArgument, Callee}
-use Rattle.scope_rules.specs.Outcome.{Result as SourceResult, done as source_done, stopped as source_stopped, thrown, cancelled, ended, undefined, out_of_turns, deep, Action as SourceAction, ◌>>=◌}
+use Rattle.meaning_forms.specs.World.{Reference, World as SourceWorld}
+use Rattle.meaning_forms.specs.Context.{Context as SourceContext}
+use Rattle.meaning_forms.specs.Frame.{Frame as SourceFrame}
+use Rattle.meaning_forms.specs.Running.{Argument as SourceArgument, Callee}
+use Rattle.meaning_forms.specs.Outcome.{Result as SourceResult, done as source_done, stopped as source_stopped, thrown, cancelled, ended, undefined, out_of_turns, deep, Action as SourceAction, ◌>>=◌}
 use Rattle.region_forms.specs.Form.{load, call_value, defined, Argument, arguments_from, regions_from}
 use Rattle.region_forms.specs.World.{Word}
 use Rattle.region_forms.specs.Evaluation.{slot_location, words_in}

@@ -4,12 +4,12 @@ use Rattle.std.specs.Prelude.{not, if◌then◌else◌}
 use Rattle.std.proofs.lemmas.Bool.Decides.{nat_tests}
 use Rattle.cxx_ast.specs.declared.expression.BinaryOp.{BinaryOp}
 use Rattle.cxx_ast.specs.declared.expression.BinaryOp.TheVariants.{And, Or, NotEqual}
-use Rattle.scope_rules.specs.Arithmetic.{is_zero, truth, int_equal, binary_value, decided}
-use Rattle.scope_rules.specs.World.{World as SourceWorld}
-use Rattle.scope_rules.specs.Context.{Context as SourceContext}
-use Rattle.scope_rules.specs.Frame.{Frame as SourceFrame}
-use Rattle.scope_rules.specs.Expression.{with_right_side}
-use Rattle.scope_rules.specs.Outcome.{Result as SourceResult, done as source_done, Action as SourceAction, ◌>>=◌}
+use Rattle.meaning_forms.specs.Arithmetic.{is_zero, truth, int_equal, binary_value, decided}
+use Rattle.meaning_forms.specs.World.{World as SourceWorld}
+use Rattle.meaning_forms.specs.Context.{Context as SourceContext}
+use Rattle.meaning_forms.specs.Frame.{Frame as SourceFrame}
+use Rattle.meaning_forms.specs.Expression.{with_right_side}
+use Rattle.meaning_forms.specs.Outcome.{Result as SourceResult, done as source_done, Action as SourceAction, ◌>>=◌}
 use Rattle.region_forms.specs.Form.{Value, number, load, Region, branch, regions_from, in_order}
 use Rattle.region_forms.specs.World.{Frame, World}
 use Rattle.region_forms.specs.Evaluation.{with_some, with_right, value_in}

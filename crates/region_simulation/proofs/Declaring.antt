@@ -2,10 +2,10 @@
 use Rattle.std.proofs.Common.{◌≡◌, ℕ, ◌+◌, ◌<◌, ◌⊎◌, inl, inr, Bool, true, false, ◌∷◌, Option, Some, None, refl, sym, ap, ◌∙◌, subst, arith}
 use Rattle.std.specs.Prelude.{◌==◌, ◌||◌, if◌then◌else◌}
 use Rattle.std.proofs.lemmas.Bool.Decides.{nat_tests}
-use Rattle.scope_rules.specs.Class.{object_type}
-use Rattle.scope_rules.specs.World.{World as SourceWorld, Reference}
-use Rattle.scope_rules.specs.Context.{Context as SourceContext}
-use Rattle.scope_rules.specs.Frame.{Frame as SourceFrame, variable_in}
+use Rattle.meaning_forms.specs.Class.{object_type}
+use Rattle.meaning_forms.specs.World.{World as SourceWorld, Reference}
+use Rattle.meaning_forms.specs.Context.{Context as SourceContext}
+use Rattle.meaning_forms.specs.Frame.{Frame as SourceFrame, variable_in}
 use Rattle.region_forms.specs.World.{of_variable}
 use Rattle.region_forms.specs.Outcome.{State}
 use Rattle.region_forms.specs.LowerExpression.{Lowering, variable_type}

@@ -9,14 +9,14 @@ use Rattle.cxx_ast.specs.declared.name.Name.{Name}
 use Rattle.cxx_ast.specs.declared.types.Ty.{Ty}
 use Rattle.cxx_ast.specs.declared.types.Ty.TheVariants.{Int, Void, Object, IntRef, ObjectRef}
 use Rattle.cxx_ast.specs.Plain.{Expression, number, path, paren, unary, binary, call, std_call, Expressions, no_expressions, expression_then}
-use Rattle.scope_rules.specs.Arithmetic.{decided}
-use Rattle.scope_rules.specs.Class.{int_type, class_named}
-use Rattle.scope_rules.specs.World.{Reference, nowhere, as_class}
-use Rattle.scope_rules.specs.Context.{Context as SourceContext}
-use Rattle.scope_rules.specs.Frame.{Frame as SourceFrame, lvalue}
-use Rattle.scope_rules.specs.Running.{Argument as SourceArgument, Callee, function, method}
-use Rattle.scope_rules.specs.Outcome.{Action as SourceAction, ◌>>=◌}
-use Rattle.scope_rules.specs.Expression.{lvalue_of, names_of, count_of, callee_bound, receiver, parameter_types, with_right_side, value_of, arguments, called}
+use Rattle.meaning_forms.specs.Arithmetic.{decided}
+use Rattle.meaning_forms.specs.Class.{int_type, class_named}
+use Rattle.meaning_forms.specs.World.{Reference, nowhere, as_class}
+use Rattle.meaning_forms.specs.Context.{Context as SourceContext}
+use Rattle.meaning_forms.specs.Frame.{Frame as SourceFrame, lvalue}
+use Rattle.meaning_forms.specs.Running.{Argument as SourceArgument, Callee, function, method}
+use Rattle.meaning_forms.specs.Outcome.{Action as SourceAction, ◌>>=◌}
+use Rattle.meaning_forms.specs.Expression.{lvalue_of, names_of, count_of, callee_bound, receiver, parameter_types, with_right_side, value_of, arguments, called}
 use Rattle.region_forms.specs.Form.{address_argument}
 use Rattle.region_forms.specs.World.{address_word}
 use Rattle.region_forms.specs.Ending.{Running}

@@ -2,9 +2,9 @@
 use Rattle.std.proofs.Common.{◌≡◌, ℕ, zero, suc, ◌<◌, ℤ, List, [], ◌∷◌, Option, Some, None, refl, sym, ap, ◌∙◌, subst, arith, length}
 use Rattle.std.specs.Prelude.{map, slice_get, unwrap_or}
 use Rattle.cxx_ast.specs.Plain.{Checked}
-use Rattle.scope_rules.specs.Class.{int_type}
-use Rattle.scope_rules.specs.Part.{cell, part_at}
-use Rattle.scope_rules.specs.Meaning.{global_object}
+use Rattle.meaning_forms.specs.Class.{int_type}
+use Rattle.meaning_forms.specs.Part.{cell, part_at}
+use Rattle.meaning_forms.specs.Meaning.{global_object}
 use Rattle.region_forms.specs.World.{of_global}
 use Rattle.region_forms.specs.Meaning.{global_memory}
 use Rattle.region_simulation.specs.Typed.{Shaped}

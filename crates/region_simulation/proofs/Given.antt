@@ -3,13 +3,13 @@ use Rattle.std.proofs.Common.{◌≡◌, ℕ, ◌+◌, ◌≤◌, ℤ, true, Lis
 use Rattle.cxx_ast.specs.declared.types.Ty.{Ty}
 use Rattle.cxx_ast.specs.declared.types.Ty.TheVariants.{Int}
 use Rattle.cxx_ast.specs.declared.name.Name.{Name}
-use Rattle.scope_rules.specs.Class.{object_type}
-use Rattle.scope_rules.specs.Expression.{is_reference}
-use Rattle.scope_rules.specs.World.{Reference, World as SourceWorld}
-use Rattle.scope_rules.specs.Context.{Context as SourceContext}
-use Rattle.scope_rules.specs.Frame.{Frame as SourceFrame}
-use Rattle.scope_rules.specs.Running.{Argument as SourceArgument, by_value, by_reference}
-use Rattle.scope_rules.specs.Outcome.{Action as SourceAction, pure as source_pure, ◌>>=◌}
+use Rattle.meaning_forms.specs.Class.{object_type}
+use Rattle.meaning_forms.specs.Expression.{is_reference}
+use Rattle.meaning_forms.specs.World.{Reference, World as SourceWorld}
+use Rattle.meaning_forms.specs.Context.{Context as SourceContext}
+use Rattle.meaning_forms.specs.Frame.{Frame as SourceFrame}
+use Rattle.meaning_forms.specs.Running.{Argument as SourceArgument, by_value, by_reference}
+use Rattle.meaning_forms.specs.Outcome.{Action as SourceAction, pure as source_pure, ◌>>=◌}
 use Rattle.region_forms.specs.Form.{load, Argument, int_argument, address_argument, arguments_from, regions_from}
 use Rattle.region_forms.specs.World.{number_word, address_word}
 use Rattle.region_forms.specs.Evaluation.{words_in}

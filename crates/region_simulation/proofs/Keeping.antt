@@ -5,10 +5,10 @@ use Rattle.cxx_ast.specs.declared.name.Bound.TheVariants.{Free, Global, Local, F
 use Rattle.cxx_ast.specs.declared.name.Name.{Name}
 use Rattle.cxx_ast.specs.declared.types.Ty.{Ty}
 use Rattle.cxx_ast.specs.declared.types.Ty.TheVariants.{Int, Void, Object, IntRef, ObjectRef}
-use Rattle.scope_rules.specs.Class.{ObjectType, class_type}
-use Rattle.scope_rules.specs.World.{Reference, World as SourceWorld, as_class}
-use Rattle.scope_rules.specs.Context.{Context as SourceContext}
-use Rattle.scope_rules.specs.Frame.{Frame as SourceFrame, lvalue}
+use Rattle.meaning_forms.specs.Class.{ObjectType, class_type}
+use Rattle.meaning_forms.specs.World.{Reference, World as SourceWorld, as_class}
+use Rattle.meaning_forms.specs.Context.{Context as SourceContext}
+use Rattle.meaning_forms.specs.Frame.{Frame as SourceFrame, lvalue}
 use Rattle.region_forms.specs.Form.{Kinds, Root, through}
 use Rattle.region_forms.specs.World.{Address, address_in, Frame}
 use Rattle.region_forms.specs.Evaluation.{slot_location, location_behind, location_address, root_location, locate, address_of, with_some}

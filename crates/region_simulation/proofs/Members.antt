@@ -6,10 +6,10 @@ use Rattle.cxx_ast.specs.declared.name.Bound.TheVariants.{Free, Global, Local, F
 use Rattle.cxx_ast.specs.declared.name.Name.{Name}
 use Rattle.cxx_ast.specs.declared.types.Param.{Param}
 use Rattle.cxx_ast.specs.Plain.{Checked}
-use Rattle.scope_rules.specs.Class.{ObjectType, int_type, class_type, class_at, object_type, derives, base_part, member_part, parts_of, member_place}
-use Rattle.scope_rules.specs.Part.{path_to_class}
-use Rattle.scope_rules.specs.World.{Reference, World, part_of, as_class, member, object_at}
-use Rattle.scope_rules.specs.Frame.{members_named, member_named}
+use Rattle.meaning_forms.specs.Class.{ObjectType, int_type, class_type, class_at, object_type, derives, base_part, member_part, parts_of, member_place}
+use Rattle.meaning_forms.specs.Part.{path_to_class}
+use Rattle.meaning_forms.specs.World.{Reference, World, part_of, as_class, member, object_at}
+use Rattle.meaning_forms.specs.Frame.{members_named, member_named}
 use Rattle.region_forms.specs.Layout.{Layout, layout_at, laid_part, laid_member, offset_of_part}
 use Rattle.region_forms.specs.World.{Address, behind}
 use Rattle.region_forms.specs.LowerExpression.{Lowering, member_type, members_offset}

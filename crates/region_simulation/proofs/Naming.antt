@@ -5,10 +5,10 @@ use Rattle.cxx_ast.specs.declared.name.Bound.TheVariants.{Free, Global, Local, F
 use Rattle.cxx_ast.specs.declared.name.Name.{Name}
 use Rattle.cxx_ast.specs.declared.types.Ty.{Ty}
 use Rattle.cxx_ast.specs.declared.types.Ty.TheVariants.{Int, Void, Object, IntRef, ObjectRef}
-use Rattle.scope_rules.specs.Class.{ObjectType, int_type, class_type}
-use Rattle.scope_rules.specs.World.{Reference, World as SourceWorld, whole}
-use Rattle.scope_rules.specs.Context.{Context as SourceContext}
-use Rattle.scope_rules.specs.Frame.{Frame as SourceFrame, named, lvalue}
+use Rattle.meaning_forms.specs.Class.{ObjectType, int_type, class_type}
+use Rattle.meaning_forms.specs.World.{Reference, World as SourceWorld, whole}
+use Rattle.meaning_forms.specs.Context.{Context as SourceContext}
+use Rattle.meaning_forms.specs.Frame.{Frame as SourceFrame, named, lvalue}
 use Rattle.region_forms.specs.Form.{Kinds, Root, through, in_global}
 use Rattle.region_forms.specs.Layout.{laid_member}
 use Rattle.region_forms.specs.World.{Address, of_global, address_word, address_in, Frame, behind}

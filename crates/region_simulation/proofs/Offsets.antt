@@ -2,7 +2,7 @@
 use Rattle.std.proofs.Common.{◌≡◌, ℕ, zero, suc, ◌+◌, ◌<◌, ◌≤◌, ◌⊎◌, inl, inr, List, [], ◌∷◌, Option, Some, None, refl, sym, ap, ap₂, ◌∙◌, subst, arith}
 use Rattle.std.specs.Prelude.{slice_get, unwrap_or}
 use Rattle.cxx_ast.specs.Plain.{Checked, Class}
-use Rattle.scope_rules.specs.Class.{ObjectType, int_type, class_type, parts_of, no_class}
+use Rattle.meaning_forms.specs.Class.{ObjectType, int_type, class_type, parts_of, no_class}
 use Rattle.region_forms.specs.Layout.{Layout, size_in, class_parts, part_offset}
 use Rattle.class_layout.specs.StandApart.{StandApart}
 use Rattle.region_simulation.specs.Typed.{type_along, offset_along}

@@ -2,8 +2,8 @@
 use Rattle.std.proofs.Common.{◌≡◌, ℕ, zero, suc, ◌⊎◌, inl, inr, ℤ, List, [], ◌∷◌, Option, Some, None, refl, sym, ap, ◌∙◌, subst, arith}
 use Rattle.std.specs.Prelude.{slice_get}
 use Rattle.cxx_ast.specs.Plain.{Checked}
-use Rattle.scope_rules.specs.Class.{ObjectType, int_type, class_type, parts_of}
-use Rattle.scope_rules.specs.Part.{Part, cell, object, Parts, no_parts, part_then, nth_part, with_nth_part, part_at, with_part_at}
+use Rattle.meaning_forms.specs.Class.{ObjectType, int_type, class_type, parts_of}
+use Rattle.meaning_forms.specs.Part.{Part, cell, object, Parts, no_parts, part_then, nth_part, with_nth_part, part_at, with_part_at}
 use Rattle.region_simulation.specs.Typed.{type_along, Shaped, AllShaped}
 use Rattle.region_simulation.proofs.Paths.{some_same, nth_shaped}
 

@@ -3,12 +3,12 @@ use Rattle.std.proofs.Common.{◌≡◌, ℕ, ◌≤◌, ℤ, List, ◌∷◌, O
 use Rattle.cxx_ast.specs.declared.types.Ty.{Ty}
 use Rattle.cxx_ast.specs.declared.types.Ty.TheVariants.{Int}
 use Rattle.cxx_ast.specs.Plain.{Checked}
-use Rattle.scope_rules.specs.Class.{object_type}
-use Rattle.scope_rules.specs.World.{World as SourceWorld}
-use Rattle.scope_rules.specs.Context.{Context as SourceContext}
-use Rattle.scope_rules.specs.Frame.{Frame as SourceFrame}
-use Rattle.scope_rules.specs.Running.{Argument as SourceArgument, by_value, by_reference}
-use Rattle.scope_rules.specs.Outcome.{Result as SourceResult, done as source_done, stopped as source_stopped, thrown, cancelled, ended, undefined, out_of_turns, deep, Action as SourceAction, continued as source_continued, pure as source_pure, ◌>>=◌}
+use Rattle.meaning_forms.specs.Class.{object_type}
+use Rattle.meaning_forms.specs.World.{World as SourceWorld}
+use Rattle.meaning_forms.specs.Context.{Context as SourceContext}
+use Rattle.meaning_forms.specs.Frame.{Frame as SourceFrame}
+use Rattle.meaning_forms.specs.Running.{Argument as SourceArgument, by_value, by_reference}
+use Rattle.meaning_forms.specs.Outcome.{Result as SourceResult, done as source_done, stopped as source_stopped, thrown, cancelled, ended, undefined, out_of_turns, deep, Action as SourceAction, continued as source_continued, pure as source_pure, ◌>>=◌}
 use Rattle.region_forms.specs.Form.{Kinds, Value, Argument, int_argument, address_argument, arguments_from, Place}
 use Rattle.region_forms.specs.Layout.{Layout}
 use Rattle.region_forms.specs.World.{Address, Word, number_word, address_word, Frame, World}

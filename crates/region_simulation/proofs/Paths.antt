@@ -4,8 +4,8 @@ use Rattle.std.specs.Prelude.{◌==◌, ◌||◌, map, slice_get, if◌then◌el
 use Rattle.std.proofs.lemmas.Bool.Decides.{nat_tests}
 use Rattle.cxx_ast.specs.declared.name.Name.{Name}
 use Rattle.cxx_ast.specs.Plain.{Checked}
-use Rattle.scope_rules.specs.Class.{ObjectType, int_type, class_type, class_named, class_at, contains, chain_of_bases, base_part, member_part, parts_of}
-use Rattle.scope_rules.specs.Part.{Part, cell, object, Parts, no_parts, part_then, nth_part, part_at, path_to_class, path_through}
+use Rattle.meaning_forms.specs.Class.{ObjectType, int_type, class_type, class_named, class_at, contains, chain_of_bases, base_part, member_part, parts_of}
+use Rattle.meaning_forms.specs.Part.{Part, cell, object, Parts, no_parts, part_then, nth_part, part_at, path_to_class, path_through}
 use Rattle.region_forms.specs.Layout.{Layout, layout_at, laid_part, offset_of_part}
 use Rattle.region_simulation.specs.Typed.{type_along, offset_along, Shaped, AllShaped}
 

@@ -5,13 +5,13 @@ use Rattle.std.proofs.lemmas.Bool.Decides.{nat_tests}
 use Rattle.cxx_ast.specs.declared.name.Builtin.TheVariants.{WriteInt, ReadByte, Exit, Module, Cancel, Terminate, SetTerminate, SetUnexpected, Uncaught, BadException}
 use Rattle.cxx_ast.specs.Plain.{no_expressions, expression_then}
 use Rattle.run_items.specs.declared.item.Item.TheVariants.{Line}
-use Rattle.scope_rules.specs.Arithmetic.{truth}
-use Rattle.scope_rules.specs.World.{World as SourceWorld, Reference}
-use Rattle.scope_rules.specs.Context.{Context as SourceContext}
-use Rattle.scope_rules.specs.Frame.{Frame as SourceFrame}
-use Rattle.scope_rules.specs.Running.{Argument as SourceArgument, Callee as SourceCallee}
-use Rattle.scope_rules.specs.Outcome.{done as source_done, ended, exit, cancelled, Action as SourceAction, pure as source_pure, stop as source_stop, emit, ◌>>◌}
-use Rattle.scope_rules.specs.Expression.{value_at, next_byte, is_travelling, function_named, count_of, arguments}
+use Rattle.meaning_forms.specs.Arithmetic.{truth}
+use Rattle.meaning_forms.specs.World.{World as SourceWorld, Reference}
+use Rattle.meaning_forms.specs.Context.{Context as SourceContext}
+use Rattle.meaning_forms.specs.Frame.{Frame as SourceFrame}
+use Rattle.meaning_forms.specs.Running.{Argument as SourceArgument, Callee as SourceCallee}
+use Rattle.meaning_forms.specs.Outcome.{done as source_done, ended, exit, cancelled, Action as SourceAction, pure as source_pure, stop as source_stop, emit, ◌>>◌}
+use Rattle.meaning_forms.specs.Expression.{value_at, next_byte, is_travelling, function_named, count_of, arguments}
 use Rattle.region_forms.specs.Form.{builtin, arguments_from}
 use Rattle.region_forms.specs.World.{World, with_item}
 use Rattle.region_forms.specs.Evaluation.{words_in}

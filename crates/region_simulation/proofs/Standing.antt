@@ -6,10 +6,10 @@ use Rattle.std.proofs.lemmas.Option.{unwrap_or-slice_get}
 use Rattle.std.proofs.Math.ListN.{get_or-append}
 use Rattle.std.proofs.Math.Seq.{get_or-append_seam}
 use Rattle.cxx_ast.specs.Plain.{Checked}
-use Rattle.scope_rules.specs.Class.{ObjectType, int_type}
-use Rattle.scope_rules.specs.Part.{Part, cell, part_at}
-use Rattle.scope_rules.specs.World.{World as SourceWorld, object_at}
-use Rattle.scope_rules.specs.Context.{Context as SourceContext}
+use Rattle.meaning_forms.specs.Class.{ObjectType, int_type}
+use Rattle.meaning_forms.specs.Part.{Part, cell, part_at}
+use Rattle.meaning_forms.specs.World.{World as SourceWorld, object_at}
+use Rattle.meaning_forms.specs.Context.{Context as SourceContext}
 use Rattle.region_forms.specs.Layout.{Layout}
 use Rattle.region_forms.specs.World.{Base, of_global, of_exception, Address, World}
 use Rattle.region_forms.specs.Outcome.{State}

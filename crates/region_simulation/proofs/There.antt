@@ -2,9 +2,9 @@
 use Rattle.std.proofs.Common.{◌≡◌, ℕ, true, List, [], ◌∷◌, refl, ap, ◌∙◌}
 use Rattle.std.specs.Prelude.{◌==◌, ◌||◌, map}
 use Rattle.cxx_ast.specs.Plain.{Checked}
-use Rattle.scope_rules.specs.Class.{ObjectType, some_of}
-use Rattle.scope_rules.specs.World.{World as SourceWorld, Live as SourceLive, Reference}
-use Rattle.scope_rules.specs.Context.{Context as SourceContext}
+use Rattle.meaning_forms.specs.Class.{ObjectType, some_of}
+use Rattle.meaning_forms.specs.World.{World as SourceWorld, Live as SourceLive, Reference}
+use Rattle.meaning_forms.specs.Context.{Context as SourceContext}
 use Rattle.region_forms.specs.Layout.{Layout}
 use Rattle.region_forms.specs.World.{Base, of_global, of_variable, of_exception, Address}
 use Rattle.region_forms.specs.Lives.{is_live, is_there}

@@ -7,15 +7,15 @@ use Rattle.cxx_ast.specs.declared.expression.BinaryOp.{BinaryOp}
 use Rattle.cxx_ast.specs.declared.expression.BinaryOp.TheVariants.{Add, Subtract, Multiply, Divide, Remainder, Less, Greater, LessEqual, GreaterEqual, Equal, NotEqual, And, Or}
 use Rattle.cxx_ast.specs.declared.name.Name.{Name}
 use Rattle.cxx_ast.specs.Plain.{Expression, number, path, paren, unary, binary, call, std_call}
-use Rattle.scope_rules.specs.Arithmetic.{fits_int, is_zero, dividing, unary_value, binary_value, decided}
-use Rattle.scope_rules.specs.Class.{int_type}
-use Rattle.scope_rules.specs.Part.{Part, cell, object}
-use Rattle.scope_rules.specs.World.{World as SourceWorld, part_of}
-use Rattle.scope_rules.specs.Context.{Context as SourceContext}
-use Rattle.scope_rules.specs.Outcome.{Result as SourceResult, done, stopped, thrown, cancelled, ended, undefined, out_of_turns, deep, Action, continued, pure, stop, read, read_part}
-use Rattle.scope_rules.specs.Frame.{Frame as SourceFrame, lvalue}
-use Rattle.scope_rules.specs.Running.{Running as SourceRunning}
-use Rattle.scope_rules.specs.Expression.{value_of, with_right_side}
+use Rattle.meaning_forms.specs.Arithmetic.{fits_int, is_zero, dividing, unary_value, binary_value, decided}
+use Rattle.meaning_forms.specs.Class.{int_type}
+use Rattle.meaning_forms.specs.Part.{Part, cell, object}
+use Rattle.meaning_forms.specs.World.{World as SourceWorld, part_of}
+use Rattle.meaning_forms.specs.Context.{Context as SourceContext}
+use Rattle.meaning_forms.specs.Outcome.{Result as SourceResult, done, stopped, thrown, cancelled, ended, undefined, out_of_turns, deep, Action, continued, pure, stop, read, read_part}
+use Rattle.meaning_forms.specs.Frame.{Frame as SourceFrame, lvalue}
+use Rattle.meaning_forms.specs.Running.{Running as SourceRunning}
+use Rattle.meaning_forms.specs.Expression.{value_of, with_right_side}
 use Rattle.region_forms.specs.Form.{Kinds, load}
 use Rattle.region_forms.specs.World.{Address}
 use Rattle.region_forms.specs.Evaluation.{in_memory, locate, with_some, read_location, quotient, unary_result, binary_result, with_right, value_in}

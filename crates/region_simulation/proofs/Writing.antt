@@ -4,10 +4,10 @@ use Rattle.std.specs.Prelude.{slice_get, slice_set, unwrap_or, ◌==◌, ◌&&�
 use Rattle.std.proofs.lemmas.Bool.Decides.{nat_tests}
 use Rattle.cxx_ast.specs.Plain.{Checked}
 use Rattle.class_layout.specs.StandApart.{StandApart}
-use Rattle.scope_rules.specs.Class.{int_type}
-use Rattle.scope_rules.specs.Part.{Part, cell, part_at, with_part_at}
-use Rattle.scope_rules.specs.World.{Reference, World as SourceWorld, object_at, written as source_written}
-use Rattle.scope_rules.specs.Context.{Context as SourceContext}
+use Rattle.meaning_forms.specs.Class.{int_type}
+use Rattle.meaning_forms.specs.Part.{Part, cell, part_at, with_part_at}
+use Rattle.meaning_forms.specs.World.{Reference, World as SourceWorld, object_at, written as source_written}
+use Rattle.meaning_forms.specs.Context.{Context as SourceContext}
 use Rattle.region_forms.specs.Layout.{Layout}
 use Rattle.region_forms.specs.World.{Base, of_global, of_variable, of_exception, Address, World, same_base, same_address, written}
 use Rattle.region_forms.specs.Outcome.{State}

@@ -4,12 +4,12 @@ use Rattle.cxx_ast.specs.declared.types.Ty.{Ty}
 use Rattle.cxx_ast.specs.declared.types.Ty.TheVariants.{Int}
 use Rattle.cxx_ast.specs.declared.declaration.FuncKind.TheVariants.{Method}
 use Rattle.cxx_ast.specs.Plain.{Checked}
-use Rattle.scope_rules.specs.Class.{class_type, object_type, class_at, function_at, method_at, parts_of}
-use Rattle.scope_rules.specs.Construct.{is_constructor, constructor_for}
-use Rattle.scope_rules.specs.World.{World as SourceWorld, Reference}
-use Rattle.scope_rules.specs.Context.{Context as SourceContext}
-use Rattle.scope_rules.specs.Running.{Running as SourceRunning, Argument, by_value, by_reference, Callee, function, method, constructor, destructor, declared, implicit_default, implicit_copy}
-use Rattle.scope_rules.specs.Expression.{types_of, constructor_types, is_reference}
+use Rattle.meaning_forms.specs.Class.{class_type, object_type, class_at, function_at, method_at, parts_of}
+use Rattle.meaning_forms.specs.Construct.{is_constructor, constructor_for}
+use Rattle.meaning_forms.specs.World.{World as SourceWorld, Reference}
+use Rattle.meaning_forms.specs.Context.{Context as SourceContext}
+use Rattle.meaning_forms.specs.Running.{Running as SourceRunning, Argument, by_value, by_reference, Callee, function, method, constructor, destructor, declared, implicit_default, implicit_copy}
+use Rattle.meaning_forms.specs.Expression.{types_of, constructor_types, is_reference}
 use Rattle.region_forms.specs.Layout.{Layout}
 use Rattle.region_forms.specs.World.{Address, Word, number_word, address_word}
 use Rattle.region_forms.specs.Outcome.{State}

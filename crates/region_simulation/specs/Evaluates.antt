@@ -1,9 +1,9 @@
 -- That what an expression is lowered to evaluates to what a computation of the source gives.
 use Rattle.std.specs.Prelude.{◌≡◌, ℕ, ℤ, Option, Some}
-use Rattle.scope_rules.specs.World.{World as SourceWorld}
-use Rattle.scope_rules.specs.Context.{Context as SourceContext}
-use Rattle.scope_rules.specs.Outcome.{Action as SourceAction}
-use Rattle.scope_rules.specs.Frame.{Frame as SourceFrame}
+use Rattle.meaning_forms.specs.World.{World as SourceWorld}
+use Rattle.meaning_forms.specs.Context.{Context as SourceContext}
+use Rattle.meaning_forms.specs.Outcome.{Action as SourceAction}
+use Rattle.meaning_forms.specs.Frame.{Frame as SourceFrame}
 use Rattle.region_forms.specs.Form.{Kinds, Value, regions_from}
 use Rattle.region_forms.specs.Evaluation.{value_in}
 use Rattle.region_forms.specs.Outcome.{State, Flow, normal}

@@ -5,12 +5,12 @@ use Rattle.cxx_ast.specs.declared.name.Builtin.{Builtin}
 use Rattle.cxx_ast.specs.declared.name.Builtin.TheVariants.{Module, Terminate}
 use Rattle.cxx_ast.specs.declared.name.Name.{Name}
 use Rattle.cxx_ast.specs.Plain.{Expression, Expressions}
-use Rattle.scope_rules.specs.World.{Reference}
-use Rattle.scope_rules.specs.Context.{Context as SourceContext}
-use Rattle.scope_rules.specs.Outcome.{Action as SourceAction}
-use Rattle.scope_rules.specs.Frame.{Frame as SourceFrame}
-use Rattle.scope_rules.specs.Running.{Running as SourceRunning, Argument as SourceArgument, Callee}
-use Rattle.scope_rules.specs.Expression.{value_of, arguments, called}
+use Rattle.meaning_forms.specs.World.{Reference}
+use Rattle.meaning_forms.specs.Context.{Context as SourceContext}
+use Rattle.meaning_forms.specs.Outcome.{Action as SourceAction}
+use Rattle.meaning_forms.specs.Frame.{Frame as SourceFrame}
+use Rattle.meaning_forms.specs.Running.{Running as SourceRunning, Argument as SourceArgument, Callee}
+use Rattle.meaning_forms.specs.Expression.{value_of, arguments, called}
 use Rattle.region_forms.specs.Ending.{Running}
 use Rattle.region_forms.specs.LowerExpression.{Lowering, first_temporary, lower, lower_arguments, call_of, call_stored}
 use Rattle.region_simulation.specs.Reach.{KindsFit}

@@ -2,9 +2,9 @@
 use Rattle.std.specs.Prelude.{ℕ, List, Some, None, slice_get}
 use Rattle.cxx_ast.specs.Plain.{Checked}
 use Rattle.eh_outer.specs.declared.module.Reply.{Reply}
-use Rattle.scope_rules.specs.Class.{int_type}
-use Rattle.scope_rules.specs.Context.{no_context}
-use Rattle.scope_rules.specs.Meaning.{first_world as source_first_world}
+use Rattle.meaning_forms.specs.Class.{int_type}
+use Rattle.meaning_forms.specs.Context.{no_context}
+use Rattle.meaning_forms.specs.Meaning.{first_world as source_first_world}
 use Rattle.region_forms.specs.Layout.{Layout}
 use Rattle.region_forms.specs.World.{of_global}
 use Rattle.region_forms.specs.Meaning.{no_frame, first_world}

@@ -1,9 +1,9 @@
 -- That regions in a row do what statements do: how the flows of both agree, where so many regions hold them.
 use Rattle.std.specs.Prelude.{◌≡◌, ℕ, ◌+◌, ◌-◌, ◌<◌, ◌≤◌, Bool, true, false, List, Option, Some, None, length}
-use Rattle.scope_rules.specs.World.{World as SourceWorld}
-use Rattle.scope_rules.specs.Context.{Context as SourceContext}
-use Rattle.scope_rules.specs.Frame.{Frame as SourceFrame}
-use Rattle.scope_rules.specs.Outcome.{Action as SourceAction, Flow as SourceFlow, normal as source_normal, breaks, continues, returns}
+use Rattle.meaning_forms.specs.World.{World as SourceWorld}
+use Rattle.meaning_forms.specs.Context.{Context as SourceContext}
+use Rattle.meaning_forms.specs.Frame.{Frame as SourceFrame}
+use Rattle.meaning_forms.specs.Outcome.{Action as SourceAction, Flow as SourceFlow, normal as source_normal, breaks, continues, returns}
 use Rattle.region_forms.specs.Form.{Region, regions_from}
 use Rattle.region_forms.specs.World.{of_variable, number_word}
 use Rattle.region_forms.specs.Outcome.{State, Flow, normal, leaves}

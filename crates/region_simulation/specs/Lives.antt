@@ -1,7 +1,7 @@
 -- Which exceptions of a source are live, and which of them are built.
 use Rattle.std.specs.Prelude.{◌≡◌, ℕ, Bool, true, false, ◌==◌, List}
-use Rattle.scope_rules.specs.Class.{some_of}
-use Rattle.scope_rules.specs.World.{Live, Exception, building, native, foreign, exception_in}
+use Rattle.meaning_forms.specs.Class.{some_of}
+use Rattle.meaning_forms.specs.World.{Live, Exception, building, native, foreign, exception_in}
 
 -- an exception is live
 abbrev pub is_live : List Live → ℕ → Bool

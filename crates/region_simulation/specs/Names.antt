@@ -4,8 +4,8 @@ use Rattle.cxx_ast.specs.declared.name.Bound.{Bound}
 use Rattle.cxx_ast.specs.declared.name.Bound.TheVariants.{Global, Local, Field}
 use Rattle.cxx_ast.specs.declared.name.Name.{Name}
 use Rattle.cxx_ast.specs.Plain.{Checked}
-use Rattle.scope_rules.specs.Class.{ObjectType, int_type, class_type, class_at, object_type, derives}
-use Rattle.scope_rules.specs.Frame.{Variable}
+use Rattle.meaning_forms.specs.Class.{ObjectType, int_type, class_type, class_at, object_type, derives}
+use Rattle.meaning_forms.specs.Frame.{Variable}
 use Rattle.region_forms.specs.LowerExpression.{Lowering, variable_type, member_type}
 use Rattle.region_simulation.specs.Reach.{is_in_reach}
 

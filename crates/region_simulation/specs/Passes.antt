@@ -2,11 +2,11 @@
 use Rattle.std.specs.Prelude.{◌≡◌, ℕ, List, Option, Some}
 use Rattle.cxx_ast.specs.declared.types.Ty.{Ty}
 use Rattle.cxx_ast.specs.Plain.{Checked}
-use Rattle.scope_rules.specs.World.{World as SourceWorld}
-use Rattle.scope_rules.specs.Context.{Context as SourceContext}
-use Rattle.scope_rules.specs.Outcome.{Action as SourceAction, Result as SourceResult, done, stopped, undefined}
-use Rattle.scope_rules.specs.Frame.{Frame as SourceFrame}
-use Rattle.scope_rules.specs.Running.{Argument as SourceArgument}
+use Rattle.meaning_forms.specs.World.{World as SourceWorld}
+use Rattle.meaning_forms.specs.Context.{Context as SourceContext}
+use Rattle.meaning_forms.specs.Outcome.{Action as SourceAction, Result as SourceResult, done, stopped, undefined}
+use Rattle.meaning_forms.specs.Frame.{Frame as SourceFrame}
+use Rattle.meaning_forms.specs.Running.{Argument as SourceArgument}
 use Rattle.region_forms.specs.Form.{Kinds, Argument, arguments_from, regions_from}
 use Rattle.region_forms.specs.Layout.{Layout}
 use Rattle.region_forms.specs.World.{Word}

@@ -1,9 +1,9 @@
 -- Where the objects of a source stand in the memory of regions.
 use Rattle.std.specs.Prelude.{◌≡◌, ℕ, ◌<◌, ℤ, List, Option, Some, length}
 use Rattle.cxx_ast.specs.Plain.{Checked}
-use Rattle.scope_rules.specs.Class.{ObjectType}
-use Rattle.scope_rules.specs.Part.{cell, part_at}
-use Rattle.scope_rules.specs.World.{Reference, World as SourceWorld, object_at}
+use Rattle.meaning_forms.specs.Class.{ObjectType}
+use Rattle.meaning_forms.specs.Part.{cell, part_at}
+use Rattle.meaning_forms.specs.World.{Reference, World as SourceWorld, object_at}
 use Rattle.region_forms.specs.Layout.{Layout}
 use Rattle.region_forms.specs.World.{Base, Address}
 use Rattle.region_simulation.specs.Typed.{type_along, offset_along, Shaped}

@@ -2,8 +2,8 @@
 use Rattle.std.specs.Prelude.{◌≡◌, ℕ, ◌+◌, ◌<◌, ◌≤◌, Bool, true, List, ◌==◌, Option, Some, None, length}
 use Rattle.cxx_ast.specs.declared.types.Ty.{Ty}
 use Rattle.cxx_ast.specs.declared.types.Ty.TheVariants.{Int, Void, Object, IntRef, ObjectRef}
-use Rattle.scope_rules.specs.Class.{class_type, object_type, some_of}
-use Rattle.scope_rules.specs.Frame.{Frame as SourceFrame, Variable, variable_in}
+use Rattle.meaning_forms.specs.Class.{class_type, object_type, some_of}
+use Rattle.meaning_forms.specs.Frame.{Frame as SourceFrame, Variable, variable_in}
 use Rattle.region_forms.specs.Form.{Kinds, SlotKind, int_slot, address_slot, object_slot, help_slot}
 use Rattle.region_forms.specs.World.{Address, of_variable, address_word, Frame}
 use Rattle.region_forms.specs.LowerExpression.{Lowering, variable_type, result_slot}

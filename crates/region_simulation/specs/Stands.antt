@@ -1,9 +1,9 @@
 -- A state of regions that stands for a world of a source in a context.
 use Rattle.std.specs.Prelude.{◌≡◌, ℕ, ◌<◌, ◌≤◌, ℤ, true, List, [], ◌∷◌, map, length, Option, Some, None, slice_get}
 use Rattle.cxx_ast.specs.Plain.{Checked}
-use Rattle.scope_rules.specs.Class.{ObjectType, int_type, class_type, contains, function_at}
-use Rattle.scope_rules.specs.World.{World as SourceWorld, Live as SourceLive, Exception as SourceException, Installed, building as source_building, native as source_native, foreign as source_foreign}
-use Rattle.scope_rules.specs.Context.{Context as SourceContext, Clause as SourceClause, catch_all, catch_type, Guard as SourceGuard, try_block, specification, barrier as source_barrier}
+use Rattle.meaning_forms.specs.Class.{ObjectType, int_type, class_type, contains, function_at}
+use Rattle.meaning_forms.specs.World.{World as SourceWorld, Live as SourceLive, Exception as SourceException, Installed, building as source_building, native as source_native, foreign as source_foreign}
+use Rattle.meaning_forms.specs.Context.{Context as SourceContext, Clause as SourceClause, catch_all, catch_type, Guard as SourceGuard, try_block, specification, barrier as source_barrier}
 use Rattle.region_forms.specs.Caught.{caught_of, only_front}
 use Rattle.region_forms.specs.World.{Base, of_global, of_variable, of_exception, Address, World, Exception, building, native, foreign, Live}
 use Rattle.region_forms.specs.Guard.{Guard, clauses, listed, everything}

@@ -7,12 +7,12 @@ use Rattle.cxx_ast.specs.declared.name.Name.{Name}
 use Rattle.cxx_ast.specs.declared.types.Ty.{Ty}
 use Rattle.cxx_ast.specs.declared.types.Ty.TheVariants.{Int, Void, Object, IntRef, ObjectRef}
 use Rattle.cxx_ast.specs.Plain.{Checked, Expression, call, std_call, Expressions, expression_then, no_expressions, Statement, block, empty, if_else, while, return, break, continue, throw, try, assign, evaluate, local_int, local_ref, local_object, Else, no_else, else_do, Statements, no_statements, statement_then, Handlers, no_handlers, handler_then}
-use Rattle.scope_rules.specs.Class.{ObjectType, int_type, class_type, class_named}
-use Rattle.scope_rules.specs.World.{Reference}
-use Rattle.scope_rules.specs.Construct.{copy_constructor}
-use Rattle.scope_rules.specs.Frame.{Variable, local_number}
-use Rattle.scope_rules.specs.Running.{constructor}
-use Rattle.scope_rules.specs.Expression.{lvalue_of, count_of, callee_bound, constructor_types}
+use Rattle.meaning_forms.specs.Class.{ObjectType, int_type, class_type, class_named}
+use Rattle.meaning_forms.specs.World.{Reference}
+use Rattle.meaning_forms.specs.Construct.{copy_constructor}
+use Rattle.meaning_forms.specs.Frame.{Variable, local_number}
+use Rattle.meaning_forms.specs.Running.{constructor}
+use Rattle.meaning_forms.specs.Expression.{lvalue_of, count_of, callee_bound, constructor_types}
 use Rattle.region_forms.specs.Numbering.{declared_in, all_declared_in}
 use Rattle.region_forms.specs.LowerExpression.{Lowering, variable_type, lvalue_type, constructor_chosen}
 use Rattle.region_simulation.specs.Calls.{IsCallable}

@@ -1,8 +1,8 @@
 -- Types along paths. The parts of an object are those of its class, so where a part stands in an object is known by types alone.
 use Rattle.std.specs.Prelude.{◌≡◌, ℕ, ◌+◌, List, [], ◌∷◌, Option, Some, None, slice_get}
 use Rattle.cxx_ast.specs.Plain.{Checked}
-use Rattle.scope_rules.specs.Class.{ObjectType, int_type, class_type, parts_of}
-use Rattle.scope_rules.specs.Part.{Part, cell, object, Parts, no_parts, part_then}
+use Rattle.meaning_forms.specs.Class.{ObjectType, int_type, class_type, parts_of}
+use Rattle.meaning_forms.specs.Part.{Part, cell, object, Parts, no_parts, part_then}
 use Rattle.region_forms.specs.Layout.{Layout, laid_part}
 
 -- the type of the part at the end of a path in an object of a type

@@ -8,11 +8,11 @@ use Rattle.cxx_ast.specs.declared.name.Name.{Name}
 use Rattle.cxx_ast.specs.declared.types.Ty.{Ty}
 use Rattle.cxx_ast.specs.declared.types.Ty.TheVariants.{Int, Void, Object, IntRef, ObjectRef}
 use Rattle.cxx_ast.specs.Plain.{Checked, Expression, number, path, paren, unary, binary, call, std_call, Expressions, no_expressions, expression_then}
-use Rattle.scope_rules.specs.Class.{ObjectType, int_type, class_type, class_named, derives}
-use Rattle.scope_rules.specs.Frame.{Variable}
-use Rattle.scope_rules.specs.Expression.{lvalue_of, names_of, count_of, function_named, callee_bound, receiver, parameter_types}
+use Rattle.meaning_forms.specs.Class.{ObjectType, int_type, class_type, class_named, derives}
+use Rattle.meaning_forms.specs.Frame.{Variable}
+use Rattle.meaning_forms.specs.Expression.{lvalue_of, names_of, count_of, function_named, callee_bound, receiver, parameter_types}
 use Rattle.region_forms.specs.LowerExpression.{Lowering}
-use Rattle.scope_rules.specs.Running.{function, method}
+use Rattle.meaning_forms.specs.Running.{function, method}
 use Rattle.region_simulation.specs.Calls.{IsCallable}
 use Rattle.region_simulation.specs.Names.{AreNamed}
 use Rattle.region_simulation.specs.Stands.{IsHandler}

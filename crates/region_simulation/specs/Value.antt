@@ -1,12 +1,12 @@
 -- That a value of regions is that of an expression, where neither makes a call.
 use Rattle.std.specs.Prelude.{◌≡◌, ℕ, ℤ, false, [], Option, Some}
 use Rattle.cxx_ast.specs.Plain.{Expression}
-use Rattle.scope_rules.specs.World.{World as SourceWorld}
-use Rattle.scope_rules.specs.Context.{Context as SourceContext}
-use Rattle.scope_rules.specs.Outcome.{Result as SourceResult, done, stopped, undefined}
-use Rattle.scope_rules.specs.Frame.{Frame as SourceFrame}
-use Rattle.scope_rules.specs.Running.{Running as SourceRunning}
-use Rattle.scope_rules.specs.Expression.{value_of}
+use Rattle.meaning_forms.specs.World.{World as SourceWorld}
+use Rattle.meaning_forms.specs.Context.{Context as SourceContext}
+use Rattle.meaning_forms.specs.Outcome.{Result as SourceResult, done, stopped, undefined}
+use Rattle.meaning_forms.specs.Frame.{Frame as SourceFrame}
+use Rattle.meaning_forms.specs.Running.{Running as SourceRunning}
+use Rattle.meaning_forms.specs.Expression.{value_of}
 use Rattle.region_forms.specs.Form.{Kinds}
 use Rattle.region_forms.specs.Evaluation.{value_in}
 use Rattle.region_forms.specs.Outcome.{State}

@@ -3,11 +3,11 @@ use Rattle.std.specs.Prelude.{◌≡◌, ℕ, ◌≤◌, ℤ, List, [], ◌∷�
 use Rattle.cxx_ast.specs.declared.name.Name.{Name}
 use Rattle.cxx_ast.specs.Plain.{Checked}
 use Rattle.class_layout.specs.StandApart.{StandApart}
-use Rattle.scope_rules.specs.Class.{int_type}
-use Rattle.scope_rules.specs.World.{Reference, World as SourceWorld, written as source_written}
-use Rattle.scope_rules.specs.Context.{Context as SourceContext}
-use Rattle.scope_rules.specs.Frame.{Frame as SourceFrame, lvalue}
-use Rattle.scope_rules.specs.Outcome.{Action as SourceAction, write, ◌>>=◌}
+use Rattle.meaning_forms.specs.Class.{int_type}
+use Rattle.meaning_forms.specs.World.{Reference, World as SourceWorld, written as source_written}
+use Rattle.meaning_forms.specs.Context.{Context as SourceContext}
+use Rattle.meaning_forms.specs.Frame.{Frame as SourceFrame, lvalue}
+use Rattle.meaning_forms.specs.Outcome.{Action as SourceAction, write, ◌>>=◌}
 use Rattle.region_forms.specs.Form.{Region, op, store, regions_from}
 use Rattle.region_forms.specs.Layout.{Layout}
 use Rattle.region_forms.specs.World.{Address, written}

@@ -7,9 +7,9 @@ use Rattle.eh_bytes.specs.Spelling.{uleb_spelling, uleb_spelling_within, sleb_sp
 use Rattle.eh_write.specs.Written.{base_offset, table_bytes}
 use Rattle.eh_write.specs.WrittenFrames.{fde_body, fde_bytes}
 use Rattle.linear_forms.specs.Stub.{terminating, end_catch, call_unexpected}
-use Rattle.emission_forms.specs.Routine.{routine_words}
-use Rattle.emission_forms.specs.StubCode.{start_name, stub_name, stub_routine}
-use Rattle.emission_forms.specs.Emitted.{emitted_stubs}
+use Rattle.machine_forms.specs.Routine.{routine_words}
+use Rattle.machine_forms.specs.StubCode.{start_name, stub_name, stub_routine}
+use Rattle.machine_forms.specs.Emitted.{emitted_stubs}
 use Rattle.rv64_isa.specs.Decoding.{named}
 use Rattle.image_forms.specs.Function.{FunctionFits}
 use Rattle.image_forms.specs.Room.{unit_room}

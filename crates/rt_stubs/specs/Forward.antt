@@ -4,7 +4,7 @@ use Rattle.rv64_isa.specs.declared.instr.Instr.{Instr}
 use Rattle.rv64_isa.specs.declared.instr.Instr.TheVariants.{Jal, Jalr, Beq, Bne, Blt, Bge, Bltu, Bgeu}
 use Rattle.rv64_isa.specs.Decoding.{decoded}
 use Rattle.eh_bytes.specs.Listed.{ListedFunction, ListedUnit}
-use Rattle.emission_forms.specs.Registers.{zero_register, ra}
+use Rattle.machine_forms.specs.Registers.{zero_register, ra}
 
 -- a distance of so many half words leads forward from the k-th of n words to another of them
 abbrev pub leads_forward : (k n halves : ℕ) → Bool

@@ -3,11 +3,11 @@ use Rattle.std.specs.Prelude.{◌≡◌, ◌+◌, ◌*◌, ◌≤◌, true, [], 
 use Rattle.std.specs.List.{AllByRecursion}
 use Rattle.eh_bytes.specs.declared.frames.FrameChange.TheVariants.{Undefined}
 use Rattle.linear_forms.specs.Stub.{terminating, end_catch, call_unexpected}
-use Rattle.emission_forms.specs.Registers.{ra}
-use Rattle.emission_forms.specs.Shape.{move_at}
-use Rattle.emission_forms.specs.Routine.{routine_words}
-use Rattle.emission_forms.specs.StubCode.{stub_first, stub_routine}
-use Rattle.emission_forms.specs.Emitted.{emitted_stubs}
+use Rattle.machine_forms.specs.Registers.{ra}
+use Rattle.machine_forms.specs.Shape.{move_at}
+use Rattle.machine_forms.specs.Routine.{routine_words}
+use Rattle.machine_forms.specs.StubCode.{stub_first, stub_routine}
+use Rattle.machine_forms.specs.Emitted.{emitted_stubs}
 use Rattle.image_forms.specs.Function.{FunctionFits, StandInRow}
 use Rattle.image_forms.specs.Room.{unit_room}
 use Rattle.rt_stubs.specs.Forward.{is_forward}

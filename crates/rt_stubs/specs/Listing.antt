@@ -4,8 +4,8 @@ use Rattle.rv64_isa.specs.declared.instr.Instr.{Instr}
 use Rattle.rv64_isa.specs.declared.instr.Instr.TheVariants as isa
 use Rattle.rv64_isa.specs.Listing.{word_of}
 use Rattle.eh_bytes.specs.Listed.{ListedTable, ListedFunction}
-use Rattle.emission_forms.specs.Immediate.{immediate}
-use Rattle.emission_forms.specs.Registers.{zero_register, ra, sp, a0, a1, a2, a7}
+use Rattle.machine_forms.specs.Immediate.{immediate}
+use Rattle.machine_forms.specs.Registers.{zero_register, ra, sp, a0, a1, a2, a7}
 use Rattle.rt_stubs.specs.declared.line.Name.{Name}
 use Rattle.rt_stubs.specs.declared.line.Name.TheVariants.{Zero, Ra, Sp, A0, A1, A2, A7}
 use Rattle.rt_stubs.specs.declared.line.Line.{Line}

@@ -2,8 +2,8 @@
 ghost use Rattle.std.specs.Prelude.{◌≡◌, ◌+◌, ◌*◌, ◌%◌, ◌<◌, ◌^◌, length, map, IfOk};
 ghost use Rattle.eh_bytes.specs.Listed.{listed_unit, listed_function, listed_table};
 ghost use Rattle.linear_forms.specs.Stub.{terminating, end_catch, call_unexpected};
-ghost use Rattle.emission_forms.specs.Emitted.{emitted_stubs};
-ghost use Rattle.emission_forms.specs.StubCode.{stub_first};
+ghost use Rattle.machine_forms.specs.Emitted.{emitted_stubs};
+ghost use Rattle.machine_forms.specs.StubCode.{stub_first};
 ghost use Rattle.rt_stubs.specs.Listing.{function_of, table_of};
 
 use crate::NoMemory;

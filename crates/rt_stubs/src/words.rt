@@ -1,6 +1,6 @@
 // The words of lines of assembly.
 ghost use Rattle.std.specs.Prelude.{◌≡◌, ◌+◌, ◌++◌, ◌/◌, ◌%◌, ◌^◌, map, OnOk};
-ghost use Rattle.emission_forms.specs.Immediate.{immediate};
+ghost use Rattle.machine_forms.specs.Immediate.{immediate};
 ghost use Rattle.rv64_isa.specs.Listing.{word_of};
 ghost use Rattle.rt_stubs.specs.Listing.{number_of, instruction_of, words_of};
 

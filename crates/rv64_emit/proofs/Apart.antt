@@ -1,8 +1,8 @@
 -- Functions one behind the other.
 use Rattle.std.proofs.Common.{◌≡◌, ℕ, ◌+◌, List, [], ◌∷◌, refl, subst, sym, arith}
-use Rattle.emission_forms.specs.Emitted.{emitted_of, unit_routines}
-use Rattle.emission_forms.specs.Routine.{Routine, all_words, listed_routines, routine_words}
-use Rattle.emission_forms.proofs.Words.{words_stand}
+use Rattle.machine_forms.specs.Emitted.{emitted_of, unit_routines}
+use Rattle.machine_forms.specs.Routine.{Routine, all_words, listed_routines, routine_words}
+use Rattle.machine_forms.proofs.Words.{words_stand}
 use Rattle.rv64_emit.specs.Laws.{StandFrom, FunctionsAreApart}
 
 stand_from : (first : ℕ) (rs : List Routine) → StandFrom first (first + all_words rs) (listed_routines first rs)

@@ -1,9 +1,9 @@
 -- The code of a function, and of functions one behind the other.
 use Rattle.std.proofs.Common.{◌≡◌, ◌∙◌, ℕ, ℤ, pos, ◌+◌, List, [], ◌∷◌, ◌++◌, flat_map, length, sym, ap, subst, append_assoc}
 use Rattle.std.proofs.lemmas.List.{append-nil}
-use Rattle.emission_forms.specs.Piece.{Target}
-use Rattle.emission_forms.specs.Routine.{Routine, routine_code, routine_places, routine_words, routines_code}
-use Rattle.emission_forms.proofs.Words.{words_stand}
+use Rattle.machine_forms.specs.Piece.{Target}
+use Rattle.machine_forms.specs.Routine.{Routine, routine_code, routine_places, routine_words, routines_code}
+use Rattle.machine_forms.proofs.Words.{words_stand}
 use Rattle.rv64_emit.specs.declared.body.Body.{Body}
 use Rattle.rv64_emit.specs.Body.{AllStandFor, StandsFor}
 

@@ -3,12 +3,12 @@ use Rattle.std.proofs.Common.{◌≡◌, ◌∙◌, suc, ◌+◌, ◌<◌, ℤ, 
 use Rattle.std.specs.Prelude.{if◌then◌else◌}
 use Rattle.std.specs.List.{AllByRecursion}
 use Rattle.std.proofs.lemmas.Bool.Decides.{nat_tests}
-use Rattle.scope_rules.specs.Arithmetic.{int_equal}
+use Rattle.meaning_forms.specs.Arithmetic.{int_equal}
 use Rattle.eh_bytes.specs.Listed.{ListedTable}
 use Rattle.eh_write.specs.CanWrite.{ChainIsThere}
 use Rattle.linear_forms.specs.Linear.{CodeSite}
 use Rattle.linear_forms.specs.Sites.{same_chain}
-use Rattle.emission_forms.specs.Routine.{Routine, chain_for, chain_number, chains_behind, has_chain, is_empty, listed_site}
+use Rattle.machine_forms.specs.Routine.{Routine, chain_for, chain_number, chains_behind, has_chain, is_empty, listed_site}
 
 int_same : (n : ℤ) → int_equal n n ≡ true
 int_same (pos n) = grind (arith, nat_tests)

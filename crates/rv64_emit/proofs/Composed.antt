@@ -7,11 +7,11 @@ use Rattle.eh_bytes.specs.declared.unit.EmittedFunc.{EmittedFunc}
 use Rattle.eh_bytes.specs.Listed.{listed_function}
 use Rattle.linear_forms.specs.Linear.{FunctionCode, LinearOp}
 use Rattle.linear_forms.specs.Tables.{label_place}
-use Rattle.emission_forms.specs.Piece.{Piece}
-use Rattle.emission_forms.specs.Shape.{Shape, prologue}
-use Rattle.emission_forms.specs.LinearCode.{linear_code}
-use Rattle.emission_forms.specs.Routine.{Routine, listed_routine, listed_routines, routine_words}
-use Rattle.emission_forms.specs.Emitted.{function_routine, shape_of}
+use Rattle.machine_forms.specs.Piece.{Piece}
+use Rattle.machine_forms.specs.Shape.{Shape, prologue}
+use Rattle.machine_forms.specs.LinearCode.{linear_code}
+use Rattle.machine_forms.specs.Routine.{Routine, listed_routine, listed_routines, routine_words}
+use Rattle.machine_forms.specs.Emitted.{function_routine, shape_of}
 use Rattle.rv64_emit.specs.declared.body.Body.{Body}
 use Rattle.rv64_emit.specs.Body.{StandsFor}
 use Rattle.rv64_emit.specs.Starts.{starts_from}

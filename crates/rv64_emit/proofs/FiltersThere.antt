@@ -9,8 +9,8 @@ use Rattle.eh_write.specs.CanWrite.{ChainIsGood, FilterIsThere}
 use Rattle.linear_forms.specs.Linear.{CodeSite, FunctionCode}
 use Rattle.linear_forms.specs.Tables.{list_bytes}
 use Rattle.landing_pads.specs.Named.{FilterIsThere as FilterNames, ListBegins}
-use Rattle.emission_forms.specs.Emitted.{function_routine}
-use Rattle.emission_forms.specs.Routine.{chains_behind, has_chain, is_empty, routine_table}
+use Rattle.machine_forms.specs.Emitted.{function_routine}
+use Rattle.machine_forms.specs.Routine.{chains_behind, has_chain, is_empty, routine_table}
 
 same_byte : (at n : ℕ) → at ≡ n → n - at ≡ 0
 same_byte at n e = omega arith

@@ -5,8 +5,8 @@ use Rattle.std.proofs.lemmas.List.{length-map, take_all}
 use Rattle.eh_bytes.specs.Listed.{ListedFunction, listed_function}
 use Rattle.eh_bytes.specs.declared.unit.EmittedFunc.{EmittedFunc}
 use Rattle.linear_forms.specs.Linear.{UnitCode}
-use Rattle.emission_forms.specs.Routine.{Routine, all_words, listed_routines, routine_words}
-use Rattle.emission_forms.specs.Emitted.{function_first, unit_routines}
+use Rattle.machine_forms.specs.Routine.{Routine, all_words, listed_routines, routine_words}
+use Rattle.machine_forms.specs.Emitted.{function_first, unit_routines}
 use Rattle.rv64_emit.specs.Places.{HasTargets}
 use Rattle.rv64_emit.specs.declared.places.Targets.{Targets}
 

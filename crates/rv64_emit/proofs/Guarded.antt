@@ -1,9 +1,9 @@
 -- Code that a jump goes over, whose distance is known only behind it.
 use Rattle.std.proofs.Common.{◌≡◌, ◌∙◌, ℕ, suc, ◌+◌, ◌-◌, ◌*◌, List, [], ◌∷◌, ◌++◌, length, length-append, set, refl, ap, append_assoc, arith}
 use Rattle.rv64_isa.specs.declared.instr.Instr.TheVariants.{Jal}
-use Rattle.emission_forms.specs.Piece.{Piece, instruction}
-use Rattle.emission_forms.specs.Registers.{zero_register}
-use Rattle.emission_forms.specs.ValueCode.{over}
+use Rattle.machine_forms.specs.Piece.{Piece, instruction}
+use Rattle.machine_forms.specs.Registers.{zero_register}
+use Rattle.machine_forms.specs.ValueCode.{over}
 
 set_behind : (front back : List Piece) (x p q : Piece) → set ((front ++ x ∷ p ∷ []) ++ back) (suc (length front)) q ≡ front ++ x ∷ q ∷ back
 set_behind [] back x p q = refl

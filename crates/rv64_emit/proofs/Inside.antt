@@ -6,8 +6,8 @@ use Rattle.region_forms.specs.Form.{RegionFunction, Slot}
 use Rattle.linear_forms.specs.Frame.{code_slots, frame_bytes, rounded_up, slot_bytes}
 use Rattle.linear_forms.specs.Unit.{function_code}
 use Rattle.landing_pads.specs.Laws.{AllTablesStand, TablesStand}
-use Rattle.emission_forms.specs.Emitted.{function_routine}
-use Rattle.emission_forms.specs.Routine.{listed_routine, listed_routines, routine_table, routine_words}
+use Rattle.machine_forms.specs.Emitted.{function_routine}
+use Rattle.machine_forms.specs.Routine.{listed_routine, listed_routines, routine_table, routine_words}
 use Rattle.rv64_emit.specs.Laws.{SlotsAreInside, TableIsGood, TablesAreGood}
 use Rattle.rv64_emit.proofs.Chains.{chains_there}
 use Rattle.rv64_emit.proofs.FiltersThere.{chains_are_good}

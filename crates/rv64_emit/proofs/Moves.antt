@@ -6,8 +6,8 @@ use Rattle.eh_write.specs.CanWriteFrames.{IsSlot}
 use Rattle.region_forms.specs.Form.{RegionFunction}
 use Rattle.linear_forms.specs.Frame.{code_slots, frame_bytes}
 use Rattle.linear_forms.specs.Unit.{function_code}
-use Rattle.emission_forms.specs.Emitted.{function_routine}
-use Rattle.emission_forms.specs.Routine.{listed_routine, listed_routines, routine_words}
+use Rattle.machine_forms.specs.Emitted.{function_routine}
+use Rattle.machine_forms.specs.Routine.{listed_routine, listed_routines, routine_words}
 use Rattle.rv64_emit.specs.Laws.{AllMovesFit, MovesFit}
 
 -- the return address is saved at a multiple of 8 below the frame's upper end

@@ -3,7 +3,7 @@ use Rattle.std.proofs.Common.{◌≡◌, ◌∙◌, ℤ, pos, negsuc, ◌&&◌, 
 use Rattle.std.specs.Ordering.{int_eq}
 use Rattle.std.specs.Cmp.Lexicographic.{pointwise}
 use Rattle.std.proofs.lemmas.Bool.Decides.{nat_tests}
-use Rattle.scope_rules.specs.Arithmetic.{int_equal}
+use Rattle.meaning_forms.specs.Arithmetic.{int_equal}
 use Rattle.linear_forms.specs.Sites.{same_chain}
 
 same_int : (n m : ℤ) → int_eq n m ≡ int_equal n m

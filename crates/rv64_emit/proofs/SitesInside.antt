@@ -8,11 +8,11 @@ use Rattle.eh_write.specs.CanWrite.{AreInOrder}
 use Rattle.linear_forms.specs.Laws.{AreInOrder as SitesAreInOrder}
 use Rattle.linear_forms.specs.Linear.{CodeSite, FunctionCode, pad}
 use Rattle.landing_pads.specs.Named.{PadIsThere}
-use Rattle.emission_forms.specs.Emitted.{function_routine, shape_of}
-use Rattle.emission_forms.specs.LinearCode.{linear_code}
-use Rattle.emission_forms.specs.Piece.{Piece}
-use Rattle.emission_forms.specs.Routine.{Routine, block_words, listed_site, op_byte, pad_byte, routine_words}
-use Rattle.emission_forms.proofs.Words.{words_stand}
+use Rattle.machine_forms.specs.Emitted.{function_routine, shape_of}
+use Rattle.machine_forms.specs.LinearCode.{linear_code}
+use Rattle.machine_forms.specs.Piece.{Piece}
+use Rattle.machine_forms.specs.Routine.{Routine, block_words, listed_site, op_byte, pad_byte, routine_words}
+use Rattle.machine_forms.proofs.Words.{words_stand}
 use Rattle.rv64_emit.specs.Laws.{SiteIsInside}
 
 bytes_rise : (r : Routine) (p q : ℕ) → p ≤ q → op_byte r p ≤ op_byte r q

@@ -2,13 +2,13 @@
 use Rattle.std.proofs.Common.{ℕ, ◌<◌, List, [], ◌∷◌, ◌++◌, length, length-append, arith}
 use Rattle.region_forms.specs.Form.{Arguments, defined, no_arguments, Place}
 use Rattle.linear_forms.specs.Stub.{compiled}
-use Rattle.emission_forms.specs.CallCode.{arguments_passed, call_code, function_called, passed, value_given}
-use Rattle.emission_forms.specs.OperationCode.{called_at}
-use Rattle.emission_forms.specs.Piece.{Piece, jump_to}
-use Rattle.emission_forms.specs.PlaceCode.{place_address, place_stored}
-use Rattle.emission_forms.specs.Registers.{a0, register}
-use Rattle.emission_forms.specs.Shape.{Shape}
-use Rattle.emission_forms.specs.ValueCode.{test_code}
+use Rattle.machine_forms.specs.CallCode.{arguments_passed, call_code, function_called, passed, value_given}
+use Rattle.machine_forms.specs.OperationCode.{called_at}
+use Rattle.machine_forms.specs.Piece.{Piece, jump_to}
+use Rattle.machine_forms.specs.PlaceCode.{place_address, place_stored}
+use Rattle.machine_forms.specs.Registers.{a0, register}
+use Rattle.machine_forms.specs.Shape.{Shape}
+use Rattle.machine_forms.specs.ValueCode.{test_code}
 use Rattle.rv64_emit.specs.Laws.{EachTurnTakesWords}
 
 with_last : (a b : List Piece) → 0 < length b → 0 < length (a ++ b)

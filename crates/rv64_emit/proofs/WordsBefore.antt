@@ -1,7 +1,7 @@
 -- The words at which operations begin.
 use Rattle.std.proofs.Common.{◌≡◌, ◌∙◌, ℕ, zero, suc, ◌+◌, List, [], ◌∷◌, length, take, get_or, refl, ap, arith}
-use Rattle.emission_forms.specs.Piece.{Piece}
-use Rattle.emission_forms.specs.Routine.{Routine, block_words, op_word}
+use Rattle.machine_forms.specs.Piece.{Piece}
+use Rattle.machine_forms.specs.Routine.{Routine, block_words, op_word}
 use Rattle.rv64_emit.specs.Starts.{starts_from, HasStarts}
 use Rattle.rv64_emit.specs.declared.starts.Starts.{Starts}
 

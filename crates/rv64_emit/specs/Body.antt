@@ -1,7 +1,7 @@
 -- What the code of a function in memory stands for.
 use Rattle.std.specs.Prelude.{◌≡◌, ℕ, List, [], ◌∷◌, ◌++◌, flat_map, length, nat_eq, unwrap_or}
 use Rattle.indexmap.specs.IndexMap.{get}
-use Rattle.emission_forms.specs.Routine.{Routine}
+use Rattle.machine_forms.specs.Routine.{Routine}
 use Rattle.rv64_emit.specs.declared.body.Body.{Body}
 use Rattle.rv64_emit.specs.Starts.{HasStarts}
 

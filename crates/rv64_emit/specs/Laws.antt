@@ -11,10 +11,10 @@ use Rattle.region_forms.specs.Form.{Arguments, call, call_value, construct, defi
 use Rattle.linear_forms.specs.Frame.{code_slots, slot_bytes}
 use Rattle.linear_forms.specs.Linear.{jump_zero, UnitCode}
 use Rattle.linear_forms.specs.Unit.{function_code, unit_of}
-use Rattle.emission_forms.specs.Emitted.{emitted_of, shape_of}
-use Rattle.emission_forms.specs.LinearCode.{linear_code}
-use Rattle.emission_forms.specs.OperationCode.{op_code}
-use Rattle.emission_forms.specs.Shape.{Shape, return_offset, slot_offset}
+use Rattle.machine_forms.specs.Emitted.{emitted_of, shape_of}
+use Rattle.machine_forms.specs.LinearCode.{linear_code}
+use Rattle.machine_forms.specs.OperationCode.{op_code}
+use Rattle.machine_forms.specs.Shape.{Shape, return_offset, slot_offset}
 
 -- functions one behind the other, from a word up to another
 abbrev pub StandFrom : (first end : ℕ) → List ListedFunction → Type 0

@@ -2,8 +2,8 @@
 use Rattle.std.specs.Prelude.{◌≡◌, ◌+◌, length, map}
 use Rattle.eh_bytes.specs.Listed.{listed_function}
 use Rattle.linear_forms.specs.Linear.{UnitCode}
-use Rattle.emission_forms.specs.Routine.{all_words, listed_routines}
-use Rattle.emission_forms.specs.Emitted.{unit_routines}
+use Rattle.machine_forms.specs.Routine.{all_words, listed_routines}
+use Rattle.machine_forms.specs.Emitted.{unit_routines}
 use Rattle.rv64_emit.specs.declared.places.Targets.{Targets}
 
 -- what a unit's code reaches outside its functions

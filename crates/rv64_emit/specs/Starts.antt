@@ -1,7 +1,7 @@
 -- The words at which operations begin, each made from the one before.
 use Rattle.std.specs.Prelude.{◌≡◌, ℕ, ◌+◌, List, [], ◌∷◌, length}
-use Rattle.emission_forms.specs.Piece.{Piece}
-use Rattle.emission_forms.specs.Routine.{Routine, routine_words}
+use Rattle.machine_forms.specs.Piece.{Piece}
+use Rattle.machine_forms.specs.Routine.{Routine, routine_words}
 use Rattle.rv64_emit.specs.declared.starts.Starts.{Starts}
 
 -- the first word of each block, the first of which begins at a word

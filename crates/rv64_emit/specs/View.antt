@@ -6,7 +6,7 @@ use Rattle.rv64_emit.specs.declared.piece.Target.TheVariants.{Entry, TypeRecord,
 use Rattle.rv64_emit.specs.declared.piece.Piece.{Piece as PieceValue}
 use Rattle.rv64_emit.specs.declared.piece.Piece.TheVariants.{Instruction, JumpTo, UpperPart, AddRest, LoadRest, StoreRest, JumpRest}
 use Rattle.linear_forms.specs.Stub.{Function, compiled, end_catch, call_unexpected}
-use Rattle.emission_forms.specs.Piece.{Target, entry, type_record, global_at, Piece, instruction, jump_to, upper_part, add_rest, load_rest, store_rest, jump_rest}
+use Rattle.machine_forms.specs.Piece.{Target, entry, type_record, global_at, Piece, instruction, jump_to, upper_part, add_rest, load_rest, store_rest, jump_rest}
 
 -- a function
 abbrev pub function_of : FunctionValue → Function

@@ -2,8 +2,8 @@
 ghost use Rattle.std.specs.Prelude.{◌≡◌, ◌++◌, IfOk, OnOk, length, map};
 ghost use Rattle.std.specs.List.{flat_map};
 ghost use Rattle.landing_pads.specs.View.{code_of, linear_of};
-ghost use Rattle.emission_forms.specs.Emitted.{function_routine};
-ghost use Rattle.emission_forms.specs.LinearCode.{linear_code};
+ghost use Rattle.machine_forms.specs.Emitted.{function_routine};
+ghost use Rattle.machine_forms.specs.LinearCode.{linear_code};
 ghost use Rattle.rv64_emit.specs.Body.{StandsFor};
 ghost use Rattle.rv64_emit.specs.Starts.{starts_from};
 

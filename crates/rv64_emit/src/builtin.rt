@@ -1,6 +1,6 @@
 // Built-in functions.
 ghost use Rattle.std.specs.Prelude.{◌≡◌, ◌++◌, OnOk};
-ghost use Rattle.emission_forms.specs.RuntimeCall as rules;
+ghost use Rattle.machine_forms.specs.RuntimeCall as rules;
 
 use crate::code::Code;
 use crate::runtime_call::{put_runtime_call, put_zero};

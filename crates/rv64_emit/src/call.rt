@@ -1,8 +1,8 @@
 // Arguments and calls.
 ghost use Rattle.std.specs.Prelude.{◌≡◌, ◌++◌, OnOk};
 ghost use Rattle.region_ir.specs.View.{argument_of, arguments_of, callee_of};
-ghost use Rattle.emission_forms.specs.CallCode as rules;
-ghost use Rattle.emission_forms.specs.Piece.{instruction};
+ghost use Rattle.machine_forms.specs.CallCode as rules;
+ghost use Rattle.machine_forms.specs.Piece.{instruction};
 ghost use Rattle.rv64_emit.specs.View.{function_of};
 
 use crate::NoMemory;

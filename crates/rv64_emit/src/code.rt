@@ -13,7 +13,7 @@ pub struct Code {
 
 impl Model for Code {
     ghost use Rattle.std.specs.Prelude.{List, map};
-    ghost use Rattle.emission_forms.specs.Piece.{Piece as PlainPiece};
+    ghost use Rattle.machine_forms.specs.Piece.{Piece as PlainPiece};
 
     ghost Value = { List PlainPiece };
 
@@ -24,7 +24,7 @@ impl Model for Code {
 
 impl Code {
     ghost use Rattle.std.specs.Prelude.{◌≡◌, ◌++◌, ◌<◌, [], ◌∷◌, length, map, slice_set, OnOk};
-    ghost use Rattle.emission_forms.specs.Piece.{instruction};
+    ghost use Rattle.machine_forms.specs.Piece.{instruction};
     ghost use Rattle.rv64_emit.specs.View.{piece_of};
 
     /// No code.

@@ -1,6 +1,6 @@
 // Numbers with sign as fields of instructions (RISC-V unprivileged ISA, volume I, "Immediate Encoding Variants").
 ghost use Rattle.std.specs.Prelude.{◌≡◌};
-ghost use Rattle.emission_forms.specs.Immediate as rules;
+ghost use Rattle.machine_forms.specs.Immediate as rules;
 
 use rv64_isa::{BranchOffset, Immediate12, Immediate20, JumpOffset};
 

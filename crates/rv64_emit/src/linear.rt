@@ -2,7 +2,7 @@
 ghost use Rattle.std.specs.Prelude.{◌≡◌, ◌++◌, OnOk};
 ghost use Rattle.landing_pads.specs.View.{linear_of};
 ghost use Rattle.linear_forms.specs.Linear.{jump_filter, unexpected};
-ghost use Rattle.emission_forms.specs.LinearCode as rules;
+ghost use Rattle.machine_forms.specs.LinearCode as rules;
 
 use crate::NoMemory;
 use crate::call::{pass, put_function_call};

@@ -2,7 +2,7 @@
 ghost use Rattle.std.specs.Prelude.{◌≡◌, ◌++◌, OnOk};
 ghost use Rattle.region_ir.specs.View.{arguments_of, operation_of, place_of, value_of};
 ghost use Rattle.region_forms.specs.Form.{throw};
-ghost use Rattle.emission_forms.specs.OperationCode as rules;
+ghost use Rattle.machine_forms.specs.OperationCode as rules;
 
 use crate::NoMemory;
 use crate::call::{pass, put_call, put_function_call, put_passed, put_valued_call};

@@ -1,6 +1,6 @@
 // Operators on registers.
 ghost use Rattle.std.specs.Prelude.{◌≡◌, ◌+◌, ◌++◌, IfOk, OnOk};
-ghost use Rattle.emission_forms.specs.ValueCode as rules;
+ghost use Rattle.machine_forms.specs.ValueCode as rules;
 
 use crate::NoMemory;
 use crate::code::Code;

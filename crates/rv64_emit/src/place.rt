@@ -1,8 +1,8 @@
 // Loads, stores and addresses of places.
 ghost use Rattle.std.specs.Prelude.{◌≡◌, ◌++◌, OnOk};
 ghost use Rattle.region_ir.specs.View.{place_of};
-ghost use Rattle.emission_forms.specs.Piece.{instruction};
-ghost use Rattle.emission_forms.specs.PlaceCode as rules;
+ghost use Rattle.machine_forms.specs.Piece.{instruction};
+ghost use Rattle.machine_forms.specs.PlaceCode as rules;
 ghost use Rattle.rv64_emit.specs.View.{target_of};
 
 use crate::NoMemory;

@@ -23,7 +23,7 @@ pub struct Targets<'a> {
 impl Targets<'_> {
     ghost use Rattle.std.specs.Prelude.{◌≡◌, ◌*◌, ◌^◌, ◌-ℤ◌, ◌≤ℤ◌, negsuc, pos};
     ghost use Rattle.linear_forms.specs.Linear.{UnitCode};
-    ghost use Rattle.emission_forms.specs.Emitted.{entry_word, function_first, target_byte};
+    ghost use Rattle.machine_forms.specs.Emitted.{entry_word, function_first, target_byte};
     ghost use Rattle.rv64_emit.specs.Places.{HasTargets};
     ghost use Rattle.rv64_emit.specs.View.{function_of, target_of};
 

@@ -1,6 +1,6 @@
 // The registers that code uses, by the names of the RISC-V calling convention.
 ghost use Rattle.std.specs.Prelude.{◌≡◌};
-ghost use Rattle.emission_forms.specs.Registers as rules;
+ghost use Rattle.machine_forms.specs.Registers as rules;
 
 use rv64_isa::Register;
 

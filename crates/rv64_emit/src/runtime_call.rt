@@ -1,6 +1,6 @@
 // The runtime calls: an ECALL with the number of the call in a7.
 ghost use Rattle.std.specs.Prelude.{◌≡◌, ◌++◌, ◌<◌, ◌^◌, OnOk};
-ghost use Rattle.emission_forms.specs.RuntimeCall as rules;
+ghost use Rattle.machine_forms.specs.RuntimeCall as rules;
 
 use crate::NoMemory;
 use crate::code::Code;

@@ -3,9 +3,9 @@ ghost use Rattle.std.specs.Prelude.{◌≡◌, ◌++◌, ◌-◌, IfOk, OnOk, ma
 ghost use Rattle.region_ir.specs.View.{slot_of};
 ghost use Rattle.linear_forms.specs.Frame.{rounded_up, slot_bytes};
 ghost use Rattle.landing_pads.specs.View.{code_of};
-ghost use Rattle.emission_forms.specs.Emitted.{shape_of};
-ghost use Rattle.emission_forms.specs.Shape as rules;
-ghost use Rattle.emission_forms.specs.Shape.{Shape};
+ghost use Rattle.machine_forms.specs.Emitted.{shape_of};
+ghost use Rattle.machine_forms.specs.Shape as rules;
+ghost use Rattle.machine_forms.specs.Shape.{Shape};
 ghost use Rattle.rv64_emit.specs.Offsets.{offsets_below};
 
 use crate::NoMemory;
@@ -35,12 +35,12 @@ pub struct Frame<'a> {
 }
 
 impl<'a> Model for Frame<'a> {
-    ghost use Rattle.emission_forms.specs.Shape.{Shape};
+    ghost use Rattle.machine_forms.specs.Shape.{Shape};
 
     ghost Value = { Shape };
 
     ghost use Rattle.landing_pads.specs.View.{code_of};
-    ghost use Rattle.emission_forms.specs.Emitted.{shape_of};
+    ghost use Rattle.machine_forms.specs.Emitted.{shape_of};
     ghost use Rattle.rv64_emit.specs.Offsets.{HasOffsets};
 
     ghost view = { λ f. shape_of (code_of f.function.now) };

@@ -8,7 +8,7 @@ pub struct Starts {
 
 impl Starts {
     ghost use Rattle.std.specs.Prelude.{◌≡◌};
-    ghost use Rattle.emission_forms.specs.Routine.{Routine, op_byte, op_word};
+    ghost use Rattle.machine_forms.specs.Routine.{Routine, op_byte, op_word};
     ghost use Rattle.rv64_emit.specs.Starts.{HasStarts};
 
     /// The first word of the operation at a place, and behind the last one the end.

@@ -3,8 +3,8 @@ ghost use Rattle.std.specs.Prelude.{◌≡◌, ℕ, IfOk, OnOk, Some, length, ma
 ghost use Rattle.eh_bytes.specs.Listed.{listed_table};
 ghost use Rattle.landing_pads.specs.View.{code_of, site_of};
 ghost use Rattle.linear_forms.specs.Sites.{same_chain};
-ghost use Rattle.emission_forms.specs.Emitted.{function_routine};
-ghost use Rattle.emission_forms.specs.Routine as rules;
+ghost use Rattle.machine_forms.specs.Emitted.{function_routine};
+ghost use Rattle.machine_forms.specs.Routine as rules;
 ghost use Rattle.rv64_emit.specs.Starts.{HasStarts};
 
 use crate::NoMemory;

@@ -1,7 +1,7 @@
 // Tests: a branch over one word where a value is not 0.
 ghost use Rattle.std.specs.Prelude.{◌≡◌, ◌++◌, nat_le, OnOk};
 ghost use Rattle.region_ir.specs.View.{value_of};
-ghost use Rattle.emission_forms.specs.ValueCode as rules;
+ghost use Rattle.machine_forms.specs.ValueCode as rules;
 
 use crate::NoMemory;
 use crate::code::Code;

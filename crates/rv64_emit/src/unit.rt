@@ -4,8 +4,8 @@ ghost use Rattle.eh_bytes.specs.Listed.{listed_function, listed_unit};
 ghost use Rattle.linear_forms.specs.Linear.{UnitCode as PlainUnit};
 ghost use Rattle.landing_pads.specs.View.{code_of, unit_view};
 ghost use Rattle.region_ir.specs.View.{row_of};
-ghost use Rattle.emission_forms.specs.Emitted as rules;
-ghost use Rattle.emission_forms.specs.Routine.{Routine, all_words, listed_routine, listed_routines, routine_words, routines_code};
+ghost use Rattle.machine_forms.specs.Emitted as rules;
+ghost use Rattle.machine_forms.specs.Routine.{Routine, all_words, listed_routine, listed_routines, routine_words, routines_code};
 ghost use Rattle.rv64_emit.specs.Body.{AllStandFor, StandsFor};
 ghost use Rattle.rv64_emit.specs.Places.{HasTargets};
 

@@ -2,9 +2,9 @@
 ghost use Rattle.std.specs.Prelude.{◌≡◌, ◌<◌, ◌+◌, ◌-◌, ◌*◌, ◌++◌, [], ◌∷◌, ℕ, List, length, nat_le, slice_set, IfOk, OnOk};
 ghost use Rattle.rv64_isa.specs.declared.instr.Instr.TheVariants.{Jal};
 ghost use Rattle.region_ir.specs.View.{value_of};
-ghost use Rattle.emission_forms.specs.Piece.{Piece as PlainPiece, instruction};
-ghost use Rattle.emission_forms.specs.Registers as registers;
-ghost use Rattle.emission_forms.specs.ValueCode as rules;
+ghost use Rattle.machine_forms.specs.Piece.{Piece as PlainPiece, instruction};
+ghost use Rattle.machine_forms.specs.Registers as registers;
+ghost use Rattle.machine_forms.specs.ValueCode as rules;
 
 use crate::NoMemory;
 use crate::code::Code;

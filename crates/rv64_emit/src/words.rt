@@ -1,9 +1,9 @@
 // The words of pieces whose places are known.
 ghost use Rattle.std.specs.Prelude.{◌≡◌, ◌+◌, ◌++◌, OnOk, map};
 ghost use Rattle.linear_forms.specs.Linear.{UnitCode};
-ghost use Rattle.emission_forms.specs.Emitted.{main_jump, target_byte};
-ghost use Rattle.emission_forms.specs.Piece as rules;
-ghost use Rattle.emission_forms.specs.Routine.{Routine, op_word, routine_code, routine_places};
+ghost use Rattle.machine_forms.specs.Emitted.{main_jump, target_byte};
+ghost use Rattle.machine_forms.specs.Piece as rules;
+ghost use Rattle.machine_forms.specs.Routine.{Routine, op_word, routine_code, routine_places};
 ghost use Rattle.rv64_emit.specs.Body.{StandsFor};
 ghost use Rattle.rv64_emit.specs.Places.{HasTargets};
 ghost use Rattle.rv64_emit.specs.View.{piece_of, target_of};

@@ -2,7 +2,7 @@
 use Rattle.std.proofs.Common.{◌≡◌, ◌+◌, List, [], ◌∷◌, length, refl, arith}
 use Rattle.cxx_ast.specs.declared.expression.Expr.{Expr}
 use Rattle.cxx_ast.specs.View.{expressions_of}
-use Rattle.scope_rules.specs.Expression.{count_of}
+use Rattle.meaning_forms.specs.Expression.{count_of}
 
 pub counted : (es : List Expr) → length es ≡ count_of (expressions_of es)
 counted [] = refl

@@ -5,17 +5,17 @@ use Rattle.cxx_ast.specs.declared.name.Name.{Name}
 use Rattle.cxx_ast.specs.declared.types.Ty.{Ty}
 use Rattle.cxx_ast.specs.declared.types.Ty.TheVariants.{Int, IntRef, Void, Object, ObjectRef}
 use Rattle.run_items.specs.declared.item.Item.TheVariants.{Enter, Leave, Destroy}
-use Rattle.scope_rules.specs.Class.{class_named, class_type, int_type, some_of}
-use Rattle.scope_rules.specs.Part.{Part, cell, unset}
-use Rattle.scope_rules.specs.World.{World, Exception, Reference, as_class, exception_at, whole}
-use Rattle.scope_rules.specs.Context.{Context, with_travelling}
-use Rattle.scope_rules.specs.Outcome.{Action, Result, Flow, done, emit, new_object, pure, read, ◌>>=◌, ◌>>◌}
-use Rattle.scope_rules.specs.Running.{Running}
-use Rattle.scope_rules.specs.Frame.{bound_as}
-use Rattle.scope_rules.specs.Terminate.{terminate, behind_barrier}
-use Rattle.scope_rules.specs.Scope.{after_scope}
-use Rattle.scope_rules.specs.Construct.{copy_object, destroy}
-use Rattle.scope_rules.specs.Handler.{enter, is_foreign, give_back, let_go, goes_on, after_handler, after_destructor, new_copy, catch_parameter, destroy_parameter, exception_object}
+use Rattle.meaning_forms.specs.Class.{class_named, class_type, int_type, some_of}
+use Rattle.meaning_forms.specs.Part.{Part, cell, unset}
+use Rattle.meaning_forms.specs.World.{World, Exception, Reference, as_class, exception_at, whole}
+use Rattle.meaning_forms.specs.Context.{Context, with_travelling}
+use Rattle.meaning_forms.specs.Outcome.{Action, Result, Flow, done, emit, new_object, pure, read, ◌>>=◌, ◌>>◌}
+use Rattle.meaning_forms.specs.Running.{Running}
+use Rattle.meaning_forms.specs.Frame.{bound_as}
+use Rattle.meaning_forms.specs.Terminate.{terminate, behind_barrier}
+use Rattle.meaning_forms.specs.Scope.{after_scope}
+use Rattle.meaning_forms.specs.Construct.{copy_object, destroy}
+use Rattle.meaning_forms.specs.Handler.{enter, is_foreign, give_back, let_go, goes_on, after_handler, after_destructor, new_copy, catch_parameter, destroy_parameter, exception_object}
 use Rattle.scope_world.specs.declared.exception.Exception.{Exception as CodeException}
 use Rattle.scope_world.specs.declared.exception.Exception.TheVariants as exceptions
 use Rattle.scope_world.specs.declared.exception.Installed.{Installed as CodeInstalled}

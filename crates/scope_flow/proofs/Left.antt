@@ -1,11 +1,11 @@
 -- Leaving a scope, from how it is left and what the leaving gives.
 use Rattle.std.proofs.Common.{◌≡◌, ◌∙◌, ℕ, ℤ, Bool, true, false, refl, ap, Ok, Err, Result as CodeResult}
-use Rattle.scope_rules.specs.World.{World}
-use Rattle.scope_rules.specs.Context.{Context, with_travelling}
-use Rattle.scope_rules.specs.Outcome.{Action, Result, done, stopped, Stop, thrown, cancelled, ended, exit, aborted, undefined, out_of_turns, deep, stop, pure, continued}
-use Rattle.scope_rules.specs.Running.{Running}
-use Rattle.scope_rules.specs.Terminate.{terminate, after_barrier, behind_barrier}
-use Rattle.scope_rules.specs.Scope.{unwound, after_scope, after_part}
+use Rattle.meaning_forms.specs.World.{World}
+use Rattle.meaning_forms.specs.Context.{Context, with_travelling}
+use Rattle.meaning_forms.specs.Outcome.{Action, Result, done, stopped, Stop, thrown, cancelled, ended, exit, aborted, undefined, out_of_turns, deep, stop, pure, continued}
+use Rattle.meaning_forms.specs.Running.{Running}
+use Rattle.meaning_forms.specs.Terminate.{terminate, after_barrier, behind_barrier}
+use Rattle.meaning_forms.specs.Scope.{unwound, after_scope, after_part}
 use Rattle.scope_world.specs.declared.outcome.Halt.{Halt}
 use Rattle.scope_world.specs.declared.outcome.Halt.TheVariants.{Thrown, Cancelled, Exited, Aborted, Undefined, OutOfTurns, Deep, NoMemory}
 use Rattle.scope_world.specs.Gives.{Gives, Halts, unwinds}

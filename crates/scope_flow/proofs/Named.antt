@@ -2,7 +2,7 @@
 use Rattle.std.proofs.Common.{◌≡◌, List, [], ◌∷◌, ◌++◌, refl, ap}
 use Rattle.cxx_ast.specs.declared.name.Name.{Name}
 use Rattle.cxx_ast.specs.declared.name.Bound.{Bound}
-use Rattle.scope_rules.specs.Expression.{callee_bound, receiver}
+use Rattle.meaning_forms.specs.Expression.{callee_bound, receiver}
 
 last_of : (before : List Name) (n : Name) → callee_bound (before ++ n ∷ []) ≡ n.bound
 last_of [] n = refl

@@ -1,14 +1,14 @@
 -- What passes outwards through a specification or a handler, from how what is inside came out.
 use Rattle.std.proofs.Common.{◌≡◌, ◌∙◌, ℕ, ℤ, Bool, true, false, List, refl, ap, sym, Err, Result as CodeResult}
 use Rattle.std.specs.Prelude.{if◌then◌else◌}
-use Rattle.scope_rules.specs.Class.{ObjectType, contains}
-use Rattle.scope_rules.specs.World.{World, Installed, type_at}
-use Rattle.scope_rules.specs.Context.{Context}
-use Rattle.scope_rules.specs.Outcome.{Action, Result, stopped, thrown, stop, Flow}
-use Rattle.scope_rules.specs.Guard.{allows}
-use Rattle.scope_rules.specs.Running.{Running}
-use Rattle.scope_rules.specs.Handler.{goes_on}
-use Rattle.scope_rules.specs.Specification.{after_unexpected, after_extent, unexpected}
+use Rattle.meaning_forms.specs.Class.{ObjectType, contains}
+use Rattle.meaning_forms.specs.World.{World, Installed, type_at}
+use Rattle.meaning_forms.specs.Context.{Context}
+use Rattle.meaning_forms.specs.Outcome.{Action, Result, stopped, thrown, stop, Flow}
+use Rattle.meaning_forms.specs.Guard.{allows}
+use Rattle.meaning_forms.specs.Running.{Running}
+use Rattle.meaning_forms.specs.Handler.{goes_on}
+use Rattle.meaning_forms.specs.Specification.{after_unexpected, after_extent, unexpected}
 use Rattle.scope_world.specs.declared.outcome.Halt.{Halt}
 use Rattle.scope_world.specs.declared.outcome.Halt.TheVariants.{Thrown, Cancelled, Exited, Aborted, Undefined, OutOfTurns, Deep, NoMemory}
 use Rattle.scope_world.specs.declared.outcome.Flow.{Flow as CodeFlow}

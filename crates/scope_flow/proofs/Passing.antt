@@ -1,9 +1,9 @@
 -- A stop passes outwards, and an answer goes on to what is done next.
 use Rattle.std.proofs.Common.{◌≡◌, ◌∙◌, ℕ, true, false, ap, Result as CodeResult}
-use Rattle.scope_rules.specs.World.{World}
-use Rattle.scope_rules.specs.Outcome.{Result, done, thrown, cancelled, stop, Action, continued}
-use Rattle.scope_rules.specs.Throw.{free, after_building}
-use Rattle.scope_rules.specs.Handler.{after_destructor}
+use Rattle.meaning_forms.specs.World.{World}
+use Rattle.meaning_forms.specs.Outcome.{Result, done, thrown, cancelled, stop, Action, continued}
+use Rattle.meaning_forms.specs.Throw.{free, after_building}
+use Rattle.meaning_forms.specs.Handler.{after_destructor}
 use Rattle.scope_world.specs.declared.outcome.Halt.{Halt}
 use Rattle.scope_world.specs.declared.outcome.Halt.TheVariants.{Thrown, Cancelled, Exited, Aborted, Undefined, OutOfTurns, Deep, NoMemory}
 use Rattle.scope_world.specs.Gives.{Gives, GivesBy, Halts, unwinds}

@@ -2,15 +2,15 @@
 use Rattle.std.proofs.Common.{◌≡◌, ◌∙◌, ℕ, ℤ, Bool, true, false, List, [], ◌∷◌, Option, Some, None, refl, subst, sym}
 use Rattle.std.specs.Prelude.{if◌then◌else◌}
 use Rattle.run_items.specs.declared.item.Item.TheVariants.{Enter, Make, Foreign}
-use Rattle.scope_rules.specs.Class.{ObjectType, contains}
-use Rattle.scope_rules.specs.Part.{part_type}
-use Rattle.scope_rules.specs.World.{World, Installed, building, native, foreign, exception_at, type_at, object_at, with_exception}
-use Rattle.scope_rules.specs.Context.{Context, handling}
-use Rattle.scope_rules.specs.Outcome.{Action, Result, done, emit, stop, ended, aborted, thrown, Flow, ◌>>=◌, ◌>>◌}
-use Rattle.scope_rules.specs.Guard.{is_doomed}
-use Rattle.scope_rules.specs.Running.{Running}
-use Rattle.scope_rules.specs.Terminate.{terminate, terminate_with, enter_and_terminate, terminate_because}
-use Rattle.scope_rules.specs.Throw.{raise_exception, raise_foreign, after_building, keep, new_exception, throw_new, is_full, rethrow_newest}
+use Rattle.meaning_forms.specs.Class.{ObjectType, contains}
+use Rattle.meaning_forms.specs.Part.{part_type}
+use Rattle.meaning_forms.specs.World.{World, Installed, building, native, foreign, exception_at, type_at, object_at, with_exception}
+use Rattle.meaning_forms.specs.Context.{Context, handling}
+use Rattle.meaning_forms.specs.Outcome.{Action, Result, done, emit, stop, ended, aborted, thrown, Flow, ◌>>=◌, ◌>>◌}
+use Rattle.meaning_forms.specs.Guard.{is_doomed}
+use Rattle.meaning_forms.specs.Running.{Running}
+use Rattle.meaning_forms.specs.Terminate.{terminate, terminate_with, enter_and_terminate, terminate_because}
+use Rattle.meaning_forms.specs.Throw.{raise_exception, raise_foreign, after_building, keep, new_exception, throw_new, is_full, rethrow_newest}
 use Rattle.scope_world.specs.declared.outcome.Halt.{Halt}
 use Rattle.scope_world.specs.declared.outcome.Halt.TheVariants.{Thrown}
 use Rattle.scope_world.specs.Gives.{Halts}

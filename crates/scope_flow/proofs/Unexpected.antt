@@ -1,18 +1,18 @@
 -- What comes out of an unexpected handler is passed on, and what a specification stops is unexpected.
 use Rattle.std.proofs.Common.{◌≡◌, ◌∙◌, ℕ, Bool, true, false, List, Option, refl, ap, sym, subst, Ok, Result as CodeResult}
 use Rattle.std.specs.Prelude.{if◌then◌else◌}
-use Rattle.scope_rules.specs.Class.{ObjectType, class_type, some_of}
-use Rattle.scope_rules.specs.Part.{Part, unset}
-use Rattle.scope_rules.specs.World.{World, Exception, Installed, Reference, exception_type, type_at, whole, exception_at}
-use Rattle.scope_rules.specs.Context.{Context, handling}
-use Rattle.scope_rules.specs.Outcome.{Action, done, Flow, new_object, pure, ◌>>◌}
-use Rattle.scope_rules.specs.Guard.{allows}
-use Rattle.scope_rules.specs.Running.{Running}
-use Rattle.scope_rules.specs.Terminate.{terminate_with}
-use Rattle.scope_rules.specs.Throw.{raise_exception, throw_new}
-use Rattle.scope_rules.specs.Construct.{default_object}
-use Rattle.scope_rules.specs.Handler.{enter, after_handler, while_handled}
-use Rattle.scope_rules.specs.Specification.{is_bad_exception, new_bad_exception, pass_on, kept_with, run_unexpected_handler, unexpected}
+use Rattle.meaning_forms.specs.Class.{ObjectType, class_type, some_of}
+use Rattle.meaning_forms.specs.Part.{Part, unset}
+use Rattle.meaning_forms.specs.World.{World, Exception, Installed, Reference, exception_type, type_at, whole, exception_at}
+use Rattle.meaning_forms.specs.Context.{Context, handling}
+use Rattle.meaning_forms.specs.Outcome.{Action, done, Flow, new_object, pure, ◌>>◌}
+use Rattle.meaning_forms.specs.Guard.{allows}
+use Rattle.meaning_forms.specs.Running.{Running}
+use Rattle.meaning_forms.specs.Terminate.{terminate_with}
+use Rattle.meaning_forms.specs.Throw.{raise_exception, throw_new}
+use Rattle.meaning_forms.specs.Construct.{default_object}
+use Rattle.meaning_forms.specs.Handler.{enter, after_handler, while_handled}
+use Rattle.meaning_forms.specs.Specification.{is_bad_exception, new_bad_exception, pass_on, kept_with, run_unexpected_handler, unexpected}
 use Rattle.scope_world.specs.declared.outcome.Halt.{Halt}
 use Rattle.scope_world.specs.declared.outcome.Flow.{Flow as CodeFlow}
 use Rattle.scope_world.specs.Gives.{GivesBy, Halts, flow_of}

@@ -1,11 +1,11 @@
 -- Calls that have as much fuel as they need, whatever the world.
 use Rattle.std.specs.Prelude.{suc, ℤ, List}
 use Rattle.cxx_ast.specs.Plain.{Checked}
-use Rattle.scope_rules.specs.World.{Reference}
-use Rattle.scope_rules.specs.Context.{Context}
-use Rattle.scope_rules.specs.Outcome.{Action}
-use Rattle.scope_rules.specs.Running.{Running, Callee, Argument}
-use Rattle.scope_rules.specs.Call.{call_with}
+use Rattle.meaning_forms.specs.World.{Reference}
+use Rattle.meaning_forms.specs.Context.{Context}
+use Rattle.meaning_forms.specs.Outcome.{Action}
+use Rattle.meaning_forms.specs.Running.{Running, Callee, Argument}
+use Rattle.meaning_forms.specs.Call.{call_with}
 
 -- a call with one unit of fuel more than there are turns, and at most 128 open calls
 unfoldable pub full_call : Checked → Callee → Reference → List Argument → Context → Action ℤ

@@ -15,12 +15,12 @@ use Rattle.scope_flow.specs.declared.destroy.Leaving.TheVariants as leaving
 use Rattle.scope_flow.specs.declared.names.Parameters.{Parameters}
 use Rattle.scope_flow.specs.declared.names.Parameters.TheVariants as parameters
 use Rattle.scope_world.specs.Objects.{type_of, reference_of}
-use Rattle.scope_rules.specs.Context.{Context}
-use Rattle.scope_rules.specs.Outcome.{Action}
-use Rattle.scope_rules.specs.Running.{Running, Constructor, declared, implicit_default, implicit_copy, Callee, function, method, constructor, destructor}
-use Rattle.scope_rules.specs.Construct.{destroy, is_copy_constructor, is_constructor_with, is_destructor}
-use Rattle.scope_rules.specs.Handler.{let_go}
-use Rattle.scope_rules.specs.Expression.{types_of}
+use Rattle.meaning_forms.specs.Context.{Context}
+use Rattle.meaning_forms.specs.Outcome.{Action}
+use Rattle.meaning_forms.specs.Running.{Running, Constructor, declared, implicit_default, implicit_copy, Callee, function, method, constructor, destructor}
+use Rattle.meaning_forms.specs.Construct.{destroy, is_copy_constructor, is_constructor_with, is_destructor}
+use Rattle.meaning_forms.specs.Handler.{let_go}
+use Rattle.meaning_forms.specs.Expression.{types_of}
 
 -- a constructor
 abbrev pub constructor_of : CodeConstructor → Constructor

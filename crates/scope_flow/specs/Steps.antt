@@ -1,14 +1,14 @@
 -- Steps of the meaning that are made as one.
 use Rattle.std.specs.Prelude.{ℕ, List, [], ◌∷◌, Option, Some, None, Ok, Err, Result as CodeResult}
 use Rattle.cxx_ast.specs.declared.types.Ty.{Ty}
-use Rattle.scope_rules.specs.Class.{ObjectType}
-use Rattle.scope_rules.specs.World.{Installed, Reference, exception_at}
-use Rattle.scope_rules.specs.Context.{Context, with_travelling}
-use Rattle.scope_rules.specs.Outcome.{Action, Result, Flow, pure, continued, world, ◌>>=◌, ◌>>◌}
-use Rattle.scope_rules.specs.Running.{Running}
-use Rattle.scope_rules.specs.Throw.{after_building, keep, raise_exception}
-use Rattle.scope_rules.specs.Handler.{catch_parameter, enter, exception_object, while_handled}
-use Rattle.scope_rules.specs.Specification.{pass_on}
+use Rattle.meaning_forms.specs.Class.{ObjectType}
+use Rattle.meaning_forms.specs.World.{Installed, Reference, exception_at}
+use Rattle.meaning_forms.specs.Context.{Context, with_travelling}
+use Rattle.meaning_forms.specs.Outcome.{Action, Result, Flow, pure, continued, world, ◌>>=◌, ◌>>◌}
+use Rattle.meaning_forms.specs.Running.{Running}
+use Rattle.meaning_forms.specs.Throw.{after_building, keep, raise_exception}
+use Rattle.meaning_forms.specs.Handler.{catch_parameter, enter, exception_object, while_handled}
+use Rattle.meaning_forms.specs.Specification.{pass_on}
 use Rattle.scope_world.specs.declared.outcome.Halt.{Halt}
 
 -- after its object is built, an exception is kept and thrown

@@ -8,7 +8,7 @@ ghost use Rattle.scope_world.specs.Gives.{Gives};
 ghost use Rattle.scope_world.specs.Inward.{context_of};
 ghost use Rattle.scope_world.specs.Objects.{reference_of};
 ghost use Rattle.scope_world.specs.Seen.{world_of};
-ghost use Rattle.scope_rules.specs.Construct as rules;
+ghost use Rattle.meaning_forms.specs.Construct as rules;
 
 use crate::callee::{Callee, Calls, Constructor};
 use cxx_ast::declaration::{Func, FuncKind};

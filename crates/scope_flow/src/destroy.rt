@@ -2,17 +2,17 @@
 
 ghost use Rattle.std.specs.Prelude.{◌≡◌};
 ghost use Rattle.cxx_ast.specs.View.{checked_of};
-ghost use Rattle.scope_rules.specs.Outcome.{Flow as FlowMeant, Result as Outcome};
+ghost use Rattle.meaning_forms.specs.Outcome.{Flow as FlowMeant, Result as Outcome};
 ghost use Rattle.scope_flow.specs.Always.{always};
 ghost use Rattle.scope_flow.specs.Asked.{leaving_of};
 ghost use Rattle.scope_world.specs.Gives.{Gives, GivesBy, Halts, flow_of};
 ghost use Rattle.scope_world.specs.Inward.{context_of};
 ghost use Rattle.scope_world.specs.Objects.{reference_of, type_of};
 ghost use Rattle.scope_world.specs.Seen.{world_of};
-ghost use Rattle.scope_rules.specs.Construct as construct_rules;
+ghost use Rattle.meaning_forms.specs.Construct as construct_rules;
 ghost use Rattle.scope_flow.specs.Steps.{left_as};
-ghost use Rattle.scope_rules.specs.Terminate as terminate_rules;
-ghost use Rattle.scope_rules.specs.Scope as rules;
+ghost use Rattle.meaning_forms.specs.Terminate as terminate_rules;
+ghost use Rattle.meaning_forms.specs.Scope as rules;
 
 use crate::callee::{Callee, Calls};
 use crate::handler::let_go;

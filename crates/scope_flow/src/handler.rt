@@ -2,21 +2,21 @@
 
 ghost use Rattle.std.specs.Prelude.{◌≡◌, ◌==◌, ◌&&◌, not, ℕ, Some, option_map, IfSome};
 ghost use Rattle.cxx_ast.specs.View.{checked_of, option_of};
-ghost use Rattle.scope_rules.specs.Outcome.{Flow as FlowMeant, Result as Outcome};
-ghost use Rattle.scope_rules.specs.World.{Reference as ReferenceMeant, World as WorldMeant};
+ghost use Rattle.meaning_forms.specs.Outcome.{Flow as FlowMeant, Result as Outcome};
+ghost use Rattle.meaning_forms.specs.World.{Reference as ReferenceMeant, World as WorldMeant};
 ghost use Rattle.scope_flow.specs.Always.{always};
 ghost use Rattle.scope_world.specs.Gives.{Gives, GivesBy, flow_of};
 ghost use Rattle.scope_world.specs.Inward.{clause_in, context_of};
 ghost use Rattle.scope_world.specs.Objects.{reference_of, type_of};
 ghost use Rattle.scope_world.specs.Seen.{world_of};
-ghost use Rattle.scope_rules.specs.Construct.{destroy};
-ghost use Rattle.scope_rules.specs.Class.{some_of};
-ghost use Rattle.scope_rules.specs.Handler as rules;
-ghost use Rattle.scope_rules.specs.Running.{Running};
-ghost use Rattle.scope_rules.specs.World.{exception_at};
+ghost use Rattle.meaning_forms.specs.Construct.{destroy};
+ghost use Rattle.meaning_forms.specs.Class.{some_of};
+ghost use Rattle.meaning_forms.specs.Handler as rules;
+ghost use Rattle.meaning_forms.specs.Running.{Running};
+ghost use Rattle.meaning_forms.specs.World.{exception_at};
 ghost use Rattle.scope_flow.specs.Steps.{entered};
 ghost use Rattle.std.specs.List.{find};
-ghost use Rattle.scope_rules.specs.Guard.{matches as rule_matches};
+ghost use Rattle.meaning_forms.specs.Guard.{matches as rule_matches};
 
 use crate::callee::Calls;
 use crate::construct::copy_object;

@@ -2,7 +2,7 @@
 
 ghost use Rattle.std.specs.Prelude.{◌≡◌, option_map, drop};
 ghost use Rattle.cxx_ast.specs.View.{checked_of, expression_of, expressions_of};
-ghost use Rattle.scope_rules.specs.Expression as rules;
+ghost use Rattle.meaning_forms.specs.Expression as rules;
 ghost use Rattle.scope_flow.specs.Asked.{constructor_of, parameter_types_of};
 
 use crate::Constructor;

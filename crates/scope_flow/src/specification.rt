@@ -2,16 +2,16 @@
 
 ghost use Rattle.std.specs.Prelude.{◌≡◌, ℕ, map};
 ghost use Rattle.cxx_ast.specs.View.{checked_of};
-ghost use Rattle.scope_rules.specs.Outcome.{Flow as FlowMeant, Result as Outcome};
+ghost use Rattle.meaning_forms.specs.Outcome.{Flow as FlowMeant, Result as Outcome};
 ghost use Rattle.scope_flow.specs.Always.{always};
 ghost use Rattle.scope_world.specs.Gives.{Gives, GivesBy, Halts, flow_of};
 ghost use Rattle.scope_world.specs.Inward.{context_of};
 ghost use Rattle.scope_world.specs.Seen.{installed_of, world_of};
-ghost use Rattle.scope_rules.specs.Class.{object_type, some_of};
-ghost use Rattle.scope_rules.specs.Guard.{allows as allows_rule};
-ghost use Rattle.scope_rules.specs.Specification as rules;
-ghost use Rattle.scope_rules.specs.World.{type_at};
-ghost use Rattle.scope_rules.specs.Throw.{throw_new};
+ghost use Rattle.meaning_forms.specs.Class.{object_type, some_of};
+ghost use Rattle.meaning_forms.specs.Guard.{allows as allows_rule};
+ghost use Rattle.meaning_forms.specs.Specification as rules;
+ghost use Rattle.meaning_forms.specs.World.{type_at};
+ghost use Rattle.meaning_forms.specs.Throw.{throw_new};
 ghost use Rattle.scope_flow.specs.Steps.{passing_on};
 
 use crate::callee::{Callee, Calls};

@@ -2,13 +2,13 @@
 
 ghost use Rattle.std.specs.Prelude.{ℤ};
 ghost use Rattle.cxx_ast.specs.View.{checked_of};
-ghost use Rattle.scope_rules.specs.Outcome.{Flow as FlowMeant, Result as Outcome};
-ghost use Rattle.scope_rules.specs.World.{World as WorldMeant};
+ghost use Rattle.meaning_forms.specs.Outcome.{Flow as FlowMeant, Result as Outcome};
+ghost use Rattle.meaning_forms.specs.World.{World as WorldMeant};
 ghost use Rattle.scope_flow.specs.Always.{always};
 ghost use Rattle.scope_world.specs.Gives.{Gives, Halts};
 ghost use Rattle.scope_world.specs.Inward.{context_of};
 ghost use Rattle.scope_world.specs.Seen.{world_of};
-ghost use Rattle.scope_rules.specs.Terminate as rules;
+ghost use Rattle.meaning_forms.specs.Terminate as rules;
 
 use crate::callee::{Callee, Calls};
 use run_items::Item;

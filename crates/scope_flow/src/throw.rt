@@ -2,12 +2,12 @@
 
 ghost use Rattle.std.specs.Prelude.{◌≡◌, ℕ, ℤ};
 ghost use Rattle.cxx_ast.specs.View.{checked_of};
-ghost use Rattle.scope_rules.specs.Outcome.{Flow as FlowMeant, Result as Outcome};
+ghost use Rattle.meaning_forms.specs.Outcome.{Flow as FlowMeant, Result as Outcome};
 ghost use Rattle.scope_flow.specs.Always.{always};
 ghost use Rattle.scope_world.specs.Gives.{Gives, Halts};
 ghost use Rattle.scope_world.specs.Inward.{context_of, numbers_of};
 ghost use Rattle.scope_world.specs.Seen.{world_of};
-ghost use Rattle.scope_rules.specs.Throw as rules;
+ghost use Rattle.meaning_forms.specs.Throw as rules;
 ghost use Rattle.scope_flow.specs.Steps.{built, newest};
 
 use crate::callee::Calls;

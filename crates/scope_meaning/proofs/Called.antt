@@ -5,14 +5,14 @@ use Rattle.cxx_ast.specs.declared.types.Param.{Param}
 use Rattle.cxx_ast.specs.declared.types.Ty.{Ty}
 use Rattle.cxx_ast.specs.declared.types.Ty.TheVariants.{Int, Void, Object, IntRef, ObjectRef}
 use Rattle.cxx_ast.specs.Plain.{Function}
-use Rattle.scope_rules.specs.Class.{ObjectType, function_at, method_at, object_type, parts_of}
-use Rattle.scope_rules.specs.World.{World, Reference}
-use Rattle.scope_rules.specs.Context.{Context, guarded_by, specification}
-use Rattle.scope_rules.specs.Outcome.{Action, Flow, normal, done, pure, ◌>>=◌}
-use Rattle.scope_rules.specs.Running.{Running, Argument, function, method, declared, implicit_copy}
-use Rattle.scope_rules.specs.Frame.{Frame, with_arguments}
-use Rattle.scope_rules.specs.Specification.{after_extent, under_specification}
-use Rattle.scope_rules.specs.Call.{body_of, build_parts, construction, copy_part, destroy_parts, destruction, new_frame, run_callee, run_constructor, run_destructor, run_function, source_of, value_at_end, value_returned}
+use Rattle.meaning_forms.specs.Class.{ObjectType, function_at, method_at, object_type, parts_of}
+use Rattle.meaning_forms.specs.World.{World, Reference}
+use Rattle.meaning_forms.specs.Context.{Context, guarded_by, specification}
+use Rattle.meaning_forms.specs.Outcome.{Action, Flow, normal, done, pure, ◌>>=◌}
+use Rattle.meaning_forms.specs.Running.{Running, Argument, function, method, declared, implicit_copy}
+use Rattle.meaning_forms.specs.Frame.{Frame, with_arguments}
+use Rattle.meaning_forms.specs.Specification.{after_extent, under_specification}
+use Rattle.meaning_forms.specs.Call.{body_of, build_parts, construction, copy_part, destroy_parts, destruction, new_frame, run_callee, run_constructor, run_destructor, run_function, source_of, value_at_end, value_returned}
 use Rattle.scope_world.specs.declared.outcome.Halt.{Halt}
 use Rattle.scope_world.specs.declared.outcome.Flow.{Flow as CodeFlow}
 use Rattle.scope_world.specs.declared.outcome.Flow.TheVariants as flows

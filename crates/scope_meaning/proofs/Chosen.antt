@@ -3,10 +3,10 @@ use Rattle.std.proofs.Common.{◌≡◌, ◌≢◌, ℕ, List, [], ◌∷◌, le
 use Rattle.cxx_ast.specs.declared.expression.Expr.{Expr}
 use Rattle.cxx_ast.specs.View.{expressions_of}
 use Rattle.cxx_ast.specs.Plain.{Checked}
-use Rattle.scope_rules.specs.World.{World}
-use Rattle.scope_rules.specs.Frame.{Frame}
-use Rattle.scope_rules.specs.Construct.{constructor_for}
-use Rattle.scope_rules.specs.Expression.{constructor_chosen}
+use Rattle.meaning_forms.specs.World.{World}
+use Rattle.meaning_forms.specs.Frame.{Frame}
+use Rattle.meaning_forms.specs.Construct.{constructor_for}
+use Rattle.meaning_forms.specs.Expression.{constructor_chosen}
 use Rattle.scope_flow.proofs.Counted.{counted}
 
 -- other than one argument: their number selects

@@ -4,19 +4,19 @@ use Rattle.std.specs.Prelude.{if◌then◌else◌}
 use Rattle.cxx_ast.specs.declared.name.Name.{Name}
 use Rattle.cxx_ast.specs.declared.types.Param.{Param}
 use Rattle.cxx_ast.specs.Plain.{Checked, Expression, Expressions, Statement, if_else, local_int, local_object, local_ref, Statements, no_statements, statement_then, Else, no_else, else_do}
-use Rattle.scope_rules.specs.Arithmetic.{is_zero}
-use Rattle.scope_rules.specs.Class.{class_named, class_type}
-use Rattle.scope_rules.specs.Part.{Part, unset}
-use Rattle.scope_rules.specs.World.{World, Reference, whole, written}
-use Rattle.scope_rules.specs.Context.{Context}
-use Rattle.scope_rules.specs.Outcome.{Action, Flow, done, new_object, normal, pure, write, ◌>>=◌, ◌>>◌}
-use Rattle.scope_rules.specs.Running.{Running}
-use Rattle.scope_rules.specs.Frame.{Frame, Variable, bound_as, local_number, lvalue, with_parameter, with_variable}
-use Rattle.scope_rules.specs.Scope.{after_scope, scope}
-use Rattle.scope_rules.specs.Construct.{destroy}
-use Rattle.scope_rules.specs.Handler.{destroy_parameter}
-use Rattle.scope_rules.specs.Expression.{construct, value_of}
-use Rattle.scope_rules.specs.Statement.{local_cell, otherwise, statement, statements}
+use Rattle.meaning_forms.specs.Arithmetic.{is_zero}
+use Rattle.meaning_forms.specs.Class.{class_named, class_type}
+use Rattle.meaning_forms.specs.Part.{Part, unset}
+use Rattle.meaning_forms.specs.World.{World, Reference, whole, written}
+use Rattle.meaning_forms.specs.Context.{Context}
+use Rattle.meaning_forms.specs.Outcome.{Action, Flow, done, new_object, normal, pure, write, ◌>>=◌, ◌>>◌}
+use Rattle.meaning_forms.specs.Running.{Running}
+use Rattle.meaning_forms.specs.Frame.{Frame, Variable, bound_as, local_number, lvalue, with_parameter, with_variable}
+use Rattle.meaning_forms.specs.Scope.{after_scope, scope}
+use Rattle.meaning_forms.specs.Construct.{destroy}
+use Rattle.meaning_forms.specs.Handler.{destroy_parameter}
+use Rattle.meaning_forms.specs.Expression.{construct, value_of}
+use Rattle.meaning_forms.specs.Statement.{local_cell, otherwise, statement, statements}
 use Rattle.cxx_ast.specs.declared.types.Ty.{Ty}
 use Rattle.scope_world.specs.declared.outcome.Halt.{Halt}
 use Rattle.scope_world.specs.declared.outcome.Flow.{Flow as CodeFlow}

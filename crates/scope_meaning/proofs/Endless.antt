@@ -2,14 +2,14 @@
 use Rattle.std.proofs.Common.{◌≡◌, ◌<◌, ℕ, zero, suc, ℤ, Bool, true, false, List, refl, ap, arith}
 use Rattle.std.specs.Prelude.{nat_le, if◌then◌else◌}
 use Rattle.cxx_ast.specs.Plain.{Checked}
-use Rattle.scope_rules.specs.World.{World, Reference}
-use Rattle.scope_rules.specs.Context.{Context}
-use Rattle.scope_rules.specs.Outcome.{Action, Result, stop, deep, change, ◌>>=◌, ◌>>◌}
-use Rattle.scope_rules.specs.Running.{Running, Callee, Argument}
-use Rattle.scope_rules.specs.Statement.{spend, spend_turn}
-use Rattle.scope_rules.specs.Call.{call_with, run_callee, running, open_call, opened, after_call}
-use Rattle.scope_rules.proofs.Turns.{Spends, call_with-spends}
-use Rattle.scope_rules.proofs.Fuel.{Same, Agree, run_callee-same, call_with-enough}
+use Rattle.meaning_forms.specs.World.{World, Reference}
+use Rattle.meaning_forms.specs.Context.{Context}
+use Rattle.meaning_forms.specs.Outcome.{Action, Result, stop, deep, change, ◌>>=◌, ◌>>◌}
+use Rattle.meaning_forms.specs.Running.{Running, Callee, Argument}
+use Rattle.meaning_forms.specs.Statement.{spend, spend_turn}
+use Rattle.meaning_forms.specs.Call.{call_with, run_callee, running, open_call, opened, after_call}
+use Rattle.meaning_forms.proofs.Turns.{Spends, call_with-spends}
+use Rattle.meaning_forms.proofs.Fuel.{Same, Agree, run_callee-same, call_with-enough}
 use Rattle.scope_flow.specs.Always.{full_call, always}
 
 agree : (p : Checked) (n : ℕ) → Agree n (call_with p 128 n) (full_call p)

@@ -10,15 +10,15 @@ use Rattle.cxx_ast.specs.declared.types.Ty.{Ty}
 use Rattle.cxx_ast.specs.declared.types.Ty.TheVariants.{Int, Void, Object, IntRef, ObjectRef}
 use Rattle.cxx_ast.specs.Plain.{Checked, Expression, path, binary, call, Expressions}
 use Rattle.run_items.specs.declared.item.Item.TheVariants.{Line}
-use Rattle.scope_rules.specs.Arithmetic.{binary_value, decided}
-use Rattle.scope_rules.specs.Class.{class_named}
-use Rattle.scope_rules.specs.World.{World, Reference, as_class, nowhere}
-use Rattle.scope_rules.specs.Context.{Context}
-use Rattle.scope_rules.specs.Outcome.{Action, done, emit, ended, exit, cancelled, pure, read, stop, ◌>>=◌, ◌>>◌}
-use Rattle.scope_rules.specs.Running.{Running, Argument, by_reference, by_value, Constructor, constructor, function, method}
-use Rattle.scope_rules.specs.Frame.{Frame, bound_as, lvalue}
-use Rattle.scope_rules.specs.Throw.{call_module}
-use Rattle.scope_rules.specs.Expression.{arguments, builtin, called, callee_bound, construct, constructor_chosen, constructor_types, is_reference, lvalue_of, names_of, parameter_types, passed, receiver, value_at, value_of, with_right_side}
+use Rattle.meaning_forms.specs.Arithmetic.{binary_value, decided}
+use Rattle.meaning_forms.specs.Class.{class_named}
+use Rattle.meaning_forms.specs.World.{World, Reference, as_class, nowhere}
+use Rattle.meaning_forms.specs.Context.{Context}
+use Rattle.meaning_forms.specs.Outcome.{Action, done, emit, ended, exit, cancelled, pure, read, stop, ◌>>=◌, ◌>>◌}
+use Rattle.meaning_forms.specs.Running.{Running, Argument, by_reference, by_value, Constructor, constructor, function, method}
+use Rattle.meaning_forms.specs.Frame.{Frame, bound_as, lvalue}
+use Rattle.meaning_forms.specs.Throw.{call_module}
+use Rattle.meaning_forms.specs.Expression.{arguments, builtin, called, callee_bound, construct, constructor_chosen, constructor_types, is_reference, lvalue_of, names_of, parameter_types, passed, receiver, value_at, value_of, with_right_side}
 use Rattle.scope_world.specs.declared.outcome.Halt.{Halt}
 use Rattle.scope_world.specs.declared.outcome.Halt.TheVariants.{Exited, Cancelled}
 use Rattle.scope_world.specs.Gives.{Gives, Halts}

@@ -2,12 +2,12 @@
 use Rattle.std.proofs.Common.{◌≡◌, ◌∙◌, List, [], ◌∷◌, ◌++◌, drop, refl, ap, sym, append_assoc}
 use Rattle.cxx_ast.specs.declared.types.Ty.{Ty}
 use Rattle.cxx_ast.specs.Plain.{Expression, Expressions, no_expressions, expression_then}
-use Rattle.scope_rules.specs.World.{World}
-use Rattle.scope_rules.specs.Context.{Context}
-use Rattle.scope_rules.specs.Outcome.{Result, done, stopped, pure, continued, ◌>>=◌}
-use Rattle.scope_rules.specs.Running.{Running, Argument}
-use Rattle.scope_rules.specs.Frame.{Frame}
-use Rattle.scope_rules.specs.Expression.{passed, value_of, arguments}
+use Rattle.meaning_forms.specs.World.{World}
+use Rattle.meaning_forms.specs.Context.{Context}
+use Rattle.meaning_forms.specs.Outcome.{Result, done, stopped, pure, continued, ◌>>=◌}
+use Rattle.meaning_forms.specs.Running.{Running, Argument}
+use Rattle.meaning_forms.specs.Frame.{Frame}
+use Rattle.meaning_forms.specs.Expression.{passed, value_of, arguments}
 use Rattle.scope_world.specs.declared.outcome.Halt.{Halt}
 use Rattle.scope_world.specs.Gives.{Halts}
 use Rattle.scope_flow.proofs.Passing.{halts_continued}

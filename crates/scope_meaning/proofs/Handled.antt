@@ -6,16 +6,16 @@ use Rattle.cxx_ast.specs.declared.types.Ty.{Ty}
 use Rattle.cxx_ast.specs.declared.statement.Handler.{Handler}
 use Rattle.cxx_ast.specs.Plain.{Statements, Handlers}
 use Rattle.cxx_ast.specs.View.{statements_of}
-use Rattle.scope_rules.specs.Class.{ObjectType}
-use Rattle.scope_rules.specs.World.{World, Reference, Exception, exception_at, exception_type, type_at}
-use Rattle.scope_rules.specs.Context.{Context, Clause, try_block, guarded_by, handling}
-use Rattle.scope_rules.specs.Outcome.{Action, Result, done, stopped, thrown, Flow, pure, continued}
-use Rattle.scope_rules.specs.Guard.{matches}
-use Rattle.scope_rules.specs.Running.{Running}
-use Rattle.scope_rules.specs.Frame.{Frame, with_parameter}
-use Rattle.scope_rules.specs.Scope.{scope}
-use Rattle.scope_rules.specs.Handler.{enter, clauses_of, handle, while_handled, after_handler, destroy_parameter}
-use Rattle.scope_rules.specs.Statement.{statements, caught, after_try}
+use Rattle.meaning_forms.specs.Class.{ObjectType}
+use Rattle.meaning_forms.specs.World.{World, Reference, Exception, exception_at, exception_type, type_at}
+use Rattle.meaning_forms.specs.Context.{Context, Clause, try_block, guarded_by, handling}
+use Rattle.meaning_forms.specs.Outcome.{Action, Result, done, stopped, thrown, Flow, pure, continued}
+use Rattle.meaning_forms.specs.Guard.{matches}
+use Rattle.meaning_forms.specs.Running.{Running}
+use Rattle.meaning_forms.specs.Frame.{Frame, with_parameter}
+use Rattle.meaning_forms.specs.Scope.{scope}
+use Rattle.meaning_forms.specs.Handler.{enter, clauses_of, handle, while_handled, after_handler, destroy_parameter}
+use Rattle.meaning_forms.specs.Statement.{statements, caught, after_try}
 use Rattle.scope_world.specs.declared.outcome.Halt.{Halt}
 use Rattle.scope_world.specs.declared.outcome.Halt.TheVariants.{Thrown, Cancelled, Exited, Aborted, Undefined, OutOfTurns, Deep, NoMemory}
 use Rattle.scope_world.specs.declared.outcome.Flow.{Flow as CodeFlow}

@@ -2,12 +2,12 @@
 use Rattle.std.proofs.Common.{◌≡◌, ℕ, ℤ, Bool, true, false, List, refl, ap, sym, subst, Ok, Err, Result as CodeResult}
 use Rattle.std.specs.Prelude.{nat_le, if◌then◌else◌}
 use Rattle.cxx_ast.specs.Plain.{Checked}
-use Rattle.scope_rules.specs.World.{World, Reference}
-use Rattle.scope_rules.specs.Context.{Context}
-use Rattle.scope_rules.specs.Outcome.{Action, Result, done, stop, deep, change, ◌>>◌}
-use Rattle.scope_rules.specs.Running.{Callee, Argument}
-use Rattle.scope_rules.specs.Statement.{spend_turn}
-use Rattle.scope_rules.specs.Call.{run_callee, opened, closed, after_call}
+use Rattle.meaning_forms.specs.World.{World, Reference}
+use Rattle.meaning_forms.specs.Context.{Context}
+use Rattle.meaning_forms.specs.Outcome.{Action, Result, done, stop, deep, change, ◌>>◌}
+use Rattle.meaning_forms.specs.Running.{Callee, Argument}
+use Rattle.meaning_forms.specs.Statement.{spend_turn}
+use Rattle.meaning_forms.specs.Call.{run_callee, opened, closed, after_call}
 use Rattle.scope_world.specs.declared.outcome.Halt.{Halt}
 use Rattle.scope_world.specs.declared.outcome.Halt.TheVariants.{Thrown, Cancelled, Exited, Aborted, Undefined, OutOfTurns, Deep, NoMemory}
 use Rattle.scope_world.specs.Gives.{Gives, Halts}

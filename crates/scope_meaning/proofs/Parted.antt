@@ -1,16 +1,16 @@
 -- The parts of an object: how one is built, and all of them in turn.
 use Rattle.std.proofs.Common.{◌≡◌, ◌∙◌, ℕ, ◌+◌, ℤ, pos, List, [], ◌∷◌, Option, Some, None, refl, ap, sym, subst, Ok, Result as CodeResult}
 use Rattle.cxx_ast.specs.Plain.{Initialiser, Expressions}
-use Rattle.scope_rules.specs.Class.{ObjectType, int_type, class_type}
-use Rattle.scope_rules.specs.World.{World, Reference, part, written}
-use Rattle.scope_rules.specs.Context.{Context}
-use Rattle.scope_rules.specs.Outcome.{Action, Flow, done, read, write, ◌>>=◌, ◌>>◌}
-use Rattle.scope_rules.specs.Running.{Running}
-use Rattle.scope_rules.specs.Frame.{Frame}
-use Rattle.scope_rules.specs.Scope.{after_part, after_scope, until_complete}
-use Rattle.scope_rules.specs.Construct.{copy_object, default_object, destroy}
-use Rattle.scope_rules.specs.Expression.{construct}
-use Rattle.scope_rules.specs.Call.{build_parts, copy_part, default_part, destroy_parts, initial_part, initial_value, initialiser_for}
+use Rattle.meaning_forms.specs.Class.{ObjectType, int_type, class_type}
+use Rattle.meaning_forms.specs.World.{World, Reference, part, written}
+use Rattle.meaning_forms.specs.Context.{Context}
+use Rattle.meaning_forms.specs.Outcome.{Action, Flow, done, read, write, ◌>>=◌, ◌>>◌}
+use Rattle.meaning_forms.specs.Running.{Running}
+use Rattle.meaning_forms.specs.Frame.{Frame}
+use Rattle.meaning_forms.specs.Scope.{after_part, after_scope, until_complete}
+use Rattle.meaning_forms.specs.Construct.{copy_object, default_object, destroy}
+use Rattle.meaning_forms.specs.Expression.{construct}
+use Rattle.meaning_forms.specs.Call.{build_parts, copy_part, default_part, destroy_parts, initial_part, initial_value, initialiser_for}
 use Rattle.scope_world.specs.declared.outcome.Halt.{Halt}
 use Rattle.scope_world.specs.declared.outcome.Flow.{Flow as CodeFlow}
 use Rattle.scope_world.specs.Gives.{Gives, GivesBy, Halts, flow_of}

@@ -5,13 +5,13 @@ use Rattle.cxx_ast.specs.Plain.{Checked}
 use Rattle.eh_outer.specs.declared.module.Reply.{Reply}
 use Rattle.eh_outer.specs.Module.{ModuleView}
 use Rattle.run_items.specs.declared.item.Item.{Item}
-use Rattle.scope_rules.specs.declared.ending.MeanEnd.{MeanEnd}
-use Rattle.scope_rules.specs.Part.{Part}
-use Rattle.scope_rules.specs.World.{World, Live, nowhere}
-use Rattle.scope_rules.specs.Context.{no_context}
-use Rattle.scope_rules.specs.Outcome.{Result, thrown, cancelled, ended, exit, aborted, undefined, out_of_turns, deep}
-use Rattle.scope_rules.specs.Running.{function}
-use Rattle.scope_rules.specs.Meaning.{MainOutcome, Meaning, returned, stopped_by, after_main, first_world, global_object, meaning_of, program_meaning}
+use Rattle.meaning_forms.specs.declared.ending.MeanEnd.{MeanEnd}
+use Rattle.meaning_forms.specs.Part.{Part}
+use Rattle.meaning_forms.specs.World.{World, Live, nowhere}
+use Rattle.meaning_forms.specs.Context.{no_context}
+use Rattle.meaning_forms.specs.Outcome.{Result, thrown, cancelled, ended, exit, aborted, undefined, out_of_turns, deep}
+use Rattle.meaning_forms.specs.Running.{function}
+use Rattle.meaning_forms.specs.Meaning.{MainOutcome, Meaning, returned, stopped_by, after_main, first_world, global_object, meaning_of, program_meaning}
 use Rattle.scope_world.specs.declared.object.Part.{Part as CodePart, Cell}
 use Rattle.scope_world.specs.declared.outcome.Halt.{Halt}
 use Rattle.scope_world.specs.declared.outcome.Halt.TheVariants.{Thrown, Cancelled, Exited, Aborted, Undefined, OutOfTurns, Deep, NoMemory}

@@ -2,13 +2,13 @@
 use Rattle.std.proofs.Common.{◌≡◌, ◌∙◌, ℕ, zero, suc, ℤ, pos, Bool, true, false, Option, Some, None, refl, ap, sym, subst, Ok, Err, Result as CodeResult}
 use Rattle.std.specs.Prelude.{if◌then◌else◌}
 use Rattle.cxx_ast.specs.Plain.{Statement, Statements, no_statements, statement_then}
-use Rattle.scope_rules.specs.World.{World}
-use Rattle.scope_rules.specs.Context.{Context}
-use Rattle.scope_rules.specs.Outcome.{Action, Result, done, stopped, out_of_turns, Flow, normal, pure, continued, ◌>>=◌}
-use Rattle.scope_rules.specs.Running.{Running}
-use Rattle.scope_rules.specs.Frame.{Frame}
-use Rattle.scope_rules.specs.Arithmetic.{is_zero}
-use Rattle.scope_rules.specs.Statement.{spend_turn, loop, looped, statement, statements}
+use Rattle.meaning_forms.specs.World.{World}
+use Rattle.meaning_forms.specs.Context.{Context}
+use Rattle.meaning_forms.specs.Outcome.{Action, Result, done, stopped, out_of_turns, Flow, normal, pure, continued, ◌>>=◌}
+use Rattle.meaning_forms.specs.Running.{Running}
+use Rattle.meaning_forms.specs.Frame.{Frame}
+use Rattle.meaning_forms.specs.Arithmetic.{is_zero}
+use Rattle.meaning_forms.specs.Statement.{spend_turn, loop, looped, statement, statements}
 use Rattle.scope_world.specs.declared.outcome.Halt.{Halt}
 use Rattle.scope_world.specs.declared.outcome.Flow.{Flow as CodeFlow}
 use Rattle.scope_world.specs.declared.outcome.Flow.TheVariants as flows

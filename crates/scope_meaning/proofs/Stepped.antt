@@ -2,13 +2,13 @@
 use Rattle.std.proofs.Common.{◌≡◌, ◌∙◌, ℕ, ℤ, Bool, true, false, refl, ap, sym, Option, Some, None}
 use Rattle.std.specs.Prelude.{if◌then◌else◌}
 use Rattle.cxx_ast.specs.Plain.{Expression, Statement, block, empty, if_else, while, return, break, continue, throw, try, assign, evaluate, local_int, local_ref, local_object, Statements, statement_then}
-use Rattle.scope_rules.specs.World.{World}
-use Rattle.scope_rules.specs.Context.{Context}
-use Rattle.scope_rules.specs.Outcome.{Action, Result, done, stopped, Flow, normal, breaks, continues, returns, pure, continued, write}
-use Rattle.scope_rules.specs.Running.{Running}
-use Rattle.scope_rules.specs.Frame.{Frame, lvalue}
-use Rattle.scope_rules.specs.Expression.{value_of}
-use Rattle.scope_rules.specs.Statement.{followed, statement, statements, returning, throwing}
+use Rattle.meaning_forms.specs.World.{World}
+use Rattle.meaning_forms.specs.Context.{Context}
+use Rattle.meaning_forms.specs.Outcome.{Action, Result, done, stopped, Flow, normal, breaks, continues, returns, pure, continued, write}
+use Rattle.meaning_forms.specs.Running.{Running}
+use Rattle.meaning_forms.specs.Frame.{Frame, lvalue}
+use Rattle.meaning_forms.specs.Expression.{value_of}
+use Rattle.meaning_forms.specs.Statement.{followed, statement, statements, returning, throwing}
 use Rattle.scope_world.specs.declared.outcome.Halt.{Halt}
 use Rattle.scope_world.specs.declared.outcome.Flow.{Flow as CodeFlow}
 use Rattle.scope_world.specs.declared.outcome.Flow.TheVariants as flows

@@ -6,16 +6,16 @@ use Rattle.cxx_ast.specs.declared.name.Builtin.TheVariants.{WriteInt, ReadByte, 
 use Rattle.cxx_ast.specs.declared.name.Name.{Name}
 use Rattle.std.proofs.Common.{List}
 use Rattle.cxx_ast.specs.Plain.{Expression, Expressions, call, std_call}
-use Rattle.scope_rules.specs.Class.{class_type, int_type}
-use Rattle.scope_rules.specs.Part.{Part, part_type, unset}
-use Rattle.scope_rules.specs.World.{World, Reference, part_of, whole}
-use Rattle.scope_rules.specs.Context.{Context}
-use Rattle.scope_rules.specs.Outcome.{done, new_object, pure, ◌>>◌}
-use Rattle.scope_rules.specs.Running.{Running}
-use Rattle.scope_rules.specs.Frame.{Frame, lvalue}
-use Rattle.scope_rules.specs.Expression.{callee_bound, construct}
-use Rattle.scope_rules.specs.Handler.{new_copy}
-use Rattle.scope_rules.specs.Statement.{call_thrown, int_thrown, lvalue_thrown, object_thrown, operand_thrown, part_thrown}
+use Rattle.meaning_forms.specs.Class.{class_type, int_type}
+use Rattle.meaning_forms.specs.Part.{Part, part_type, unset}
+use Rattle.meaning_forms.specs.World.{World, Reference, part_of, whole}
+use Rattle.meaning_forms.specs.Context.{Context}
+use Rattle.meaning_forms.specs.Outcome.{done, new_object, pure, ◌>>◌}
+use Rattle.meaning_forms.specs.Running.{Running}
+use Rattle.meaning_forms.specs.Frame.{Frame, lvalue}
+use Rattle.meaning_forms.specs.Expression.{callee_bound, construct}
+use Rattle.meaning_forms.specs.Handler.{new_copy}
+use Rattle.meaning_forms.specs.Statement.{call_thrown, int_thrown, lvalue_thrown, object_thrown, operand_thrown, part_thrown}
 use Rattle.scope_world.specs.declared.object.ObjectType.{ObjectType as CodeType}
 use Rattle.scope_world.specs.declared.object.ObjectType.TheVariants as types
 use Rattle.scope_world.specs.declared.outcome.Halt.{Halt}

@@ -7,12 +7,12 @@ use Rattle.scope_meaning.specs.declared.parts.Plan.{Plan}
 use Rattle.scope_meaning.specs.declared.parts.Plan.TheVariants as plans
 use Rattle.scope_world.specs.Objects.{reference_of}
 use Rattle.scope_world.specs.Program.{function_or_none}
-use Rattle.scope_rules.specs.Class.{ObjectType, parts_of}
-use Rattle.scope_rules.specs.Context.{Context}
-use Rattle.scope_rules.specs.Outcome.{Action, Flow}
-use Rattle.scope_rules.specs.Running.{Running, constructor}
-use Rattle.scope_rules.specs.Frame.{Frame}
-use Rattle.scope_rules.specs.Call.{body_of, default_part, copy_part, initial_part, initialiser_for, construction, destroy_parts}
+use Rattle.meaning_forms.specs.Class.{ObjectType, parts_of}
+use Rattle.meaning_forms.specs.Context.{Context}
+use Rattle.meaning_forms.specs.Outcome.{Action, Flow}
+use Rattle.meaning_forms.specs.Running.{Running, constructor}
+use Rattle.meaning_forms.specs.Frame.{Frame}
+use Rattle.meaning_forms.specs.Call.{body_of, default_part, copy_part, initial_part, initialiser_for, construction, destroy_parts}
 
 -- what is done under a specification: a function's body, or a constructor's or a destructor's work
 abbrev pub extent_of : Running → Extent → Function → Frame → Context → Action Flow

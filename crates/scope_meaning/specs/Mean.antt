@@ -2,11 +2,11 @@
 use Rattle.std.specs.Prelude.{◌≡◌, ⊤, ℕ, List, map, Option, Some, None}
 use Rattle.cxx_ast.specs.Plain.{Checked}
 use Rattle.eh_outer.specs.Module.{ModuleView}
-use Rattle.scope_rules.specs.Meaning.{Meaning, program_meaning}
+use Rattle.meaning_forms.specs.Meaning.{Meaning, program_meaning}
 use Rattle.scope_meaning.specs.declared.program.Meaning.{Meaning as CodeMeaning}
 use Rattle.scope_meaning.specs.Modules.{cleaned_by, kept_of, rests_of}
 use Rattle.run_items.specs.declared.item.Item.{Item}
-use Rattle.scope_rules.specs.declared.ending.MeanEnd.{MeanEnd}
+use Rattle.meaning_forms.specs.declared.ending.MeanEnd.{MeanEnd}
 
 -- the meaning of a program with at most 128 open calls, where its modules tell this of themselves
 abbrev pub meant : Checked → List ℕ → List ModuleView → ℕ → Meaning

@@ -3,19 +3,19 @@ use Rattle.std.specs.Prelude.{◌≡◌, ℕ, suc, Bool, true, false, List, Opti
 use Rattle.cxx_ast.specs.declared.name.Name.{Name}
 use Rattle.cxx_ast.specs.declared.types.Ty.{Ty}
 use Rattle.cxx_ast.specs.Plain.{Expression, Expressions, Statement, block, if_else, while, return, break, continue, throw, try, assign, evaluate, local_int, local_ref, local_object, Statements, Handlers}
-use Rattle.scope_rules.specs.Class.{class_type}
-use Rattle.scope_rules.specs.Part.{unset}
-use Rattle.scope_rules.specs.World.{World, Reference, whole}
-use Rattle.scope_rules.specs.Context.{Context, Clause, try_block, guarded_by}
-use Rattle.scope_rules.specs.Outcome.{Action, Result, done, Flow, normal, breaks, continues, pure, new_object, world, write, ◌>>=◌, ◌>>◌}
-use Rattle.scope_rules.specs.Running.{Running}
-use Rattle.scope_rules.specs.Scope.{scope}
-use Rattle.scope_rules.specs.Construct.{destroy}
-use Rattle.scope_rules.specs.Frame.{Frame, lvalue, with_parameter, with_variable}
-use Rattle.scope_rules.specs.Handler.{clauses_of, destroy_parameter}
-use Rattle.scope_rules.specs.Expression.{construct, value_of}
-use Rattle.scope_rules.specs.Statement.{statement, otherwise, statements, after_try, caught, loop, returning, throwing}
-use Rattle.scope_rules.specs.Arithmetic.{is_zero}
+use Rattle.meaning_forms.specs.Class.{class_type}
+use Rattle.meaning_forms.specs.Part.{unset}
+use Rattle.meaning_forms.specs.World.{World, Reference, whole}
+use Rattle.meaning_forms.specs.Context.{Context, Clause, try_block, guarded_by}
+use Rattle.meaning_forms.specs.Outcome.{Action, Result, done, Flow, normal, breaks, continues, pure, new_object, world, write, ◌>>=◌, ◌>>◌}
+use Rattle.meaning_forms.specs.Running.{Running}
+use Rattle.meaning_forms.specs.Scope.{scope}
+use Rattle.meaning_forms.specs.Construct.{destroy}
+use Rattle.meaning_forms.specs.Frame.{Frame, lvalue, with_parameter, with_variable}
+use Rattle.meaning_forms.specs.Handler.{clauses_of, destroy_parameter}
+use Rattle.meaning_forms.specs.Expression.{construct, value_of}
+use Rattle.meaning_forms.specs.Statement.{statement, otherwise, statements, after_try, caught, loop, returning, throwing}
+use Rattle.meaning_forms.specs.Arithmetic.{is_zero}
 use Rattle.scope_world.specs.declared.outcome.Halt.{Halt}
 use Rattle.scope_world.specs.declared.outcome.Flow.{Flow as CodeFlow}
 use Rattle.scope_world.specs.Gives.{Halts, flow_of}

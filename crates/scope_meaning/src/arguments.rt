@@ -2,10 +2,10 @@
 
 ghost use Rattle.std.specs.Prelude.{◌≡◌, ℕ, map, IfOk};
 ghost use Rattle.cxx_ast.specs.View.{checked_of, expression_of, expressions_of};
-ghost use Rattle.scope_rules.specs.Frame.{lvalue as lvalue_rule};
-ghost use Rattle.scope_rules.specs.Running.{by_reference};
-ghost use Rattle.scope_rules.specs.World.{as_class};
-ghost use Rattle.scope_rules.specs.Expression as rules;
+ghost use Rattle.meaning_forms.specs.Frame.{lvalue as lvalue_rule};
+ghost use Rattle.meaning_forms.specs.Running.{by_reference};
+ghost use Rattle.meaning_forms.specs.World.{as_class};
+ghost use Rattle.meaning_forms.specs.Expression as rules;
 ghost use Rattle.scope_world.specs.Inward.{argument_of, frame_of};
 ghost use Rattle.scope_world.specs.Seen.{world_of};
 ghost use Rattle.scope_flow.specs.Asked.{constructor_of};

@@ -2,11 +2,11 @@
 
 ghost use Rattle.std.specs.Prelude.{map};
 ghost use Rattle.cxx_ast.specs.View.{checked_of};
-ghost use Rattle.scope_rules.specs.Expression as rules;
-ghost use Rattle.scope_rules.specs.Frame.{lvalue as lvalue_rule};
-ghost use Rattle.scope_rules.specs.Running.{function, method};
-ghost use Rattle.scope_rules.specs.Throw as throw_rules;
-ghost use Rattle.scope_rules.specs.World.{as_class, nowhere};
+ghost use Rattle.meaning_forms.specs.Expression as rules;
+ghost use Rattle.meaning_forms.specs.Frame.{lvalue as lvalue_rule};
+ghost use Rattle.meaning_forms.specs.Running.{function, method};
+ghost use Rattle.meaning_forms.specs.Throw as throw_rules;
+ghost use Rattle.meaning_forms.specs.World.{as_class, nowhere};
 ghost use Rattle.scope_world.specs.Gives.{Gives};
 ghost use Rattle.scope_world.specs.Inward.{argument_of, context_of, frame_of};
 ghost use Rattle.scope_world.specs.Seen.{world_of};

@@ -2,11 +2,11 @@
 
 ghost use Rattle.std.specs.Prelude.{◌≡◌, map, [], option_map, IfOk};
 ghost use Rattle.cxx_ast.specs.View.{checked_of};
-ghost use Rattle.scope_rules.specs.World.{World as WorldMeant};
-ghost use Rattle.scope_rules.specs.Class.{parts_of as rule_parts_of};
-ghost use Rattle.scope_rules.specs.Outcome.{normal, pure};
-ghost use Rattle.scope_rules.specs.Construct as construct_rules;
-ghost use Rattle.scope_rules.specs.Call as rules;
+ghost use Rattle.meaning_forms.specs.World.{World as WorldMeant};
+ghost use Rattle.meaning_forms.specs.Class.{parts_of as rule_parts_of};
+ghost use Rattle.meaning_forms.specs.Outcome.{normal, pure};
+ghost use Rattle.meaning_forms.specs.Construct as construct_rules;
+ghost use Rattle.meaning_forms.specs.Call as rules;
 ghost use Rattle.scope_world.specs.Gives.{Gives, GivesBy, flow_of};
 ghost use Rattle.scope_world.specs.Inward.{argument_of, context_of, first_frame};
 ghost use Rattle.scope_world.specs.Objects.{reference_of};

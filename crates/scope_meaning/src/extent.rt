@@ -2,7 +2,7 @@
 
 ghost use Rattle.std.specs.Prelude.{◌≡◌, option_map};
 ghost use Rattle.cxx_ast.specs.View.{checked_of};
-ghost use Rattle.scope_rules.specs.Specification as rules;
+ghost use Rattle.meaning_forms.specs.Specification as rules;
 ghost use Rattle.scope_world.specs.Gives.{GivesBy, flow_of};
 ghost use Rattle.scope_world.specs.Inward.{context_of, frame_of};
 ghost use Rattle.scope_world.specs.Program.{function_or_none};

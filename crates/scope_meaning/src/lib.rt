@@ -15,7 +15,7 @@ mod simple;
 mod statement;
 mod throw;
 
+pub use meaning_forms::ending::MeanEnd;
 pub use program::{Meaning, mean};
 pub use run_items::Item;
-pub use scope_rules::ending::MeanEnd;
 pub use std::alloc::AllocError as NoMemory;

@@ -3,8 +3,8 @@
 ghost use Rattle.std.specs.Prelude.{◌≡◌, ℕ, IfOk};
 ghost use Rattle.cxx_ast.specs.Plain.{path};
 ghost use Rattle.cxx_ast.specs.View.{checked_of};
-ghost use Rattle.scope_rules.specs.Expression as rules;
-ghost use Rattle.scope_rules.specs.Frame as frame_rules;
+ghost use Rattle.meaning_forms.specs.Expression as rules;
+ghost use Rattle.meaning_forms.specs.Frame as frame_rules;
 ghost use Rattle.scope_world.specs.Gives.{Gives};
 ghost use Rattle.scope_world.specs.Inward.{context_of, frame_of};
 ghost use Rattle.scope_world.specs.Objects.{reference_of};

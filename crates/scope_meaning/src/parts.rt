@@ -2,8 +2,8 @@
 
 ghost use Rattle.std.specs.Prelude.{◌≡◌, ℕ, map, option_map};
 ghost use Rattle.cxx_ast.specs.View.{checked_of, expressions_of, initialiser_of, option_of};
-ghost use Rattle.scope_rules.specs.World.{Reference as ReferenceMeant, part as part_meant};
-ghost use Rattle.scope_rules.specs.Call as call_rules;
+ghost use Rattle.meaning_forms.specs.World.{Reference as ReferenceMeant, part as part_meant};
+ghost use Rattle.meaning_forms.specs.Call as call_rules;
 ghost use Rattle.scope_world.specs.Gives.{Gives, GivesBy, flow_of};
 ghost use Rattle.scope_world.specs.Inward.{context_of, frame_of};
 ghost use Rattle.scope_world.specs.Objects.{reference_of, type_of};

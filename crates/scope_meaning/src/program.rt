@@ -2,9 +2,9 @@
 
 ghost use Rattle.std.specs.Prelude.{◌≡◌, ℤ, Some, map, IfOk, IfSome};
 ghost use Rattle.cxx_ast.specs.View.{checked_of};
-ghost use Rattle.scope_rules.specs.Meaning.{after_main, global_object};
-ghost use Rattle.scope_rules.specs.Outcome.{Result as Outcome};
-ghost use Rattle.scope_rules.specs.World.{World as WorldMeant};
+ghost use Rattle.meaning_forms.specs.Meaning.{after_main, global_object};
+ghost use Rattle.meaning_forms.specs.Outcome.{Result as Outcome};
+ghost use Rattle.meaning_forms.specs.World.{World as WorldMeant};
 ghost use Rattle.scope_world.specs.Gives.{Gives, IsKnown};
 ghost use Rattle.scope_world.specs.Objects.{part_of};
 ghost use Rattle.scope_world.specs.declared.object.Part.{Cell};

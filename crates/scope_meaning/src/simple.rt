@@ -3,10 +3,10 @@
 ghost use Rattle.std.specs.Prelude.{◌≡◌, ℕ, IfOk};
 ghost use Rattle.cxx_ast.specs.Plain.{evaluate};
 ghost use Rattle.cxx_ast.specs.View.{checked_of, expression_of, option_of};
-ghost use Rattle.scope_rules.specs.Class.{class_type};
-ghost use Rattle.scope_rules.specs.Outcome.{done, new_object};
-ghost use Rattle.scope_rules.specs.Part.{unset};
-ghost use Rattle.scope_rules.specs.Statement as rules;
+ghost use Rattle.meaning_forms.specs.Class.{class_type};
+ghost use Rattle.meaning_forms.specs.Outcome.{done, new_object};
+ghost use Rattle.meaning_forms.specs.Part.{unset};
+ghost use Rattle.meaning_forms.specs.Statement as rules;
 ghost use Rattle.scope_world.specs.Gives.{Gives, GivesBy, flow_of};
 ghost use Rattle.scope_world.specs.Inward.{context_of, frame_of};
 ghost use Rattle.scope_world.specs.Seen.{world_of};

@@ -3,11 +3,11 @@
 ghost use Rattle.std.specs.Prelude.{◌≡◌, ℕ, suc};
 ghost use Rattle.cxx_ast.specs.View.{checked_of, expression_of, expressions_of, statement_of, statements_of};
 ghost use Rattle.cxx_ast.specs.Plain.{no_statements, statement_then};
-ghost use Rattle.scope_rules.specs.Expression as expression_rules;
-ghost use Rattle.scope_rules.specs.Frame as frame_rules;
-ghost use Rattle.scope_rules.specs.Handler as handler_rules;
-ghost use Rattle.scope_rules.specs.Outcome as outcome_rules;
-ghost use Rattle.scope_rules.specs.Statement as rules;
+ghost use Rattle.meaning_forms.specs.Expression as expression_rules;
+ghost use Rattle.meaning_forms.specs.Frame as frame_rules;
+ghost use Rattle.meaning_forms.specs.Handler as handler_rules;
+ghost use Rattle.meaning_forms.specs.Outcome as outcome_rules;
+ghost use Rattle.meaning_forms.specs.Statement as rules;
 ghost use Rattle.scope_world.specs.Gives.{GivesBy, flow_of};
 ghost use Rattle.scope_world.specs.Inward.{context_of, frame_of, handlers_of};
 ghost use Rattle.scope_world.specs.Objects.{reference_of};

@@ -1,10 +1,10 @@
 // What is thrown: the operand of `throw`, and its object.
 
 ghost use Rattle.cxx_ast.specs.View.{checked_of, expression_of, expressions_of, option_of};
-ghost use Rattle.scope_rules.specs.Outcome.{Flow as FlowMeant};
-ghost use Rattle.scope_rules.specs.Expression as rules;
-ghost use Rattle.scope_rules.specs.Statement as statement_rules;
-ghost use Rattle.scope_rules.specs.Throw as throw_rules;
+ghost use Rattle.meaning_forms.specs.Outcome.{Flow as FlowMeant};
+ghost use Rattle.meaning_forms.specs.Expression as rules;
+ghost use Rattle.meaning_forms.specs.Statement as statement_rules;
+ghost use Rattle.meaning_forms.specs.Throw as throw_rules;
 ghost use Rattle.scope_world.specs.Gives.{Gives, GivesBy, Halts, flow_of};
 ghost use Rattle.scope_world.specs.Inward.{context_of, frame_of};
 ghost use Rattle.scope_world.specs.Seen.{world_of};

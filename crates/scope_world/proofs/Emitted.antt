@@ -1,9 +1,9 @@
 -- The world behind the item of a new exception.
 use Rattle.std.proofs.Common.{◌≡◌, ◌+◌, ℕ, List, [], ◌∷◌, ◌++◌, sym, refl}
 use Rattle.run_items.specs.declared.item.Item.{Item}
-use Rattle.scope_rules.specs.World.{World, Exception, Live}
-use Rattle.scope_rules.specs.Outcome.{emit, done}
-use Rattle.scope_rules.specs.Throw.{new_exception}
+use Rattle.meaning_forms.specs.World.{World, Exception, Live}
+use Rattle.meaning_forms.specs.Outcome.{emit, done}
+use Rattle.meaning_forms.specs.Throw.{new_exception}
 
 pub emitted_world : (item : Item) (w v : World) → emit item w ≡ done tt v → v ≡ record w { items = w.items ++ item ∷ [] }
 emitted_world item w v e = sym (cc e)

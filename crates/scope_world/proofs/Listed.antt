@@ -4,9 +4,9 @@ use Rattle.std.specs.Prelude.{slice_get, unwrap_or}
 use Rattle.std.specs.List.{find}
 use Rattle.std.specs.Prelude.{◌==◌}
 use Rattle.cxx_ast.specs.View.{option_of}
-use Rattle.scope_rules.specs.Part.{cell}
-use Rattle.scope_rules.specs.World.{Reference, nowhere, Exception, building, exception_in, replaced}
-use Rattle.scope_rules.specs.Frame.{variable_in}
+use Rattle.meaning_forms.specs.Part.{cell}
+use Rattle.meaning_forms.specs.World.{Reference, nowhere, Exception, building, exception_in, replaced}
+use Rattle.meaning_forms.specs.Frame.{variable_in}
 use Rattle.scope_world.specs.declared.object.Part.{Part as CodePart}
 use Rattle.scope_world.specs.declared.exception.Exception.{Exception as CodeException}
 use Rattle.scope_world.specs.declared.exception.Live.{Live as CodeLive}

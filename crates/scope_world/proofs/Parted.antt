@@ -1,6 +1,6 @@
 -- Parts past the end of a part.
 use Rattle.std.proofs.Common.{◌≡◌, ℕ, List, [], ◌∷◌, refl, None}
-use Rattle.scope_rules.specs.Part.{Part, cell, subparts, nth_part, part_at}
+use Rattle.meaning_forms.specs.Part.{Part, cell, subparts, nth_part, part_at}
 
 pub unset_stays : (path : List ℕ) → part_at (cell None) path ≡ cell None
 unset_stays [] = refl

@@ -3,10 +3,10 @@ use Rattle.std.proofs.Common.{◌≡◌, ℕ, zero, suc, List, [], ◌∷◌, Op
 use Rattle.std.specs.Prelude.{slice_get, pos}
 use Rattle.eh_outer.specs.declared.module.Reply.{Reply}
 use Rattle.eh_outer.specs.declared.module.Reply.TheVariants.{Value}
-use Rattle.scope_rules.specs.World.{World}
-use Rattle.scope_rules.specs.Context.{Context}
-use Rattle.scope_rules.specs.Running.{Running}
-use Rattle.scope_rules.specs.Throw.{take_reply, answered}
+use Rattle.meaning_forms.specs.World.{World}
+use Rattle.meaning_forms.specs.Context.{Context}
+use Rattle.meaning_forms.specs.Running.{Running}
+use Rattle.meaning_forms.specs.Throw.{take_reply, answered}
 use Rattle.scope_world.specs.Outside.{reply_from, rests_after}
 
 -- a module that gives the value 0 and stays as it is

@@ -1,8 +1,8 @@
 -- What the cleanup of a foreign exception does.
 use Rattle.std.specs.Prelude.{ℕ}
 use Rattle.run_items.specs.declared.item.Item.TheVariants.{Clean}
-use Rattle.scope_rules.specs.World.{without_exception}
-use Rattle.scope_rules.specs.Outcome.{Action, change, emit, ◌>>◌}
+use Rattle.meaning_forms.specs.World.{without_exception}
+use Rattle.meaning_forms.specs.Outcome.{Action, change, emit, ◌>>◌}
 
 -- a module's cleanup is called with the token of an exception, which is no longer live
 abbrev pub clean_up : (exception guest token : ℕ) → Action (Unit {0})

@@ -4,8 +4,8 @@ use Rattle.scope_world.specs.declared.outcome.Halt.{Halt}
 use Rattle.scope_world.specs.declared.outcome.Halt.TheVariants as halts
 use Rattle.scope_world.specs.declared.outcome.Flow.{Flow as CodeFlow}
 use Rattle.scope_world.specs.declared.outcome.Flow.TheVariants as flows
-use Rattle.scope_rules.specs.World.{World}
-use Rattle.scope_rules.specs.Outcome.{Result, done, stopped, thrown, cancelled, ended, exit, aborted, undefined, out_of_turns, deep, Flow, normal, breaks, continues, returns}
+use Rattle.meaning_forms.specs.World.{World}
+use Rattle.meaning_forms.specs.Outcome.{Result, done, stopped, thrown, cancelled, ended, exit, aborted, undefined, out_of_turns, deep, Flow, normal, breaks, continues, returns}
 
 -- how a statement goes on
 abbrev pub flow_of : CodeFlow → Flow

@@ -14,12 +14,12 @@ use Rattle.scope_world.specs.declared.frame.Variable.{Variable as CodeVariable}
 use Rattle.scope_world.specs.declared.frame.Argument.{Argument as CodeArgument}
 use Rattle.scope_world.specs.declared.frame.Argument.TheVariants.{Value, Place}
 use Rattle.scope_world.specs.Objects.{reference_of}
-use Rattle.scope_rules.specs.World.{Reference}
-use Rattle.scope_rules.specs.Class.{object_type}
-use Rattle.scope_rules.specs.Context.{Context, Clause, catch_all, Guard, try_block, specification, barrier}
-use Rattle.scope_rules.specs.Handler.{clause_of}
-use Rattle.scope_rules.specs.Frame.{Frame, Variable}
-use Rattle.scope_rules.specs.Running.{Argument, by_value, by_reference}
+use Rattle.meaning_forms.specs.World.{Reference}
+use Rattle.meaning_forms.specs.Class.{object_type}
+use Rattle.meaning_forms.specs.Context.{Context, Clause, catch_all, Guard, try_block, specification, barrier}
+use Rattle.meaning_forms.specs.Handler.{clause_of}
+use Rattle.meaning_forms.specs.Frame.{Frame, Variable}
+use Rattle.meaning_forms.specs.Running.{Argument, by_value, by_reference}
 
 -- the numbers of exceptions, newest first
 abbrev pub numbers_of : Numbers → List ℕ

@@ -6,9 +6,9 @@ use Rattle.scope_world.specs.declared.object.ObjectType.TheVariants.{Int, Class}
 use Rattle.scope_world.specs.declared.object.Part.{Part as CodePart, Cell, Object'}
 use Rattle.scope_world.specs.declared.object.Parts.{Parts as CodeParts, None as NoParts, Then'}
 use Rattle.scope_world.specs.declared.object.Reference.{Reference as CodeReference}
-use Rattle.scope_rules.specs.Class.{ObjectType, int_type, class_type}
-use Rattle.scope_rules.specs.Part.{Part, cell, object, Parts, no_parts, part_then}
-use Rattle.scope_rules.specs.World.{Reference}
+use Rattle.meaning_forms.specs.Class.{ObjectType, int_type, class_type}
+use Rattle.meaning_forms.specs.Part.{Part, cell, object, Parts, no_parts, part_then}
+use Rattle.meaning_forms.specs.World.{Reference}
 
 -- the type of an object
 abbrev pub type_of : CodeType → ObjectType

@@ -4,7 +4,7 @@ use Rattle.cxx_ast.specs.View.{option_of, function_of, class_of}
 use Rattle.cxx_ast.specs.Plain.{Function, Class}
 use Rattle.cxx_ast.specs.declared.declaration.Func.{Func}
 use Rattle.cxx_ast.specs.declared.declaration.ClassDecl.{ClassDecl}
-use Rattle.scope_rules.specs.Class.{no_function, no_class}
+use Rattle.meaning_forms.specs.Class.{no_function, no_class}
 
 -- a function that may be missing
 abbrev pub function_or_none : Option Func → Function

@@ -7,7 +7,7 @@ use Rattle.scope_world.specs.declared.exception.Live.{Live as CodeLive}
 use Rattle.scope_world.specs.declared.world.World.{World as CodeWorld}
 use Rattle.scope_world.specs.Objects.{type_of, part_of}
 use Rattle.scope_world.specs.Outside.{Told}
-use Rattle.scope_rules.specs.World.{World, Installed, Exception, building, native, foreign, Live}
+use Rattle.meaning_forms.specs.World.{World, Installed, Exception, building, native, foreign, Live}
 
 -- the handlers set
 abbrev pub installed_of : CodeInstalled → Installed

@@ -1,9 +1,9 @@
 // Classes: their parts, bases and functions.
 ghost use Rattle.std.specs.Prelude.{◌≡◌, IfOk, map, option_map};
 ghost use Rattle.cxx_ast.specs.View.{checked_of, function_of, option_of, statements_of};
-ghost use Rattle.scope_rules.specs.Class as rules;
-ghost use Rattle.scope_rules.specs.Part.{parts_from, unset, unset_within};
-ghost use Rattle.scope_rules.specs.Call.{statements_in};
+ghost use Rattle.meaning_forms.specs.Class as rules;
+ghost use Rattle.meaning_forms.specs.Part.{parts_from, unset, unset_within};
+ghost use Rattle.meaning_forms.specs.Call.{statements_in};
 ghost use Rattle.scope_world.specs.Objects.{part_of, parts_of, type_of};
 ghost use Rattle.scope_world.specs.Program.{class_or_none, function_or_none};
 

@@ -1,6 +1,6 @@
 // What an evaluation is given from outside, and never hands on outwards.
 ghost use Rattle.std.specs.Prelude.{◌≡◌, ◌==◌, not};
-ghost use Rattle.scope_rules.specs.Class.{contains, some_of};
+ghost use Rattle.meaning_forms.specs.Class.{contains, some_of};
 ghost use Rattle.scope_world.specs.Inward.{numbers_of};
 
 use cxx_ast::program::Checked;

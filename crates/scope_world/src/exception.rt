@@ -2,9 +2,9 @@
 
 ghost use Rattle.std.specs.Prelude.{◌≡◌, IfOk, option_map, map, filter, find, not, ◌==◌};
 ghost use Rattle.cxx_ast.specs.View.{option_of};
-ghost use Rattle.scope_rules.specs.Handler.{exception_object, is_foreign};
-ghost use Rattle.scope_rules.specs.Specification.{kept_with};
-ghost use Rattle.scope_rules.specs.World.{exception_type};
+ghost use Rattle.meaning_forms.specs.Handler.{exception_object, is_foreign};
+ghost use Rattle.meaning_forms.specs.Specification.{kept_with};
+ghost use Rattle.meaning_forms.specs.World.{exception_type};
 ghost use Rattle.scope_world.specs.Objects.{reference_of, type_of};
 ghost use Rattle.scope_world.specs.Seen.{exception_of, installed_of, with_live};
 

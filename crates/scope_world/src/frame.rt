@@ -2,11 +2,11 @@
 
 ghost use Rattle.std.specs.Prelude.{◌≡◌, ◌++◌, ◌∷◌, [], ℕ, IfOk, map, option_map, unwrap_or, find, reverse, ◌==◌};
 ghost use Rattle.cxx_ast.specs.View.{checked_of, option_of};
-ghost use Rattle.scope_rules.specs.Frame as rules;
+ghost use Rattle.meaning_forms.specs.Frame as rules;
 ghost use Rattle.cxx_ast.specs.declared.types.Param.{Param as ParamMeant};
-ghost use Rattle.scope_rules.specs.World.{Reference as ReferenceMeant, nowhere};
-ghost use Rattle.scope_rules.specs.Frame.{Frame as FrameMeant};
-ghost use Rattle.scope_rules.specs.Outcome.{done};
+ghost use Rattle.meaning_forms.specs.World.{Reference as ReferenceMeant, nowhere};
+ghost use Rattle.meaning_forms.specs.Frame.{Frame as FrameMeant};
+ghost use Rattle.meaning_forms.specs.Outcome.{done};
 ghost use Rattle.scope_world.specs.Inward.{argument_of, first_frame, frame_of, locals_of, variable_of};
 ghost use Rattle.scope_world.specs.Objects.{reference_of};
 ghost use Rattle.scope_world.specs.Seen.{world_of};

@@ -1,9 +1,9 @@
 // Which guard stops an exception. An exception is given by its type, or by none where it is foreign.
 ghost use Rattle.std.specs.Prelude.{◌≡◌, map};
 ghost use Rattle.cxx_ast.specs.View.{checked_of, option_of};
-ghost use Rattle.scope_rules.specs.Class.{derives, object_type, some_of};
-ghost use Rattle.scope_rules.specs.Guard as rules;
-ghost use Rattle.scope_rules.specs.Handler.{clause_of};
+ghost use Rattle.meaning_forms.specs.Class.{derives, object_type, some_of};
+ghost use Rattle.meaning_forms.specs.Guard as rules;
+ghost use Rattle.meaning_forms.specs.Handler.{clause_of};
 ghost use Rattle.scope_world.specs.Inward.{clause_in, guard_of, guards_of};
 ghost use Rattle.scope_world.specs.Objects.{type_of};
 

@@ -1,8 +1,8 @@
 // Objects: trees of parts, with an int or none yet in each cell.
 ghost use Rattle.std.specs.Prelude.{◌≡◌, ◌++◌, IfOk, Some, option_map};
-ghost use Rattle.scope_rules.specs.Part.{cell, nth_part, part_at, part_type, path_to_class, with_nth_part, with_part_at};
-ghost use Rattle.scope_rules.specs.Outcome.{read_part};
-ghost use Rattle.scope_rules.specs.World.{World, part, whole};
+ghost use Rattle.meaning_forms.specs.Part.{cell, nth_part, part_at, part_type, path_to_class, with_nth_part, with_part_at};
+ghost use Rattle.meaning_forms.specs.Outcome.{read_part};
+ghost use Rattle.meaning_forms.specs.World.{World, part, whole};
 ghost use Rattle.scope_world.specs.Gives.{Gives};
 ghost use Rattle.scope_world.specs.Objects.{part_of, part_or_unset, parts_of, reference_of, type_of};
 

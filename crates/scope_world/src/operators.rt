@@ -1,7 +1,7 @@
 // The arithmetic of int.
 ghost use Rattle.std.specs.Prelude.{◌≡◌};
-ghost use Rattle.scope_rules.specs.Arithmetic as rules;
-ghost use Rattle.scope_rules.specs.World.{World};
+ghost use Rattle.meaning_forms.specs.Arithmetic as rules;
+ghost use Rattle.meaning_forms.specs.World.{World};
 ghost use Rattle.scope_world.specs.Gives.{Gives};
 
 use crate::outcome::Halt;

@@ -21,7 +21,7 @@ use Rattle.cxx_ast.specs.Rule.{handler_order, unknown_name}
 use Rattle.cxx_ast.specs.StatementRules.{start_found, return_found, throw_found, assigned_found, object_found, twice_in, caught_found, catches_all, statement_found, else_found, statements_found, handlers_found}
 use Rattle.cxx_ast.specs.TypeNames.{class_found, class_of_name}
 use Rattle.class_layout.proofs.Sound.{front_sound, back_sound}
-use Rattle.scope_rules.specs.Expression.{callee_bound, count_of}
+use Rattle.meaning_forms.specs.Expression.{callee_bound, count_of}
 use Rattle.source_bounds.specs.BuiltinCalls.{GivenFits, CallsFit, AllCallsFit, ValueCallsFit, StatementCallsFit, ElseCallsFit, StatementsCallsFit, HandlersCallsFit}
 use Rattle.source_bounds.proofs.CallRules.{Good, IsLvalue, FewFine, MeantFine, all_good, construction_good, construction_fine, builtin_fine, meant_fine, on_object_good}
 use Rattle.source_bounds.proofs.FreeNames.{NamesFree, CallsFree, AllCallsFree, ValueFree, StatementFree, ElseFree, StatementsFree, HandlersFree}

@@ -5,8 +5,8 @@ use Rattle.std.specs.List.{AllByRecursion}
 use Rattle.std.proofs.lemmas.Bool.{and_parts}
 use Rattle.std.proofs.lemmas.Bool.Decides.{nat_tests}
 use Rattle.std.proofs.lemmas.List.{length-append}
-use Rattle.scope_rules.specs.Arithmetic.{int_equal}
-use Rattle.scope_rules.specs.Class.{some_of}
+use Rattle.meaning_forms.specs.Arithmetic.{int_equal}
+use Rattle.meaning_forms.specs.Class.{some_of}
 use Rattle.region_forms.specs.Form.{Region, seq, op, branch, loop, protect, catch, limit, barrier, leave_region, RegionList, no_regions, region_then, Clauses, no_clauses, clause_then, RegionFunction}
 use Rattle.region_forms.specs.Guard.{types_of}
 use Rattle.linear_forms.specs.Linear.{CodeSite, return}
@@ -18,7 +18,7 @@ use Rattle.linear_forms.specs.Unit.{emitting, placed_code, function_code}
 use Rattle.linear_forms.proofs.Integers.{equal_is_same}
 use Rattle.landing_pads.proofs.Sited.{AllSites, both_covers, all_sited}
 use Rattle.landing_pads.proofs.Covered.{Inside, AllInside, ClausesInside, region_covered}
-use Rattle.emission_forms.specs.Routine.{is_empty, has_chain, chains_behind, chains_of}
+use Rattle.machine_forms.specs.Routine.{is_empty, has_chain, chains_behind, chains_of}
 use Rattle.source_bounds.proofs.Lists.{both_all, first_all, second_all}
 
 -- when chains are the same

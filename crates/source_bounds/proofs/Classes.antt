@@ -17,7 +17,7 @@ use Rattle.cxx_ast.specs.Environment.{Environment}
 use Rattle.cxx_ast.specs.Finding.{is_sound, breaks_if}
 use Rattle.cxx_ast.specs.Rule.{redeclared, no_main}
 use Rattle.cxx_ast.specs.TypeNames.{passing}
-use Rattle.scope_rules.specs.Construct.{is_constructor}
+use Rattle.meaning_forms.specs.Construct.{is_constructor}
 use Rattle.region_forms.specs.LowerProgram.{some_constructor}
 use Rattle.class_layout.proofs.Sound.{front_sound, back_sound, nothing_refused}
 use Rattle.source_bounds.proofs.Bound.{params_kept}

@@ -5,11 +5,11 @@ use Rattle.region_forms.specs.Form.{RegionFunction}
 use Rattle.linear_forms.specs.Unit.{function_code, unit_of}
 use Rattle.region_forms.specs.LowerProgram.{regions_of}
 use Rattle.class_layout.proofs.Program.{classes_fit}
-use Rattle.emission_forms.specs.Bounds.{counted, counted_all}
-use Rattle.emission_forms.specs.Emitted.{function_routine, unit_routines}
-use Rattle.emission_forms.specs.Piece.{Target, Piece}
-use Rattle.emission_forms.specs.Routine.{Routine, routine_places, routine_words, all_words}
-use Rattle.emission_forms.proofs.Words.{words_stand}
+use Rattle.machine_forms.specs.Bounds.{counted, counted_all}
+use Rattle.machine_forms.specs.Emitted.{function_routine, unit_routines}
+use Rattle.machine_forms.specs.Piece.{Target, Piece}
+use Rattle.machine_forms.specs.Routine.{Routine, routine_places, routine_words, all_words}
+use Rattle.machine_forms.proofs.Words.{words_stand}
 use Rattle.source_bounds.specs.RegionWords.{HasFewWays}
 use Rattle.source_bounds.specs.WordLaws.{routine_pieces, ProgramsAreShort}
 use Rattle.source_bounds.proofs.Regions.{functions_are_short}

@@ -8,14 +8,14 @@ use Rattle.region_forms.specs.Form.{RegionFunction}
 use Rattle.region_forms.specs.Layout.{layout_of}
 use Rattle.region_forms.specs.LowerProgram.{regions_of}
 use Rattle.region_forms.specs.Numbering.{type_rows}
-use Rattle.scope_rules.specs.Class.{some_of}
+use Rattle.meaning_forms.specs.Class.{some_of}
 use Rattle.linear_forms.specs.Distinct.{added, added_all, same_number}
 use Rattle.linear_forms.specs.Filters.{type_uses}
 use Rattle.linear_forms.specs.Unit.{function_code, unit_of}
 use Rattle.class_layout.proofs.Program.{classes_fit}
 use Rattle.landing_pads.specs.Frames.{AllCheckedFramesFit}
-use Rattle.emission_forms.specs.Emitted.{emitted_of, function_routine, listed_type}
-use Rattle.emission_forms.specs.Routine.{listed_routine, listed_routines, routine_words}
+use Rattle.machine_forms.specs.Emitted.{emitted_of, function_routine, listed_type}
+use Rattle.machine_forms.specs.Routine.{listed_routine, listed_routines, routine_words}
 use Rattle.image_forms.specs.Function.{SiteIsInside, FunctionFits}
 use Rattle.rv64_emit.specs.Laws.{AllMovesFit, MovesFit, SiteIsInside as SiteInside, TableIsGood, TablesAreGood}
 use Rattle.source_bounds.specs.Laws.{FunctionsFit}

@@ -6,7 +6,7 @@ use Rattle.std.proofs.lemmas.List.{length-replicate}
 use Rattle.eh_bytes.specs.Listed.{ListedFrame}
 use Rattle.eh_bytes.specs.Spelling.{uleb_spelling}
 use Rattle.eh_write.specs.WrittenFrames.{moves_bytes, fde_body, nops, padded, fde_bytes}
-use Rattle.emission_forms.specs.Shape.{Shape, return_offset, frame_moves}
+use Rattle.machine_forms.specs.Shape.{Shape, return_offset, frame_moves}
 use Rattle.image_forms.specs.Room.{frame_room}
 use Rattle.source_bounds.proofs.Bytes.{uleb_ten}
 

@@ -11,17 +11,17 @@ use Rattle.cxx_ast.specs.declared.name.Builtin.TheVariants.{WriteInt, ReadByte, 
 use Rattle.region_forms.specs.Form.{Root, in_slot, through, in_global, Place, Callee, defined, builtin, Value, number, load, unary, binary, call_value, Argument, int_argument, address_argument, handler_argument, Arguments, no_arguments, argument_then, Op, evaluate, store, bind, call, construct, destroy, make, throw, rethrow, enter, leave}
 use Rattle.linear_forms.specs.Linear.{plain, label, jump, jump_zero, pad, jump_filter, free, resume, unexpected, return}
 use Rattle.linear_forms.specs.Stub.{compiled}
-use Rattle.emission_forms.specs.Bounds.{counted}
-use Rattle.emission_forms.specs.Immediate.{immediate, is_small, upper, lower}
-use Rattle.emission_forms.specs.Piece.{Piece, instruction, jump_to}
-use Rattle.emission_forms.specs.Registers.{zero_register, a0, a1, a2, register}
-use Rattle.emission_forms.specs.Shape.{Shape, epilogue}
-use Rattle.emission_forms.specs.PlaceCode.{slot_stored, added, root_address, root_loaded, root_stored, place_address, place_stored, number_set}
-use Rattle.emission_forms.specs.ValueCode.{needs, unary_code, operator_code, operands_code, binary_code, value_code, branch_operator, binary_test, test_code, unless_zero, if_zero, made_truth, branch_truth}
-use Rattle.emission_forms.specs.CallCode.{argument_code, passed, arguments_passed, arguments_held, function_called, call_code, value_given}
-use Rattle.emission_forms.specs.RuntimeCall.{runtime_call, throw_call, builtin_call, builtin_value}
-use Rattle.emission_forms.specs.OperationCode.{dropped_code, whole_value, called_at, destructor_set, op_code}
-use Rattle.emission_forms.specs.LinearCode.{result_set, jump_same}
+use Rattle.machine_forms.specs.Bounds.{counted}
+use Rattle.machine_forms.specs.Immediate.{immediate, is_small, upper, lower}
+use Rattle.machine_forms.specs.Piece.{Piece, instruction, jump_to}
+use Rattle.machine_forms.specs.Registers.{zero_register, a0, a1, a2, register}
+use Rattle.machine_forms.specs.Shape.{Shape, epilogue}
+use Rattle.machine_forms.specs.PlaceCode.{slot_stored, added, root_address, root_loaded, root_stored, place_address, place_stored, number_set}
+use Rattle.machine_forms.specs.ValueCode.{needs, unary_code, operator_code, operands_code, binary_code, value_code, branch_operator, binary_test, test_code, unless_zero, if_zero, made_truth, branch_truth}
+use Rattle.machine_forms.specs.CallCode.{argument_code, passed, arguments_passed, arguments_held, function_called, call_code, value_given}
+use Rattle.machine_forms.specs.RuntimeCall.{runtime_call, throw_call, builtin_call, builtin_value}
+use Rattle.machine_forms.specs.OperationCode.{dropped_code, whole_value, called_at, destructor_set, op_code}
+use Rattle.machine_forms.specs.LinearCode.{result_set, jump_same}
 use Rattle.source_bounds.specs.OperationWords.{value_words, argument_words, arguments_words, op_words}
 use Rattle.source_bounds.specs.WordLaws.{OperationsAreShort}
 

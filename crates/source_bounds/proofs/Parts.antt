@@ -3,7 +3,7 @@ use Rattle.std.proofs.Common.{ℕ, zero, suc, ◌*◌, ◌≤◌, List, [], ◌�
 use Rattle.std.specs.List.{AllByRecursion}
 use Rattle.cxx_ast.specs.Plain.{Class, Checked}
 use Rattle.cxx_ast.specs.Checked.{IsChecked}
-use Rattle.scope_rules.specs.Class.{ObjectType, int_type, class_type}
+use Rattle.meaning_forms.specs.Class.{ObjectType, int_type, class_type}
 use Rattle.region_forms.specs.Layout.{ClassLayout, layout_at, size_in, sizes_in, size_of_parts, class_parts, class_layout}
 use Rattle.class_layout.specs.Fit.{FitBehind, CheckedClassesFit}
 use Rattle.source_bounds.proofs.Lists.{both_all}

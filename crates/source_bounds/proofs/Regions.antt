@@ -10,10 +10,10 @@ use Rattle.linear_forms.specs.Exits.{Exit, exit_to, inner, first_label, crosses,
 use Rattle.linear_forms.specs.Emission.{Emitting, quiet, outward, put, guarded, cleaned, set_way, leave_code, way_tests, pad_cleanup, exit_cleanup, protect_exit, no_way_out, exit_code, filters_of}
 use Rattle.linear_forms.specs.Code.{labels, labels_clauses, clause_tests, region_code, all_code, clauses_code}
 use Rattle.linear_forms.specs.Unit.{emitting, placed_code, function_code}
-use Rattle.emission_forms.specs.Bounds.{counted}
-use Rattle.emission_forms.specs.Shape.{Shape, prologue}
-use Rattle.emission_forms.specs.LinearCode.{linear_code}
-use Rattle.emission_forms.specs.Emitted.{shape_of}
+use Rattle.machine_forms.specs.Bounds.{counted}
+use Rattle.machine_forms.specs.Shape.{Shape, prologue}
+use Rattle.machine_forms.specs.LinearCode.{linear_code}
+use Rattle.machine_forms.specs.Emitted.{shape_of}
 use Rattle.source_bounds.specs.OperationWords.{op_words, linear_words}
 use Rattle.source_bounds.specs.RegionWords.{cleanup_words, region_words, all_words, clauses_words, HasFewWays, AllHaveFewWays, ClausesHaveFewWays}
 use Rattle.source_bounds.specs.WordLaws.{FunctionsAreShort}

@@ -11,7 +11,7 @@ use Rattle.linear_forms.specs.Exits.{Exit, exit_to, inner, first_label, crosses,
 use Rattle.linear_forms.specs.Emission.{Emitting, quiet, guarded, cleaned, set_way, leave_code, way_tests, pad_cleanup, exit_cleanup, protect_exit, no_way_out, exit_code, filters_of}
 use Rattle.linear_forms.specs.Code.{labels, labels_clauses, clause_tests, region_code, all_code, clauses_code}
 use Rattle.linear_forms.specs.Unit.{emitting, placed_code, function_code}
-use Rattle.emission_forms.specs.Bounds.{LinearFits}
+use Rattle.machine_forms.specs.Bounds.{LinearFits}
 use Rattle.source_bounds.specs.RegisterWeights.{RegionFits, RegionsFit, ClausesFit}
 
 abbrev Fit : List Placed → Type 0

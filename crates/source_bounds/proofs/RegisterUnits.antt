@@ -2,13 +2,13 @@
 use Rattle.std.proofs.Common.{ℕ, zero, suc, ◌+◌, ◌≤◌, ◌==◌, true, false, List, [], ◌∷◌, map, length}
 use Rattle.std.specs.List.{AllByRecursion}
 use Rattle.cxx_ast.specs.Plain.{Checked, Function}
-use Rattle.scope_rules.specs.Class.{class_at, no_class}
+use Rattle.meaning_forms.specs.Class.{class_at, no_class}
 use Rattle.region_forms.specs.Form.{RegionFunction}
 use Rattle.region_forms.specs.Layout.{Layout}
 use Rattle.region_forms.specs.Numbering.{variables_of}
 use Rattle.region_forms.specs.LowerProgram.{lowering, copied_type, some_constructor, declared_function, implicit_default_function, implicit_copy_function, implicit_destructor_function, own_functions, functions_of_class, functions_of_classes, regions_of}
 use Rattle.linear_forms.specs.Unit.{function_code}
-use Rattle.emission_forms.specs.Bounds.{LinearFits}
+use Rattle.machine_forms.specs.Bounds.{LinearFits}
 use Rattle.source_bounds.specs.BuiltinCalls.{FunctionCallsFit}
 use Rattle.source_bounds.specs.LeastTokens.{function_tokens}
 use Rattle.source_bounds.specs.RegisterWeights.{RegionFits}

@@ -10,11 +10,11 @@ use Rattle.cxx_ast.specs.declared.name.Builtin.TheVariants.{SetTerminate, SetUne
 use Rattle.cxx_ast.specs.declared.name.Name.{Name}
 use Rattle.cxx_ast.specs.declared.types.Ty.{Ty}
 use Rattle.cxx_ast.specs.Plain.{Expression, number, path, paren, unary, binary, call, std_call, Expressions, no_expressions, expression_then}
-use Rattle.scope_rules.specs.Expression.{lvalue_of, names_of, count_of, callee_bound, receiver, parameter_types, constructor_types, function_named}
+use Rattle.meaning_forms.specs.Expression.{lvalue_of, names_of, count_of, callee_bound, receiver, parameter_types, constructor_types, function_named}
 use Rattle.region_forms.specs.Form.{Place, Value, number as number_value, load, unary as unary_value, binary as binary_value, call_value, Argument, int_argument, address_argument, handler_argument, arguments_from, store, evaluate, Region, op, regions_from}
 use Rattle.region_forms.specs.LowerExpression.{Lowering, place_of, has_call, some_call, Lowered, LoweredArguments, stored_in, truth_of, both, callee_of, receiver_argument, handler_arguments, given_before, call_of, int_passed, address_passed, refers, lower, lower_arguments, dropped, constructor_chosen, lower_construct}
-use Rattle.emission_forms.specs.Bounds.{ArgumentsFit, CallFits, ValueFits}
-use Rattle.emission_forms.specs.ValueCode.{operator_needs, needs}
+use Rattle.machine_forms.specs.Bounds.{ArgumentsFit, CallFits, ValueFits}
+use Rattle.machine_forms.specs.ValueCode.{operator_needs, needs}
 use Rattle.source_bounds.specs.BuiltinCalls.{GivenFits, CallsFit, AllCallsFit}
 use Rattle.source_bounds.specs.LeastTokens.{tokens_in, tokens_in_all}
 use Rattle.source_bounds.specs.RegisterWeights.{RegionFits, RegionsFit}

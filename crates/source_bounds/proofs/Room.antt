@@ -12,8 +12,8 @@ use Rattle.region_forms.specs.Numbering.{type_rows}
 use Rattle.linear_forms.specs.Unit.{function_code, unit_of}
 use Rattle.class_layout.proofs.Program.{classes_fit}
 use Rattle.landing_pads.specs.Laws.{AllTablesAreShort}
-use Rattle.emission_forms.specs.Emitted.{emitted_of, function_routine, listed_type}
-use Rattle.emission_forms.specs.Routine.{listed_routine, listed_routines, routine_words}
+use Rattle.machine_forms.specs.Emitted.{emitted_of, function_routine, listed_type}
+use Rattle.machine_forms.specs.Routine.{listed_routine, listed_routines, routine_words}
 use Rattle.image_forms.specs.Room.{function_room, type_room}
 use Rattle.rv64_emit.specs.Laws.{TableIsGood, TablesAreGood}
 use Rattle.source_bounds.specs.Laws.{RoomIsSmall}

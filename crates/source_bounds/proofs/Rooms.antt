@@ -15,8 +15,8 @@ use Rattle.region_forms.specs.Form.{RegionFunction}
 use Rattle.linear_forms.specs.Unit.{emitting, function_code}
 use Rattle.landing_pads.specs.Laws.{AllTablesAreShort}
 use Rattle.landing_pads.specs.Size.{longest}
-use Rattle.emission_forms.specs.Emitted.{function_routine, shape_of}
-use Rattle.emission_forms.specs.Routine.{listed_routine, listed_site, routine_table, routine_words}
+use Rattle.machine_forms.specs.Emitted.{function_routine, shape_of}
+use Rattle.machine_forms.specs.Routine.{listed_routine, listed_site, routine_table, routine_words}
 use Rattle.image_forms.specs.Room.{function_room}
 use Rattle.rv64_emit.specs.Laws.{SiteIsInside, TableIsGood}
 use Rattle.source_bounds.specs.TableWeights.{guards_in}

@@ -8,7 +8,7 @@ use Rattle.cxx_ast.specs.declared.declaration.FuncKind.{FuncKind}
 use Rattle.cxx_ast.specs.declared.declaration.FuncKind.TheVariants.{Plain, Method, Constructor, Destructor}
 use Rattle.cxx_ast.specs.Plain.{Function, Class, Checked}
 use Rattle.cxx_ast.specs.Checked.{IsChecked}
-use Rattle.scope_rules.specs.Class.{class_at, no_class, parts_of, base_part, member_part}
+use Rattle.meaning_forms.specs.Class.{class_at, no_class, parts_of, base_part, member_part}
 use Rattle.region_forms.specs.Form.{RegionFunction}
 use Rattle.region_forms.specs.Layout.{Layout, class_parts}
 use Rattle.region_forms.specs.Numbering.{variables_of, type_rows}

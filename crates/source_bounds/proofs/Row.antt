@@ -1,7 +1,7 @@
 -- Functions one behind the other stand in a row.
 use Rattle.std.proofs.Common.{ℕ, ◌+◌, ◌≤◌, List, [], ◌∷◌, arith}
 use Rattle.eh_bytes.specs.Listed.{ListedFunction}
-use Rattle.emission_forms.specs.Emitted.{emitted_of}
+use Rattle.machine_forms.specs.Emitted.{emitted_of}
 use Rattle.image_forms.specs.Function.{StandInRow}
 use Rattle.rv64_emit.specs.Laws.{FunctionsAreApart, StandFrom}
 use Rattle.source_bounds.specs.Laws.{FunctionsStandInRow}

@@ -17,7 +17,7 @@ use Rattle.cxx_ast.specs.Locals.{inner, after, handler_scope, caught_count, loca
 use Rattle.cxx_ast.specs.Resolve.{bind, bound_of, function_number, resolve_class, resolve_type, resolve_statement, resolve_else, resolve_statements, resolve_handlers, resolve_specification, resolve_body, resolve_function}
 use Rattle.cxx_ast.specs.Declare.{next_class, with_class_name, head_environment, head_scope, class_entry, declare_behind, at_the_start, body_environment, function_scope}
 use Rattle.cxx_ast.specs.Checked.{resolve_methods, resolve_declarations, classes_of, functions_of, checked, IsChecked}
-use Rattle.scope_rules.specs.Class.{class_named}
+use Rattle.meaning_forms.specs.Class.{class_named}
 use Rattle.region_forms.specs.Numbering.{type_rows, class_row}
 use Rattle.class_layout.proofs.Named.{Known, known_more, name_stands}
 use Rattle.class_layout.proofs.Declared.{named_classes, named_known, behind_function}

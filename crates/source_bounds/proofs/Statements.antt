@@ -8,10 +8,10 @@ use Rattle.cxx_ast.specs.declared.name.Name.{Name}
 use Rattle.cxx_ast.specs.declared.types.Ty.{Ty}
 use Rattle.cxx_ast.specs.declared.types.Ty.TheVariants.{Int, Object}
 use Rattle.cxx_ast.specs.Plain.{Expression, call, std_call, Expressions, Statement, block, empty, if_else, while, return, break, continue, throw, try, assign, evaluate, local_int, local_ref, local_object, Else, no_else, else_do, Statements, no_statements, statement_then, Handlers, no_handlers, handler_then}
-use Rattle.scope_rules.specs.Class.{ObjectType, int_type, class_type, class_named}
-use Rattle.scope_rules.specs.Running.{destructor}
-use Rattle.scope_rules.specs.Frame.{local_number}
-use Rattle.scope_rules.specs.Expression.{lvalue_of, callee_bound}
+use Rattle.meaning_forms.specs.Class.{ObjectType, int_type, class_type, class_named}
+use Rattle.meaning_forms.specs.Running.{destructor}
+use Rattle.meaning_forms.specs.Frame.{local_number}
+use Rattle.meaning_forms.specs.Expression.{lvalue_of, callee_bound}
 use Rattle.region_forms.specs.Form.{Place, number, store, bind, make, throw as throw_op, rethrow, enter, destroy_scope, free_object, leave_handler, Region, op, branch, leave_region, in_order}
 use Rattle.region_forms.specs.Numbering.{number_of, type_number, destructor_of, declared_in, all_declared_in}
 use Rattle.region_forms.specs.LowerExpression.{Lowering, result_slot, exception_slot, first_temporary, slot_place, place_of, lvalue_type, has_call, Lowered, lower, dropped, lower_construct}

@@ -8,8 +8,8 @@ use Rattle.cxx_ast.specs.declared.name.Bound.TheVariants.{Builtin as BuiltinBoun
 use Rattle.cxx_ast.specs.declared.name.Builtin.TheVariants.{SetTerminate, SetUnexpected}
 use Rattle.cxx_ast.specs.declared.types.Ty.{Ty}
 use Rattle.cxx_ast.specs.Plain.{Expression, number, path, paren, unary, binary, call, std_call, Expressions, no_expressions, expression_then}
-use Rattle.scope_rules.specs.Running.{constructor}
-use Rattle.scope_rules.specs.Expression.{lvalue_of, names_of, callee_bound, receiver, parameter_types, constructor_types}
+use Rattle.meaning_forms.specs.Running.{constructor}
+use Rattle.meaning_forms.specs.Expression.{lvalue_of, names_of, callee_bound, receiver, parameter_types, constructor_types}
 use Rattle.region_forms.specs.Form.{Place, Value, number as number_value, call_value, arguments_from, store, evaluate, construct, call as call_only, op, branch, in_order}
 use Rattle.region_forms.specs.Numbering.{number_of}
 use Rattle.region_forms.specs.LowerExpression.{Lowering, slot_place, place_of, has_call, some_call, Lowered, LoweredArguments, LoweredCall, stored_in, truth_of, if_true, if_false, left_stored, both, given_before, call_of, call_stored, call_dropped, int_passed, address_passed, refers, lower, lower_arguments, dropped, constructor_chosen, lower_construct}

@@ -5,9 +5,9 @@ use Rattle.cxx_ast.specs.declared.types.Ty.{Ty}
 use Rattle.cxx_ast.specs.declared.declaration.FuncKind.{FuncKind}
 use Rattle.cxx_ast.specs.declared.declaration.FuncKind.TheVariants.{Plain, Method, Constructor, Destructor}
 use Rattle.cxx_ast.specs.Plain.{Checked, Function, Expressions, no_expressions, expression_then, Initialiser}
-use Rattle.scope_rules.specs.Class.{ObjectType, int_type, class_type, object_type, parts_of}
-use Rattle.scope_rules.specs.Running.{destructor}
-use Rattle.scope_rules.specs.Call.{initialiser_for, statements_in}
+use Rattle.meaning_forms.specs.Class.{ObjectType, int_type, class_type, object_type, parts_of}
+use Rattle.meaning_forms.specs.Running.{destructor}
+use Rattle.meaning_forms.specs.Call.{initialiser_for, statements_in}
 use Rattle.region_forms.specs.Form.{Region, in_order, destroy_part, destroy_scope}
 use Rattle.region_forms.specs.Numbering.{number_of, type_number}
 use Rattle.region_forms.specs.LowerExpression.{Lowering, first_temporary}

@@ -3,7 +3,7 @@ use Rattle.std.proofs.Common.{◌≡◌, ℕ, ◌+◌, ◌≤◌, Bool, true, fa
 use Rattle.std.proofs.lemmas.Bool.Decides.{nat_tests}
 use Rattle.std.proofs.lemmas.List.{length-append}
 use Rattle.std.specs.List.{AllByRecursion}
-use Rattle.scope_rules.specs.Class.{some_of}
+use Rattle.meaning_forms.specs.Class.{some_of}
 use Rattle.linear_forms.specs.Distinct.{added, added_all, same_number, distinct}
 
 abbrev pub IsOneOf : (a b c n : ℕ) → Type 0

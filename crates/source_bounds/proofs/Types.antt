@@ -10,7 +10,7 @@ use Rattle.cxx_ast.specs.Plain.{Checked, Program}
 use Rattle.region_forms.specs.Form.{TypeRow}
 use Rattle.region_forms.specs.Numbering.{type_rows}
 use Rattle.region_forms.specs.WellFormed.{rows_test}
-use Rattle.emission_forms.specs.Emitted.{listed_type}
+use Rattle.machine_forms.specs.Emitted.{listed_type}
 use Rattle.image_forms.specs.Linkable.{BaseIsThere}
 use Rattle.source_bounds.specs.Laws.{TokensAreFew, BasesAreThere, BadExceptionIsThere}
 

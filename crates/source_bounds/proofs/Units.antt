@@ -11,8 +11,8 @@ use Rattle.cxx_ast.specs.declared.declaration.FuncKind.TheVariants.{Plain, Metho
 use Rattle.cxx_ast.specs.Plain.{Function, Class, Program, Checked, Statements}
 use Rattle.cxx_ast.specs.Checked.{checked, IsChecked}
 use Rattle.cxx_ast.specs.Declare.{at_the_start}
-use Rattle.scope_rules.specs.Class.{class_at, no_class, parts_of, base_part, member_part}
-use Rattle.scope_rules.specs.Call.{statements_in}
+use Rattle.meaning_forms.specs.Class.{class_at, no_class, parts_of, base_part, member_part}
+use Rattle.meaning_forms.specs.Call.{statements_in}
 use Rattle.region_forms.specs.Form.{RegionFunction}
 use Rattle.region_forms.specs.Layout.{Layout, class_parts}
 use Rattle.region_forms.specs.Numbering.{variables_of, type_rows}

@@ -4,7 +4,7 @@ use Rattle.std.specs.List.{AllByRecursion}
 use Rattle.cxx_ast.specs.declared.name.Bound.{Bound}
 use Rattle.cxx_ast.specs.declared.name.Bound.TheVariants.{Builtin}
 use Rattle.cxx_ast.specs.Plain.{Expression, paren, unary, binary, call, std_call, Expressions, no_expressions, expression_then, Statement, block, if_else, while, return, throw, try, assign, evaluate, local_int, local_object, Else, no_else, else_do, Statements, no_statements, statement_then, Handlers, no_handlers, handler_then, Initialiser, Function, Checked}
-use Rattle.scope_rules.specs.Expression.{callee_bound, count_of}
+use Rattle.meaning_forms.specs.Expression.{callee_bound, count_of}
 
 -- the arguments of a call, by what is called
 abbrev pub GivenFits : Bound → Expressions → Type 0

@@ -5,7 +5,7 @@ use Rattle.region_forms.specs.Layout.{layout_of}
 use Rattle.region_forms.specs.LowerProgram.{regions_of}
 use Rattle.linear_forms.specs.Linear.{UnitCode}
 use Rattle.linear_forms.specs.Unit.{unit_of}
-use Rattle.emission_forms.specs.Emitted.{emitted_of}
+use Rattle.machine_forms.specs.Emitted.{emitted_of}
 
 -- the linear code of a program
 abbrev pub unit_for : Checked → UnitCode

@@ -4,8 +4,8 @@ use Rattle.std.specs.List.{AllByRecursion}
 use Rattle.cxx_ast.specs.Checked.{IsChecked}
 use Rattle.cxx_ast.specs.Plain.{Checked}
 use Rattle.linear_forms.specs.Linear.{UnitCode}
-use Rattle.emission_forms.specs.Bounds.{IsBounded}
-use Rattle.emission_forms.specs.Emitted.{emitted_of}
+use Rattle.machine_forms.specs.Bounds.{IsBounded}
+use Rattle.machine_forms.specs.Emitted.{emitted_of}
 use Rattle.image_forms.specs.Function.{FunctionFits, StandInRow}
 use Rattle.image_forms.specs.Linkable.{BaseIsThere, IsLinkable}
 use Rattle.image_forms.specs.Room.{unit_room}

@@ -2,7 +2,7 @@
 use Rattle.std.specs.Prelude.{ℕ, ◌+◌, ◌≤◌, List, [], ◌∷◌, Option, Some, None}
 use Rattle.cxx_ast.specs.declared.types.Ty.{Ty}
 use Rattle.cxx_ast.specs.Plain.{Statement, block, if_else, while, try, Else, no_else, else_do, Statements, no_statements, statement_then, Handlers, no_handlers, handler_then, Function}
-use Rattle.scope_rules.specs.Class.{object_type}
+use Rattle.meaning_forms.specs.Class.{object_type}
 use Rattle.region_forms.specs.Numbering.{type_number}
 
 -- a type has a row

@@ -7,8 +7,8 @@ use Rattle.region_forms.specs.Layout.{Layout}
 use Rattle.region_forms.specs.LowerExpression.{Lowering, lower}
 use Rattle.region_forms.specs.LowerProgram.{regions_of}
 use Rattle.linear_forms.specs.Unit.{unit_of}
-use Rattle.emission_forms.specs.Bounds.{LinearFits}
-use Rattle.emission_forms.specs.ValueCode.{needs}
+use Rattle.machine_forms.specs.Bounds.{LinearFits}
+use Rattle.machine_forms.specs.ValueCode.{needs}
 use Rattle.source_bounds.specs.BuiltinCalls.{BuiltinsTakeFew}
 use Rattle.source_bounds.specs.LeastTokens.{tokens_in}
 

@@ -1,8 +1,8 @@
 -- No value of a region needs more registers than there are.
 use Rattle.std.specs.Prelude.{◌≤◌}
 use Rattle.region_forms.specs.Form.{Region, seq, op, branch, loop, protect, catch, limit, barrier, leave_region, RegionList, no_regions, region_then, Clauses, no_clauses, clause_then}
-use Rattle.emission_forms.specs.Bounds.{OpFits}
-use Rattle.emission_forms.specs.ValueCode.{needs}
+use Rattle.machine_forms.specs.Bounds.{OpFits}
+use Rattle.machine_forms.specs.ValueCode.{needs}
 
 abbrev mutual
   pub RegionFits : Region → Type 0

@@ -8,12 +8,12 @@ use Rattle.region_forms.specs.Layout.{Layout}
 use Rattle.region_forms.specs.LowerProgram.{regions_of}
 use Rattle.linear_forms.specs.Linear.{LinearOp}
 use Rattle.linear_forms.specs.Unit.{function_code, unit_of}
-use Rattle.emission_forms.specs.Bounds.{counted, counted_words}
-use Rattle.emission_forms.specs.Emitted.{emitted_of, function_routine}
-use Rattle.emission_forms.specs.LinearCode.{linear_code}
-use Rattle.emission_forms.specs.Piece.{Piece}
-use Rattle.emission_forms.specs.Routine.{Routine}
-use Rattle.emission_forms.specs.Shape.{Shape}
+use Rattle.machine_forms.specs.Bounds.{counted, counted_words}
+use Rattle.machine_forms.specs.Emitted.{emitted_of, function_routine}
+use Rattle.machine_forms.specs.LinearCode.{linear_code}
+use Rattle.machine_forms.specs.Piece.{Piece}
+use Rattle.machine_forms.specs.Routine.{Routine}
+use Rattle.machine_forms.specs.Shape.{Shape}
 use Rattle.source_bounds.specs.OperationWords.{linear_words}
 use Rattle.source_bounds.specs.RegionWords.{region_words, HasFewWays}
 

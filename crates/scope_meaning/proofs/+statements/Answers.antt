@@ -3,12 +3,12 @@ use mir.Val.{of_z}
 use Rattle.std.proofs.Common.{◌≡◌, ◌+◌, ◌-◌, ◌<◌, suc, ap, sym, subst, map, rules, arith}
 use Rattle.std.specs.Prelude.{option_map}
 use Rattle.cxx_ast.specs.View.{checked_of, expression_of, expressions_of, option_of, statement_of, statements_of}
-use Rattle.scope_rules.specs.Context.{guarded_by, handling, try_block}
-use Rattle.scope_rules.specs.Outcome.{normal, pure}
-use Rattle.scope_rules.specs.Construct.{destroy}
-use Rattle.scope_rules.specs.Frame.{with_parameter, with_variable}
-use Rattle.scope_rules.specs.Expression.{value_of}
-use Rattle.scope_rules.specs.Statement.{loop, statement, statements}
+use Rattle.meaning_forms.specs.Context.{guarded_by, handling, try_block}
+use Rattle.meaning_forms.specs.Outcome.{normal, pure}
+use Rattle.meaning_forms.specs.Construct.{destroy}
+use Rattle.meaning_forms.specs.Frame.{with_parameter, with_variable}
+use Rattle.meaning_forms.specs.Expression.{value_of}
+use Rattle.meaning_forms.specs.Statement.{loop, statement, statements}
 use Rattle.scope_world.specs.Gives.{GivesBy, Halts, flow_of}
 use Rattle.scope_world.specs.Inward.{clause_in, context_of, frame_of}
 use Rattle.scope_world.specs.Objects.{part_of, reference_of, type_of}

@@ -1,6 +1,6 @@
 use Rattle.std.proofs.Common.{map, drop}
 use Rattle.cxx_ast.specs.View.{class_of}
-use Rattle.scope_rules.specs.Class.{member_part}
+use Rattle.meaning_forms.specs.Class.{member_part}
 use Rattle.class_layout.specs.View.{class_layout_of}
 use Rattle.class_layout.proofs.Members.{Laying}
 use Rattle.class_layout.proofs.classes.class_layout.Given as goal

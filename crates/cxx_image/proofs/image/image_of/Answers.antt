@@ -4,7 +4,7 @@ use Rattle.cxx_ast.specs.View.{checked_of}
 use Rattle.region_forms.specs.Layout.{ClassLayout, layout_of}
 use Rattle.region_forms.specs.LowerProgram.{regions_of}
 use Rattle.linear_forms.specs.Unit.{unit_of}
-use Rattle.emission_forms.specs.Emitted.{emitted_of}
+use Rattle.machine_forms.specs.Emitted.{emitted_of}
 use Rattle.image_forms.specs.Linkable.{IsLinkable}
 use Rattle.image_forms.specs.Linked.{linked}
 use Rattle.image_link.specs.Runs.{RunsUnit}

@@ -1,6 +1,6 @@
 use Rattle.std.proofs.Common.{map}
 use Rattle.command_line.specs.Command.{command_of}
-use Rattle.eh_driver.specs.Words.{texts}
+use Rattle.eh_commands.specs.Words.{texts}
 use Rattle.eh_driver.proofs.Promised.{promised}
 use Rattle.eh_driver.proofs.top.ehc.Goals as goal
 

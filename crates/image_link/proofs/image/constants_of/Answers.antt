@@ -1,7 +1,7 @@
 use Rattle.std.proofs.Common.{rules, ◌≡◌, ◌-◌, ◌%◌, ◌++◌, length, map, ◌∙◌, ap}
 use Rattle.std.specs.Prelude.{replicate}
 use Rattle.eh_bytes.specs.Listed.{listed_function, listed_frame, listed_unit}
-use Rattle.emission_forms.specs.Emitted.{emitted_stubs}
+use Rattle.machine_forms.specs.Emitted.{emitted_stubs}
 use Rattle.image_forms.specs.Records.{names_bytes}
 use Rattle.image_link.proofs.Lists.{lists_stand}
 use Rattle.image_link.proofs.Whole.{Puts, put_whole, constants_whole}

@@ -1,7 +1,7 @@
 use Rattle.std.proofs.Common.{◌≡◌, drop}
 use Rattle.std.specs.Prelude.{pos}
-use Rattle.scope_rules.specs.Arithmetic.{int_equal}
-use Rattle.scope_rules.specs.Class.{some_of}
+use Rattle.meaning_forms.specs.Arithmetic.{int_equal}
+use Rattle.meaning_forms.specs.Class.{some_of}
 use Rattle.landing_pads.proofs.covers.has_cleanup.Given as goal
 
 abbrev pub invariant-loop-filter : goal.invariant-loop-filter

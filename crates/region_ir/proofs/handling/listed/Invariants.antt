@@ -1,5 +1,5 @@
 use Rattle.std.proofs.Common.{◌≡◌, map, take}
-use Rattle.scope_rules.specs.Class.{object_type}
+use Rattle.meaning_forms.specs.Class.{object_type}
 use Rattle.region_forms.specs.Numbering.{type_number}
 use Rattle.region_ir.proofs.handling.listed.Given as goal
 

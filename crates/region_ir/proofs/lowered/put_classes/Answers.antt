@@ -3,7 +3,7 @@ use Rattle.std.proofs.lemmas.Option.{slice_get_read}
 use Rattle.std.specs.Prelude.{slice_get}
 use Rattle.cxx_ast.specs.View.{checked_of}
 use Rattle.class_layout.specs.View.{laid_out}
-use Rattle.scope_rules.specs.Class.{class_at}
+use Rattle.meaning_forms.specs.Class.{class_at}
 use Rattle.region_forms.specs.LowerProgram.{functions_of_classes}
 use Rattle.region_ir.specs.View.{function_of}
 use Rattle.region_ir.proofs.Gathered.{class_done, class_found}

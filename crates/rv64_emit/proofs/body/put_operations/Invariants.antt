@@ -1,6 +1,6 @@
 use Rattle.std.proofs.Common.{◌≡◌, ◌++◌, drop, flat_map, length, map}
 use Rattle.landing_pads.specs.View.{linear_of}
-use Rattle.emission_forms.specs.LinearCode.{linear_code}
+use Rattle.machine_forms.specs.LinearCode.{linear_code}
 use Rattle.rv64_emit.specs.Starts.{starts_from}
 use Rattle.rv64_emit.proofs.body.put_operations.Given as goal
 

@@ -1,6 +1,6 @@
 use Rattle.std.proofs.Common.{◌≡◌, ◌++◌, drop}
 use Rattle.region_ir.specs.View.{arguments_of}
-use Rattle.emission_forms.specs.CallCode.{arguments_held}
+use Rattle.machine_forms.specs.CallCode.{arguments_held}
 use Rattle.rv64_emit.proofs.call.put_held.Given as goal
 
 -- the code so far, and that of what is left

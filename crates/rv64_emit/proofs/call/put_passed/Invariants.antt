@@ -1,6 +1,6 @@
 use Rattle.std.proofs.Common.{◌≡◌, ◌++◌, drop}
 use Rattle.region_ir.specs.View.{arguments_of}
-use Rattle.emission_forms.specs.CallCode.{arguments_passed}
+use Rattle.machine_forms.specs.CallCode.{arguments_passed}
 use Rattle.rv64_emit.proofs.call.put_passed.Given as goal
 
 -- the code so far, and that of what is left

@@ -1,5 +1,5 @@
 use Rattle.std.proofs.Common.{◌≡◌, ◌+◌, drop, map}
-use Rattle.emission_forms.specs.Routine.{chain_number}
+use Rattle.machine_forms.specs.Routine.{chain_number}
 use Rattle.rv64_emit.proofs.table.chain_number.Given as goal
 
 abbrev pub invariant-loop-number : goal.invariant-loop-number

@@ -1,6 +1,6 @@
 use Rattle.std.proofs.Common.{◌≡◌, drop, map}
 use Rattle.landing_pads.specs.View.{site_of}
-use Rattle.emission_forms.specs.Routine.{chains_behind, chains_of}
+use Rattle.machine_forms.specs.Routine.{chains_behind, chains_of}
 use Rattle.rv64_emit.proofs.table.chains_of.Given as goal
 
 -- the chains so far, and those of what is left

@@ -1,5 +1,5 @@
 use Rattle.std.proofs.Common.{◌≡◌, drop, map}
-use Rattle.emission_forms.specs.Routine.{has_chain}
+use Rattle.machine_forms.specs.Routine.{has_chain}
 use Rattle.rv64_emit.proofs.table.has_chain.Given as goal
 
 abbrev pub invariant-loop-other : goal.invariant-loop-other

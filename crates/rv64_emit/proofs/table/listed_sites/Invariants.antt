@@ -1,6 +1,6 @@
 use Rattle.std.proofs.Common.{◌≡◌, map, take}
 use Rattle.landing_pads.specs.View.{site_of}
-use Rattle.emission_forms.specs.Routine.{Routine, chains_of, listed_site}
+use Rattle.machine_forms.specs.Routine.{Routine, chains_of, listed_site}
 use Rattle.rv64_emit.specs.Starts.{HasStarts}
 use Rattle.rv64_emit.proofs.table.listed_sites.Given as goal
 

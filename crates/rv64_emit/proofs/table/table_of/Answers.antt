@@ -1,7 +1,7 @@
 use Rattle.std.proofs.Common.{◌∙◌, ap, map}
 use Rattle.landing_pads.specs.View.{code_of, site_of}
-use Rattle.emission_forms.specs.Emitted.{function_routine}
-use Rattle.emission_forms.specs.Routine.{chains_of, listed_site}
+use Rattle.machine_forms.specs.Emitted.{function_routine}
+use Rattle.machine_forms.specs.Routine.{chains_of, listed_site}
 use Rattle.rv64_emit.proofs.Listed.{same_table}
 use Rattle.rv64_emit.proofs.table.table_of.Goals as goal
 

@@ -3,8 +3,8 @@ use Rattle.std.proofs.lemmas.List.{length-map}
 use Rattle.eh_bytes.specs.Listed.{listed_function}
 use Rattle.region_ir.specs.View.{row_of}
 use Rattle.landing_pads.specs.View.{code_of, unit_view}
-use Rattle.emission_forms.specs.Emitted.{function_routine, listed_type, unit_routines}
-use Rattle.emission_forms.specs.Routine.{all_words, listed_routines}
+use Rattle.machine_forms.specs.Emitted.{function_routine, listed_type, unit_routines}
+use Rattle.machine_forms.specs.Routine.{all_words, listed_routines}
 use Rattle.rv64_emit.specs.Body.{AllStandFor}
 use Rattle.rv64_emit.specs.Places.{HasTargets}
 use Rattle.rv64_emit.specs.declared.places.Targets.{Targets}

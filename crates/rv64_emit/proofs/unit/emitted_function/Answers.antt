@@ -1,6 +1,6 @@
 use Rattle.std.proofs.Common.{◌∙◌, refl}
 use Rattle.landing_pads.specs.View.{code_of}
-use Rattle.emission_forms.specs.Emitted.{shape_of}
+use Rattle.machine_forms.specs.Emitted.{shape_of}
 use Rattle.rv64_emit.proofs.Listed.{same_function}
 use Rattle.rv64_emit.proofs.unit.emitted_function.Goals as goal
 

@@ -2,8 +2,8 @@ use Rattle.std.proofs.Common.{◌≡◌, ◌∙◌, ◌<◌, ◌+◌, [], ◌∷
 use Rattle.std.proofs.lemmas.List.{drop_more, map_push, take_more}
 use Rattle.landing_pads.specs.View.{code_of}
 use Rattle.eh_bytes.specs.Listed.{listed_function}
-use Rattle.emission_forms.specs.Emitted.{function_routine}
-use Rattle.emission_forms.specs.Routine.{all_words, listed_routines, routine_words}
+use Rattle.machine_forms.specs.Emitted.{function_routine}
+use Rattle.machine_forms.specs.Routine.{all_words, listed_routines, routine_words}
 use Rattle.rv64_emit.specs.Body.{AllStandFor}
 use Rattle.rv64_emit.proofs.Bodies.{one_more}
 use Rattle.rv64_emit.proofs.Composed.{next_listed}

@@ -1,8 +1,8 @@
 use Rattle.std.proofs.Common.{◌≡◌, ◌+◌, ◌++◌, drop, map, take}
 use Rattle.eh_bytes.specs.Listed.{listed_function}
 use Rattle.landing_pads.specs.View.{code_of}
-use Rattle.emission_forms.specs.Emitted.{function_routine}
-use Rattle.emission_forms.specs.Routine.{all_words, listed_routines}
+use Rattle.machine_forms.specs.Emitted.{function_routine}
+use Rattle.machine_forms.specs.Routine.{all_words, listed_routines}
 use Rattle.rv64_emit.specs.Body.{AllStandFor}
 use Rattle.rv64_emit.proofs.unit.lay_out.Given as goal
 

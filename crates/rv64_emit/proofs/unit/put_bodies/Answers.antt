@@ -1,7 +1,7 @@
 use Rattle.std.proofs.Common.{◌∙◌, ◌<◌, ◌+◌, ◌∷◌, ◌++◌, drop, length, ap, refl, sym, arith}
 use Rattle.std.proofs.lemmas.List.{drop_all, drop_more}
-use Rattle.emission_forms.specs.Emitted.{target_byte}
-use Rattle.emission_forms.specs.Routine.{routines_code}
+use Rattle.machine_forms.specs.Emitted.{target_byte}
+use Rattle.machine_forms.specs.Routine.{routines_code}
 use Rattle.rv64_emit.proofs.Bodies.{next_left, none_left}
 use Rattle.rv64_emit.proofs.unit.put_bodies.Goals as goal
 

@@ -1,7 +1,7 @@
 use Rattle.std.proofs.Common.{◌++◌, List, drop}
 use Rattle.linear_forms.specs.Linear.{UnitCode}
-use Rattle.emission_forms.specs.Emitted.{target_byte}
-use Rattle.emission_forms.specs.Routine.{Routine, routines_code}
+use Rattle.machine_forms.specs.Emitted.{target_byte}
+use Rattle.machine_forms.specs.Routine.{Routine, routines_code}
 use Rattle.rv64_emit.specs.Body.{AllStandFor}
 use Rattle.rv64_emit.specs.Places.{HasTargets}
 use Rattle.rv64_emit.proofs.Bodies.{Left}

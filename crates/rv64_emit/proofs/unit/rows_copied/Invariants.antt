@@ -1,6 +1,6 @@
 use Rattle.std.proofs.Common.{◌≡◌, map, take}
 use Rattle.region_ir.specs.View.{row_of}
-use Rattle.emission_forms.specs.Emitted.{listed_type}
+use Rattle.machine_forms.specs.Emitted.{listed_type}
 use Rattle.rv64_emit.proofs.unit.rows_copied.Given as goal
 
 abbrev pub invariant-loop-row : goal.invariant-loop-row

@@ -1,8 +1,8 @@
 use Rattle.std.proofs.Common.{◌∙◌, ◌+◌, ◌++◌, ap, refl}
-use Rattle.emission_forms.specs.Emitted.{main_jump, target_byte, unit_routines}
-use Rattle.emission_forms.specs.Piece.{Places, words_from}
-use Rattle.emission_forms.specs.Routine.{routines_code}
-use Rattle.emission_forms.specs.StubCode.{stub_words}
+use Rattle.machine_forms.specs.Emitted.{main_jump, target_byte, unit_routines}
+use Rattle.machine_forms.specs.Piece.{Places, words_from}
+use Rattle.machine_forms.specs.Routine.{routines_code}
+use Rattle.machine_forms.specs.StubCode.{stub_words}
 use Rattle.rv64_emit.proofs.unit.unit_words.Goals as goal
 
 pub returns : goal.returns

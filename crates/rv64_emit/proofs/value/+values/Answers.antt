@@ -2,9 +2,9 @@ use Rattle.std.proofs.Common.{◌≡◌, ap}
 use Rattle.std.proofs.lemmas.Result.{on_ok_weaker}
 use Rattle.rv64_isa.specs.declared.instr.Instr.TheVariants.{Beq, Bne, Jal}
 use Rattle.region_ir.specs.View.{value_of}
-use Rattle.emission_forms.specs.Piece.{instruction}
-use Rattle.emission_forms.specs.Registers.{register, zero_register}
-use Rattle.emission_forms.specs.ValueCode.{made_truth, value_code}
+use Rattle.machine_forms.specs.Piece.{instruction}
+use Rattle.machine_forms.specs.Registers.{register, zero_register}
+use Rattle.machine_forms.specs.ValueCode.{made_truth, value_code}
 use Rattle.rv64_emit.proofs.Guarded.{guarded}
 use Rattle.rv64_emit.proofs.value.+values.Goals as goal
 

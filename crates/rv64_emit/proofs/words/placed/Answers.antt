@@ -1,8 +1,8 @@
 use Rattle.std.proofs.Common.{◌∙◌, ap, refl, sym}
 use Rattle.rv64_isa.specs.declared.instr.Instr.TheVariants.{Addi, Jalr, Lw, Sw}
-use Rattle.emission_forms.specs.Emitted.{target_byte}
-use Rattle.emission_forms.specs.Piece.{placed}
-use Rattle.emission_forms.specs.Routine.{routine_places}
+use Rattle.machine_forms.specs.Emitted.{target_byte}
+use Rattle.machine_forms.specs.Piece.{placed}
+use Rattle.machine_forms.specs.Routine.{routine_places}
 use Rattle.rv64_emit.specs.View.{piece_of}
 use Rattle.rv64_emit.proofs.words.placed.Goals as goal
 

@@ -1,8 +1,8 @@
 use Rattle.std.proofs.Common.{◌≡◌, ◌++◌, drop, map}
 use Rattle.linear_forms.specs.Linear.{UnitCode}
-use Rattle.emission_forms.specs.Emitted.{target_byte}
-use Rattle.emission_forms.specs.Piece.{words_from}
-use Rattle.emission_forms.specs.Routine.{Routine, routine_places}
+use Rattle.machine_forms.specs.Emitted.{target_byte}
+use Rattle.machine_forms.specs.Piece.{words_from}
+use Rattle.machine_forms.specs.Routine.{Routine, routine_places}
 use Rattle.rv64_emit.specs.Body.{StandsFor}
 use Rattle.rv64_emit.specs.Places.{HasTargets}
 use Rattle.rv64_emit.specs.View.{piece_of}

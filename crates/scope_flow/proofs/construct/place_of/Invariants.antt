@@ -1,6 +1,6 @@
 use Rattle.std.proofs.Common.{◌≡◌, ◌+◌, length, map}
 use Rattle.cxx_ast.specs.View.{function_of}
-use Rattle.scope_rules.specs.Construct.{place_from}
+use Rattle.meaning_forms.specs.Construct.{place_from}
 use Rattle.scope_flow.specs.Asked.{wanted_of}
 use Rattle.scope_flow.proofs.construct.place_of.Given as goal
 

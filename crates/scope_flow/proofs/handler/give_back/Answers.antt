@@ -1,6 +1,6 @@
 use Rattle.cxx_ast.specs.View.{checked_of}
-use Rattle.scope_rules.specs.Construct.{destroy}
-use Rattle.scope_rules.specs.World.{exception_at}
+use Rattle.meaning_forms.specs.Construct.{destroy}
+use Rattle.meaning_forms.specs.World.{exception_at}
 use Rattle.scope_world.specs.Inward.{context_of}
 use Rattle.scope_world.specs.Objects.{reference_of, type_of}
 use Rattle.scope_world.specs.Seen.{world_of}

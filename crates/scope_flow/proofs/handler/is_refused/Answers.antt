@@ -1,8 +1,8 @@
 use Rattle.std.proofs.Common.{◌≡◌, ◌∙◌, true, false, sym, ap}
 use Rattle.std.specs.Prelude.{◌==◌, ◌&&◌, not}
-use Rattle.scope_rules.specs.Class.{some_of}
-use Rattle.scope_rules.specs.Handler.{is_foreign}
-use Rattle.scope_rules.specs.World.{exception_at}
+use Rattle.meaning_forms.specs.Class.{some_of}
+use Rattle.meaning_forms.specs.Handler.{is_foreign}
+use Rattle.meaning_forms.specs.World.{exception_at}
 use Rattle.scope_world.specs.Inward.{context_of}
 use Rattle.scope_world.specs.Seen.{world_of}
 use Rattle.scope_flow.proofs.handler.is_refused.Goals as goal

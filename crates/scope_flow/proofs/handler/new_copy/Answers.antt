@@ -1,6 +1,6 @@
 use Rattle.std.proofs.Common.{rules}
-use Rattle.scope_rules.specs.Construct.{copy_object}
-use Rattle.scope_rules.specs.Context.{barrier, guarded_by}
+use Rattle.meaning_forms.specs.Construct.{copy_object}
+use Rattle.meaning_forms.specs.Context.{barrier, guarded_by}
 use Rattle.scope_world.specs.Objects.{part_of, reference_of}
 use Rattle.scope_flow.proofs.Entering.{copied, copy_halted}
 use Rattle.cxx_ast.specs.View.{checked_of}

@@ -2,8 +2,8 @@ use mir.Syntax.{w32}
 use mir.Val.{SFits}
 use Rattle.std.proofs.Common.{◌≡◌, Some, subst, rules}
 use Rattle.std.proofs.lemmas.Int.{to_z-of_z}
-use Rattle.scope_rules.specs.Outcome.{done, new_object}
-use Rattle.scope_rules.specs.Part.{cell}
+use Rattle.meaning_forms.specs.Outcome.{done, new_object}
+use Rattle.meaning_forms.specs.Part.{cell}
 use Rattle.scope_world.specs.Objects.{reference_of}
 use Rattle.scope_flow.proofs.Entering.{caught_int, caught_copy, copy_stopped, caught_bound}
 use Rattle.cxx_ast.specs.View.{checked_of}

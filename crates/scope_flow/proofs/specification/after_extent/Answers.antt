@@ -1,6 +1,6 @@
 use Rattle.std.proofs.Common.{◌≡◌, map}
-use Rattle.scope_rules.specs.Class.{object_type}
-use Rattle.scope_rules.specs.Outcome.{stopped, thrown}
+use Rattle.meaning_forms.specs.Class.{object_type}
+use Rattle.meaning_forms.specs.Outcome.{stopped, thrown}
 use Rattle.scope_flow.proofs.Outward.{extent_allowed, extent_stops}
 use Rattle.cxx_ast.specs.View.{checked_of}
 use Rattle.scope_world.specs.Inward.{context_of}

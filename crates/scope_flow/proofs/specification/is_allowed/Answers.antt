@@ -1,6 +1,6 @@
 use Rattle.std.proofs.Common.{map}
 use Rattle.cxx_ast.specs.View.{checked_of, option_of}
-use Rattle.scope_rules.specs.Class.{object_type}
+use Rattle.meaning_forms.specs.Class.{object_type}
 use Rattle.scope_world.specs.Objects.{type_of}
 use Rattle.scope_world.specs.Seen.{exception_of, world_of}
 use Rattle.scope_flow.specs.Always.{always}

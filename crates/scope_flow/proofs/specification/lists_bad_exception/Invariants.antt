@@ -1,6 +1,6 @@
 use Rattle.std.proofs.Common.{◌≡◌, length, map}
-use Rattle.scope_rules.specs.Class.{object_type, some_of}
-use Rattle.scope_rules.specs.Specification.{is_bad_exception}
+use Rattle.meaning_forms.specs.Class.{object_type, some_of}
+use Rattle.meaning_forms.specs.Specification.{is_bad_exception}
 use Rattle.scope_flow.proofs.specification.lists_bad_exception.Given as goal
 
 abbrev pub invariant-types : goal.invariant-types

@@ -1,5 +1,5 @@
 use Rattle.std.proofs.Common.{map}
-use Rattle.scope_rules.specs.Class.{object_type}
+use Rattle.meaning_forms.specs.Class.{object_type}
 use Rattle.scope_world.specs.Seen.{installed_of}
 use Rattle.scope_flow.proofs.Unexpected.{passed_again, passed_bad, passed_ended}
 use Rattle.cxx_ast.specs.View.{checked_of}

@@ -1,5 +1,5 @@
-use Rattle.scope_rules.specs.Outcome.{Flow}
-use Rattle.scope_rules.specs.Specification.{new_bad_exception}
+use Rattle.meaning_forms.specs.Outcome.{Flow}
+use Rattle.meaning_forms.specs.Specification.{new_bad_exception}
 use Rattle.scope_flow.proofs.Raising.{new_full, new_built}
 use Rattle.cxx_ast.specs.View.{checked_of}
 use Rattle.scope_world.specs.Inward.{context_of}

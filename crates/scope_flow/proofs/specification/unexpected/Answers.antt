@@ -1,8 +1,8 @@
 use Rattle.std.proofs.Common.{map}
-use Rattle.scope_rules.specs.Class.{object_type}
-use Rattle.scope_rules.specs.Context.{handling}
-use Rattle.scope_rules.specs.Outcome.{Flow}
-use Rattle.scope_rules.specs.Specification.{run_unexpected_handler}
+use Rattle.meaning_forms.specs.Class.{object_type}
+use Rattle.meaning_forms.specs.Context.{handling}
+use Rattle.meaning_forms.specs.Outcome.{Flow}
+use Rattle.meaning_forms.specs.Specification.{run_unexpected_handler}
 use Rattle.scope_world.specs.Seen.{exception_of, installed_of}
 use Rattle.scope_flow.proofs.Unexpected.{unexpected_left}
 use Rattle.cxx_ast.specs.View.{checked_of}

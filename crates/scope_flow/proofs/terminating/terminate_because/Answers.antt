@@ -1,7 +1,7 @@
 use Rattle.std.proofs.Common.{◌≡◌, ◌∙◌, ℤ, sym, ap}
 use Rattle.cxx_ast.specs.View.{checked_of}
-use Rattle.scope_rules.specs.Outcome.{Flow}
-use Rattle.scope_rules.specs.World.{native, building, foreign, exception_at}
+use Rattle.meaning_forms.specs.Outcome.{Flow}
+use Rattle.meaning_forms.specs.World.{native, building, foreign, exception_at}
 use Rattle.scope_world.specs.Inward.{context_of}
 use Rattle.scope_world.specs.Objects.{type_of}
 use Rattle.scope_world.specs.Seen.{exception_of, installed_of, world_of}

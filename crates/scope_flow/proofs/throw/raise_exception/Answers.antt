@@ -1,8 +1,8 @@
 use Rattle.std.proofs.Common.{◌≡◌, ◌∙◌, ℤ, true, false, sym, ap}
 use Rattle.cxx_ast.specs.View.{checked_of, option_of}
-use Rattle.scope_rules.specs.Outcome.{Flow}
-use Rattle.scope_rules.specs.World.{exception_type, type_at}
-use Rattle.scope_rules.specs.Guard.{is_doomed}
+use Rattle.meaning_forms.specs.Outcome.{Flow}
+use Rattle.meaning_forms.specs.World.{exception_type, type_at}
+use Rattle.meaning_forms.specs.Guard.{is_doomed}
 use Rattle.scope_world.specs.Inward.{context_of, guards_of}
 use Rattle.scope_world.specs.Objects.{type_of}
 use Rattle.scope_world.specs.Seen.{world_of}

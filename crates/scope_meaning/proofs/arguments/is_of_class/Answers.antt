@@ -1,9 +1,9 @@
 use Rattle.std.proofs.Common.{◌≡◌, ◌∙◌, ap}
 use Rattle.cxx_ast.specs.View.{checked_of}
-use Rattle.scope_rules.specs.Class.{class_type, derives}
-use Rattle.scope_rules.specs.Part.{part_type}
-use Rattle.scope_rules.specs.World.{part_of}
-use Rattle.scope_rules.specs.Expression.{is_of_class}
+use Rattle.meaning_forms.specs.Class.{class_type, derives}
+use Rattle.meaning_forms.specs.Part.{part_type}
+use Rattle.meaning_forms.specs.World.{part_of}
+use Rattle.meaning_forms.specs.Expression.{is_of_class}
 use Rattle.scope_world.specs.Inward.{frame_of}
 use Rattle.scope_world.specs.Seen.{world_of}
 use Rattle.scope_meaning.proofs.arguments.is_of_class.Goals as goal

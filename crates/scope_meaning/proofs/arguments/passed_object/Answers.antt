@@ -1,8 +1,8 @@
 use Rattle.std.proofs.Common.{◌≡◌, ◌∙◌, ap}
 use Rattle.cxx_ast.specs.View.{checked_of}
-use Rattle.scope_rules.specs.World.{as_class}
-use Rattle.scope_rules.specs.Frame.{lvalue}
-use Rattle.scope_rules.specs.Running.{by_reference}
+use Rattle.meaning_forms.specs.World.{as_class}
+use Rattle.meaning_forms.specs.Frame.{lvalue}
+use Rattle.meaning_forms.specs.Running.{by_reference}
 use Rattle.scope_world.specs.Inward.{frame_of}
 use Rattle.scope_world.specs.Seen.{world_of}
 use Rattle.scope_meaning.proofs.arguments.passed_object.Goals as goal

@@ -1,8 +1,8 @@
 use Rattle.std.proofs.Common.{◌≡◌, [], sym, subst, map}
 use Rattle.std.specs.Prelude.{option_map}
 use Rattle.cxx_ast.specs.View.{checked_of}
-use Rattle.scope_rules.specs.Outcome.{done}
-use Rattle.scope_rules.specs.Frame.{with_arguments}
+use Rattle.meaning_forms.specs.Outcome.{done}
+use Rattle.meaning_forms.specs.Frame.{with_arguments}
 use Rattle.scope_world.specs.Gives.{flow_of}
 use Rattle.scope_world.specs.Inward.{argument_of, context_of, first_frame}
 use Rattle.scope_world.specs.Objects.{reference_of}

@@ -4,9 +4,9 @@ use Rattle.std.proofs.lemmas.Int.{to_z-of_z}
 use Rattle.std.proofs.Common.{◌≡◌, rules, map}
 use Rattle.cxx_ast.specs.View.{checked_of, expression_of, expressions_of}
 use Rattle.run_items.specs.declared.item.Item.TheVariants.{Line}
-use Rattle.scope_rules.specs.Arithmetic.{binary_value, decided, unary_value}
-use Rattle.scope_rules.specs.Expression.{arguments, value_at, value_of}
-use Rattle.scope_rules.specs.Outcome.{emit, done}
+use Rattle.meaning_forms.specs.Arithmetic.{binary_value, decided, unary_value}
+use Rattle.meaning_forms.specs.Expression.{arguments, value_at, value_of}
+use Rattle.meaning_forms.specs.Outcome.{emit, done}
 use Rattle.scope_world.specs.Gives.{Gives}
 use Rattle.scope_world.specs.Inward.{argument_of, context_of, frame_of}
 use Rattle.scope_world.specs.Objects.{reference_of}

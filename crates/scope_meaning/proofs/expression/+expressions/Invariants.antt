@@ -1,7 +1,7 @@
 use Rattle.std.proofs.Common.{◌≡◌, ◌+◌, ◌*◌, ◌++◌, length, map}
 use Rattle.cxx_ast.specs.View.{checked_of, expressions_of}
-use Rattle.scope_rules.specs.Outcome.{continued, pure}
-use Rattle.scope_rules.specs.Expression.{arguments}
+use Rattle.meaning_forms.specs.Outcome.{continued, pure}
+use Rattle.meaning_forms.specs.Expression.{arguments}
 use Rattle.scope_world.specs.Inward.{argument_of, context_of, frame_of}
 use Rattle.scope_world.specs.Seen.{world_of}
 use Rattle.scope_flow.specs.Always.{always}

@@ -1,5 +1,5 @@
 use Rattle.std.proofs.Common.{◌≡◌, subst, IfOk}
-use Rattle.scope_rules.specs.Frame.{bound_as}
+use Rattle.meaning_forms.specs.Frame.{bound_as}
 use Rattle.scope_world.specs.Objects.{reference_of}
 use Rattle.scope_world.specs.Seen.{world_of}
 use Rattle.scope_meaning.proofs.lookup.bound_to.Goals as goal

@@ -3,7 +3,7 @@ use mir.Val.{SFits}
 use Rattle.std.proofs.lemmas.Int.{to_z-of_z}
 use Rattle.std.proofs.Common.{◌≡◌, rules}
 use Rattle.cxx_ast.specs.View.{checked_of}
-use Rattle.scope_rules.specs.World.{written}
+use Rattle.meaning_forms.specs.World.{written}
 use Rattle.scope_world.specs.Inward.{context_of}
 use Rattle.scope_world.specs.Objects.{reference_of}
 use Rattle.scope_world.specs.Seen.{world_of}

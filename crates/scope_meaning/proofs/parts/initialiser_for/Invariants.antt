@@ -1,6 +1,6 @@
 use Rattle.std.proofs.Common.{◌≡◌, length, map}
 use Rattle.cxx_ast.specs.View.{checked_of, initialiser_of}
-use Rattle.scope_rules.specs.Call.{initialiser_for}
+use Rattle.meaning_forms.specs.Call.{initialiser_for}
 use Rattle.scope_meaning.proofs.parts.initialiser_for.Given as goal
 
 abbrev pub invariant-inits : goal.invariant-inits

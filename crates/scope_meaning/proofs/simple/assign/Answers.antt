@@ -2,7 +2,7 @@ use mir.Syntax.{w32}
 use mir.Val.{SFits}
 use Rattle.std.proofs.lemmas.Int.{to_z-of_z}
 use Rattle.std.proofs.Common.{◌≡◌, subst, rules}
-use Rattle.scope_rules.specs.World.{written}
+use Rattle.meaning_forms.specs.World.{written}
 use Rattle.scope_world.specs.Objects.{reference_of}
 use Rattle.scope_meaning.proofs.Declared.{assigned_so}
 use Rattle.cxx_ast.specs.View.{checked_of, expression_of, expressions_of}

@@ -1,7 +1,7 @@
 use Rattle.std.proofs.Common.{◌≡◌, sym, subst}
 use Rattle.cxx_ast.specs.View.{checked_of, expression_of, option_of}
-use Rattle.scope_rules.specs.Outcome.{done}
-use Rattle.scope_rules.specs.Statement.{local_cell}
+use Rattle.meaning_forms.specs.Outcome.{done}
+use Rattle.meaning_forms.specs.Statement.{local_cell}
 use Rattle.scope_world.specs.Inward.{context_of, frame_of}
 use Rattle.scope_world.specs.Seen.{world_of}
 use Rattle.scope_flow.specs.Always.{always}

@@ -2,9 +2,9 @@ use mir.Syntax.{w32}
 use mir.Val.{SFits}
 use Rattle.std.proofs.lemmas.Int.{to_z-of_z}
 use Rattle.std.proofs.Common.{◌≡◌, Some, Ok, subst, rules}
-use Rattle.scope_rules.specs.Part.{cell}
-use Rattle.scope_rules.specs.Outcome.{done, new_object}
-use Rattle.scope_rules.specs.Expression.{value_of}
+use Rattle.meaning_forms.specs.Part.{cell}
+use Rattle.meaning_forms.specs.Outcome.{done, new_object}
+use Rattle.meaning_forms.specs.Expression.{value_of}
 use Rattle.scope_flow.proofs.Passing.{gives_next}
 use Rattle.cxx_ast.specs.View.{checked_of, expression_of, expressions_of}
 use Rattle.scope_world.specs.Inward.{context_of, frame_of}

@@ -1,5 +1,5 @@
 use Rattle.std.proofs.Common.{◌≡◌}
-use Rattle.scope_rules.specs.Expression.{lvalue_of}
+use Rattle.meaning_forms.specs.Expression.{lvalue_of}
 use Rattle.scope_world.specs.Objects.{reference_of}
 use Rattle.scope_meaning.proofs.Thrown.{thrown_int, thrown_copy}
 use Rattle.cxx_ast.specs.View.{checked_of, expression_of, expressions_of}

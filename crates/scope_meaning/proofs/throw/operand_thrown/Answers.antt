@@ -1,7 +1,7 @@
 use Rattle.std.proofs.Common.{◌≡◌, rules}
 use Rattle.cxx_ast.specs.Plain.{call, std_call}
 use Rattle.cxx_ast.specs.View.{checked_of, expression_of, expressions_of}
-use Rattle.scope_rules.specs.Expression.{callee_bound}
+use Rattle.meaning_forms.specs.Expression.{callee_bound}
 use Rattle.scope_world.specs.Inward.{context_of, frame_of}
 use Rattle.scope_world.specs.Seen.{world_of}
 use Rattle.scope_flow.specs.Always.{always}

@@ -1,6 +1,6 @@
 use Rattle.std.proofs.Common.{◌≡◌, ◌++◌, map, take}
 use Rattle.cxx_ast.specs.View.{checked_of}
-use Rattle.scope_rules.specs.Class.{base_part, class_at, member_part}
+use Rattle.meaning_forms.specs.Class.{base_part, class_at, member_part}
 use Rattle.scope_world.specs.Objects.{type_of}
 use Rattle.scope_world.proofs.class.parts_of.Given as goal
 

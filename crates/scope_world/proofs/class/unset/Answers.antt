@@ -1,7 +1,7 @@
 use Rattle.std.proofs.Common.{◌≡◌, suc, arith, IfOk, length, map, subst}
 use Rattle.std.proofs.lemmas.List.{length-map}
 use Rattle.cxx_ast.specs.View.{checked_of, class_of}
-use Rattle.scope_rules.specs.Part.{unset_within}
+use Rattle.meaning_forms.specs.Part.{unset_within}
 use Rattle.scope_world.specs.Objects.{part_of, type_of}
 use Rattle.scope_world.proofs.class.unset.Goals as goal
 

@@ -1,9 +1,9 @@
 use Rattle.std.proofs.Common.{◌≡◌, ◌∙◌, sym, ap, arith, Some, FitsSigned, w32}
 use Rattle.std.proofs.lemmas.Int.{ints, to_z-of_z}
-use Rattle.scope_rules.specs.Part.{cell}
-use Rattle.scope_rules.specs.World.{whole}
-use Rattle.scope_rules.specs.Frame.{with_parameter}
-use Rattle.scope_rules.specs.Outcome.{done, continued, new_object, pure}
+use Rattle.meaning_forms.specs.Part.{cell}
+use Rattle.meaning_forms.specs.World.{whole}
+use Rattle.meaning_forms.specs.Frame.{with_parameter}
+use Rattle.meaning_forms.specs.Outcome.{done, continued, new_object, pure}
 use Rattle.scope_world.specs.Seen.{world_of}
 use Rattle.scope_world.proofs.frame.bind.Goals as goal
 

@@ -1,5 +1,5 @@
 use Rattle.std.proofs.Common.{◌≡◌, IfOk, subst}
-use Rattle.scope_rules.specs.World.{as_class}
+use Rattle.meaning_forms.specs.World.{as_class}
 use Rattle.scope_world.specs.Objects.{reference_of}
 use Rattle.scope_world.specs.Seen.{world_of}
 use Rattle.scope_world.proofs.frame.bound_as.Goals as goal

@@ -1,6 +1,6 @@
 use Rattle.std.proofs.Common.{◌≡◌, ℕ, length}
 use Rattle.cxx_ast.specs.View.{checked_of}
-use Rattle.scope_rules.specs.Frame.{members_named}
+use Rattle.meaning_forms.specs.Frame.{members_named}
 use Rattle.scope_world.specs.Objects.{reference_of}
 use Rattle.scope_world.specs.Seen.{world_of}
 use Rattle.scope_world.proofs.frame.lvalue.Given as goal

@@ -1,6 +1,6 @@
 use Rattle.std.proofs.Common.{◌≡◌, IfOk, subst}
 use Rattle.cxx_ast.specs.View.{checked_of}
-use Rattle.scope_rules.specs.World.{member}
+use Rattle.meaning_forms.specs.World.{member}
 use Rattle.scope_world.specs.Objects.{reference_of}
 use Rattle.scope_world.specs.Seen.{world_of}
 use Rattle.scope_world.proofs.frame.named.Goals as goal

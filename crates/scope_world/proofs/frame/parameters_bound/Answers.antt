@@ -1,5 +1,5 @@
 use Rattle.std.proofs.Common.{◌∙◌, sym, ap, map}
-use Rattle.scope_rules.specs.Frame.{with_arguments}
+use Rattle.meaning_forms.specs.Frame.{with_arguments}
 use Rattle.scope_world.specs.Inward.{argument_of, first_frame}
 use Rattle.scope_world.specs.Seen.{world_of}
 use Rattle.scope_world.proofs.frame.parameters_bound.Goals as goal

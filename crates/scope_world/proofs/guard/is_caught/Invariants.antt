@@ -1,7 +1,7 @@
 use Rattle.std.proofs.Common.{◌≡◌, length, map}
 use Rattle.cxx_ast.specs.View.{checked_of, option_of}
-use Rattle.scope_rules.specs.Class.{some_of}
-use Rattle.scope_rules.specs.Guard.{matches}
+use Rattle.meaning_forms.specs.Class.{some_of}
+use Rattle.meaning_forms.specs.Guard.{matches}
 use Rattle.scope_world.specs.Inward.{clause_in}
 use Rattle.scope_world.specs.Objects.{type_of}
 use Rattle.scope_world.proofs.guard.is_caught.Given as goal

@@ -1,6 +1,6 @@
 use Rattle.std.proofs.Common.{◌≡◌, length, map}
 use Rattle.cxx_ast.specs.View.{checked_of}
-use Rattle.scope_rules.specs.Class.{derives, object_type, some_of}
+use Rattle.meaning_forms.specs.Class.{derives, object_type, some_of}
 use Rattle.scope_world.specs.Objects.{type_of}
 use Rattle.scope_world.proofs.guard.is_listed.Given as goal
 

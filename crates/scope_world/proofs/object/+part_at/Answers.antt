@@ -1,5 +1,5 @@
 use Rattle.std.proofs.Common.{◌≡◌, ◌∷◌, rules, refl, None}
-use Rattle.scope_rules.specs.Part.{cell, subparts, nth_part}
+use Rattle.meaning_forms.specs.Part.{cell, subparts, nth_part}
 use Rattle.scope_world.specs.Objects.{part_of}
 use Rattle.scope_world.proofs.Parted.{past_end}
 use Rattle.scope_world.proofs.object.+part_at.Goals as goal

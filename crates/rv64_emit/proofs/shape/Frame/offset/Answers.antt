@@ -1,7 +1,7 @@
 use Rattle.std.proofs.Common.{◌∙◌, ap, get_or, map, arith}
 use Rattle.std.specs.Option.{unwrap_or}
 use Rattle.region_ir.specs.View.{slot_of}
-use Rattle.emission_forms.specs.Shape.{slot_offset}
+use Rattle.machine_forms.specs.Shape.{slot_offset}
 use Rattle.rv64_emit.proofs.Offset.{offset_of}
 use Rattle.rv64_emit.proofs.shape.Frame.offset.Goals as goal
 

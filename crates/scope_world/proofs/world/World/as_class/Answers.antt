@@ -1,6 +1,6 @@
 use Rattle.std.proofs.Common.{◌∙◌, ◌++◌, sym, ap}
 use Rattle.std.proofs.lemmas.List.{append-nil}
-use Rattle.scope_rules.specs.Part.{path_to_class}
+use Rattle.meaning_forms.specs.Part.{path_to_class}
 use Rattle.scope_world.specs.Objects.{part_of}
 use Rattle.scope_world.proofs.world.World.as_class.Goals as goal
 

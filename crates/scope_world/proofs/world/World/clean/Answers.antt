@@ -1,6 +1,6 @@
 use Rattle.std.proofs.Common.{◌∙◌, sym, ap}
-use Rattle.scope_rules.specs.World.{without_exception}
-use Rattle.scope_rules.specs.Outcome.{done, continued, change}
+use Rattle.meaning_forms.specs.World.{without_exception}
+use Rattle.meaning_forms.specs.Outcome.{done, continued, change}
 use Rattle.scope_world.proofs.world.World.clean.Goals as goal
 
 pub returns : goal.returns

@@ -1,5 +1,5 @@
 use Rattle.std.proofs.Common.{◌≡◌, ◌∙◌, ap, map, rules}
-use Rattle.scope_rules.specs.World.{native, replaced}
+use Rattle.meaning_forms.specs.World.{native, replaced}
 use Rattle.scope_world.specs.declared.exception.Exception.TheVariants.{Native}
 use Rattle.scope_world.specs.Seen.{installed_of, live_of, with_live, world_of}
 use Rattle.scope_world.proofs.Listed.{all_replaced}

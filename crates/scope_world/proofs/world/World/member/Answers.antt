@@ -1,5 +1,5 @@
 use Rattle.std.proofs.Common.{◌∙◌, ap}
-use Rattle.scope_rules.specs.World.{part, as_class}
+use Rattle.meaning_forms.specs.World.{part, as_class}
 use Rattle.scope_world.specs.Objects.{reference_of}
 use Rattle.scope_world.specs.Seen.{world_of}
 use Rattle.scope_world.proofs.world.World.member.Goals as goal

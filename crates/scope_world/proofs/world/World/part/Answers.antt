@@ -1,6 +1,6 @@
 use Rattle.std.proofs.Common.{◌≡◌, ◌∙◌, sym, ap, None}
-use Rattle.scope_rules.specs.Part.{cell, part_at}
-use Rattle.scope_rules.specs.World.{object_at}
+use Rattle.meaning_forms.specs.Part.{cell, part_at}
+use Rattle.meaning_forms.specs.World.{object_at}
 use Rattle.scope_world.specs.Objects.{part_of}
 use Rattle.scope_world.specs.Seen.{world_of}
 use Rattle.scope_world.proofs.Parted.{unset_stays}

@@ -1,7 +1,7 @@
 use Rattle.std.proofs.Common.{rules, ◌≡◌, ◌∙◌, ◌+◌, map, ap, arith}
 use Rattle.std.proofs.lemmas.List.{map-append}
 use Rattle.run_items.specs.declared.item.Item.TheVariants as items
-use Rattle.scope_rules.specs.World.{foreign}
+use Rattle.meaning_forms.specs.World.{foreign}
 use Rattle.scope_world.specs.Seen.{live_of, world_of}
 use Rattle.scope_world.proofs.Emitted.{made_world}
 use Rattle.scope_world.proofs.world.World.raise.Goals as goal

@@ -1,5 +1,5 @@
 use Rattle.std.proofs.Common.{subst, ap, sym}
-use Rattle.scope_rules.specs.Outcome.{read_part}
+use Rattle.meaning_forms.specs.Outcome.{read_part}
 use Rattle.scope_world.specs.Gives.{Gives}
 use Rattle.scope_world.specs.Seen.{world_of}
 use Rattle.scope_world.proofs.world.World.read.Goals as goal

@@ -1,6 +1,6 @@
 use Rattle.std.proofs.Common.{◌∙◌, refl, sym, ap}
 use Rattle.std.specs.Prelude.{slice_get}
-use Rattle.scope_rules.specs.Throw.{answered}
+use Rattle.meaning_forms.specs.Throw.{answered}
 use Rattle.scope_world.specs.Outside.{rests_after}
 use Rattle.scope_world.specs.Seen.{world_of}
 use Rattle.scope_world.proofs.Replied.{taken}

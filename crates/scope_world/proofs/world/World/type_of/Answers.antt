@@ -1,5 +1,5 @@
 use Rattle.std.proofs.Common.{◌∙◌, ap}
-use Rattle.scope_rules.specs.Part.{part_type}
+use Rattle.meaning_forms.specs.Part.{part_type}
 use Rattle.scope_world.proofs.world.World.type_of.Goals as goal
 
 pub returns-in-Some : goal.returns-in-Some

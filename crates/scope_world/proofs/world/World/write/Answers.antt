@@ -1,8 +1,8 @@
 use Rattle.std.proofs.Common.{◌≡◌, ◌∙◌, ◌<◌, ap, rules, Some, set, get_or, length, arith, FitsSigned, w32}
 use Rattle.std.proofs.lemmas.Int.{ints, to_z-of_z}
 use Rattle.std.proofs.lemmas.List.{map-set}
-use Rattle.scope_rules.specs.Part.{cell, with_part_at}
-use Rattle.scope_rules.specs.World.{object_at}
+use Rattle.meaning_forms.specs.Part.{cell, with_part_at}
+use Rattle.meaning_forms.specs.World.{object_at}
 use Rattle.scope_world.specs.Objects.{part_of}
 use Rattle.scope_world.specs.Seen.{world_of}
 use Rattle.scope_world.proofs.Listed.{object_within}

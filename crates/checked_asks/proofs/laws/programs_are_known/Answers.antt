@@ -1,5 +1,0 @@
-use Rattle.checked_asks.proofs.Programs.{programs_are_known}
-use Rattle.checked_asks.proofs.laws.programs_are_known.Goals as goal
-
-pub returns : goal.returns
-returns c = programs_are_known

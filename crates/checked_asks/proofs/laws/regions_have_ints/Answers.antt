@@ -1,5 +1,0 @@
-use Rattle.checked_asks.proofs.Programs.{regions_have_ints}
-use Rattle.checked_asks.proofs.laws.regions_have_ints.Goals as goal
-
-pub returns : goal.returns
-returns c = regions_have_ints

@@ -1,0 +1,17 @@
+pub mod UnitsAsked
+pub mod Lists
+pub mod Chains
+pub mod TablesAsked
+pub mod Spelled
+pub mod Expressions
+pub mod Statements
+pub mod Frames
+pub mod Programs
+pub mod Behind
+pub mod Globals
+pub mod Words
+pub mod Bytes
+pub mod Memory
+pub mod Values
+pub mod Jump
+pub mod Beginning

@@ -1,0 +1,5 @@
+pub mod Units
+pub mod Tables
+pub mod Literals
+pub mod Operations
+pub mod Images

@@ -1,3 +1,0 @@
-pub mod Static
-pub mod Ints
-pub mod Laws

@@ -1,0 +1,5 @@
+use Rattle.compiler_trials.proofs.Fitting.{fitting}
+use Rattle.compiler_trials.proofs.lowered.lowered.Goals as goal
+
+pub layout-requires : goal.layout-requires
+layout-requires c = fitting c.as_bytes.result.now c.in-Ok.program c.in-Ok.ensures

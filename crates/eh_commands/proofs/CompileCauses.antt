@@ -1,0 +1,113 @@
+-- From what the parts of `compile` say to the cause of a status.
+use Rattle.std.proofs.Common.{◌≡◌, ◌≤◌, ◌∙◌, ℕ, List, length, Option, Some, IfSome, Ok, Err, refl, ap, subst}
+use Rattle.std.specs.FinMap.{get, insert}
+use Rattle.cxx_ast.specs.declared.program.Checked.{Checked as CheckedValue}
+use Rattle.cxx_ast.specs.Checked.{IsChecked}
+use Rattle.cxx_ast.specs.View.{checked_of}
+use Rattle.cxx_front.specs.Fate.{HasOnly, refused}
+use Rattle.cxx_front.specs.Answer.{Answers as FrontAnswers}
+use Rattle.cxx_front.specs.declared.error.SourceError.{SourceError}
+use Rattle.cxx_front.specs.declared.error.SourceError.TheVariants as errors
+use Rattle.cxx_image.specs.Image.{image_for}
+use Rattle.eh_outer.specs.Store.{Files, StoreView}
+use Rattle.eh_commands.specs.declared.status.Status.{Status}
+use Rattle.eh_commands.specs.declared.status.Status.TheVariants.{Done, Usage, SourceRefused, ImageRefused, ReadFault, TooLong, WriteFault, NoMemory, Aborted, Budget, Stack, MachineFault, Undefined}
+use Rattle.eh_commands.specs.Answer.{status_of_refusal}
+use Rattle.eh_commands.specs.File.{NamesRefusal, Unread, source_limit}
+use Rattle.eh_commands.specs.Mean.{Asked}
+use Rattle.eh_commands.specs.Compile.{CompilesTo, ImageStored, SourceCompiles, CompileCause}
+use Rattle.eh_commands.proofs.Causes.{told_from}
+use Rattle.eh_commands.proofs.MeanCauses.{refused_since}
+
+-- what the front end answers for a source is checked
+pub is_checked : (source : List ℕ) (c : CheckedValue) → FrontAnswers source (Ok c) → IsChecked (checked_of c)
+is_checked source c a =
+    let program = a.1.is.0 in
+    record {
+      source = source;
+      tokens = program.tokens;
+      program = a.0;
+      lexed = program.lexed;
+      tree = program.tree;
+      valid = a.1.is.1;
+      resolved = a.2;
+    }
+
+-- what the front end answers decides what becomes of the source
+pub refused_compiles : (name source : List ℕ) (old : StoreView) (e : SourceError) → FrontAnswers source (Err e) → SourceCompiles name source old old (status_of_refusal e)
+refused_compiles name source old (errors.Refused number place) h = (h, refl)
+refused_compiles name source old errors.NoMemory h = refl
+
+module _ (name source : List ℕ) (c : CheckedValue) (a : FrontAnswers source (Ok c)) where
+  compiles : CompilesTo (image_for (checked_of c)) source
+  compiles = (a.0, a.1, ap image_for a.2)
+
+  pub stored_compiles : (old new : StoreView) (status : Status) → ImageStored name (image_for (checked_of c)) old new status → SourceCompiles name source old new status
+  stored_compiles old new Done h = (image_for (checked_of c), compiles, h)
+  stored_compiles old new Usage h = absurd h
+  stored_compiles old new (SourceRefused number place) h = absurd h
+  stored_compiles old new (ImageRefused number place location other) h = absurd h
+  stored_compiles old new ReadFault h = absurd h
+  stored_compiles old new TooLong h = absurd h
+  stored_compiles old new WriteFault (why, kept) = (image_for (checked_of c), compiles, why, kept)
+  stored_compiles old new NoMemory h = h
+  stored_compiles old new Aborted h = absurd h
+  stored_compiles old new Budget h = absurd h
+  stored_compiles old new Stack h = absurd h
+  stored_compiles old new (MachineFault kind place) h = absurd h
+  stored_compiles old new Undefined h = absurd h
+
+-- a source that was read names no file
+pub source_compiles_named : (name source file : List ℕ) (old new store : StoreView) (status : Status) → SourceCompiles name source old new status → NamesRefusal status file store
+source_compiles_named name source file old new store Done h = tt
+source_compiles_named name source file old new store Usage h = tt
+source_compiles_named name source file old new store (SourceRefused number place) h = tt
+source_compiles_named name source file old new store (ImageRefused number place location other) h = tt
+source_compiles_named name source file old new store ReadFault h = absurd h
+source_compiles_named name source file old new store TooLong h = absurd h
+source_compiles_named name source file old new store WriteFault h = tt
+source_compiles_named name source file old new store NoMemory h = tt
+source_compiles_named name source file old new store Aborted h = tt
+source_compiles_named name source file old new store Budget h = tt
+source_compiles_named name source file old new store Stack h = tt
+source_compiles_named name source file old new store (MachineFault kind place) h = tt
+source_compiles_named name source file old new store Undefined h = tt
+
+pub unread_compiles : (a : Asked) (old new : StoreView) (status : Status) → Unread source_limit a.source old new status → new.files ≡ old.files → CompileCause a old new status
+unread_compiles a old new Done why same = absurd why
+unread_compiles a old new Usage why same = absurd why
+unread_compiles a old new (SourceRefused number place) why same = absurd why
+unread_compiles a old new (ImageRefused number place location other) why same = absurd why
+unread_compiles a old new ReadFault why same = (why, same)
+unread_compiles a old new TooLong why same = (why, same)
+unread_compiles a old new WriteFault why same = absurd why
+unread_compiles a old new NoMemory why same = same
+unread_compiles a old new Aborted why same = absurd why
+unread_compiles a old new Budget why same = absurd why
+unread_compiles a old new Stack why same = absurd why
+unread_compiles a old new (MachineFault kind place) why same = absurd why
+unread_compiles a old new Undefined why same = absurd why
+
+-- the store between reading and writing tells the files of before
+stored_since : (name bytes : List ℕ) (before mid after : Option Files) → mid ≡ before → IfSome mid (λ files. after ≡ Some (insert files name bytes)) →
+    IfSome before (λ files. after ≡ Some (insert files name bytes))
+stored_since name bytes before mid after same h = subst (λ f. IfSome f (λ files. after ≡ Some (insert files name bytes))) same h
+
+module _ (a : Asked) (source : List ℕ) (old mid new : StoreView) (short : length source ≤ source_limit) (there : IfSome old.files (λ m. get m a.source ≡ Some source)) (later : old.faults ≤ mid.faults) (same : mid.files ≡ old.files) where
+  told : (P : List ℕ → Type 0) → P source → IfSome old.files (λ m. (s : List ℕ) × (get m a.source ≡ Some s) × (length s ≤ source_limit) × P s)
+  told P holds = told_from source_limit old.files a.source source P short there holds
+
+  pub source_compiled : (status : Status) → SourceCompiles a.image source mid new status → CompileCause a old new status
+  source_compiled Done (bytes, is, stores) = (bytes, told (CompilesTo bytes) is, stored_since a.image bytes old.files mid.files new.files same stores)
+  source_compiled Usage h = absurd h
+  source_compiled (SourceRefused number place) (is, kept) = (told (λ s. HasOnly s (refused number place)) is, kept ∙ same)
+  source_compiled (ImageRefused number place location other) h = absurd h
+  source_compiled ReadFault h = absurd h
+  source_compiled TooLong h = absurd h
+  source_compiled WriteFault (bytes, is, why, kept) = (bytes, told (CompilesTo bytes) is, refused_since _ a.image old mid new later why, kept ∙ same)
+  source_compiled NoMemory kept = kept ∙ same
+  source_compiled Aborted h = absurd h
+  source_compiled Budget h = absurd h
+  source_compiled Stack h = absurd h
+  source_compiled (MachineFault kind place) h = absurd h
+  source_compiled Undefined h = absurd h

@@ -1,0 +1,15 @@
+pub mod Words
+pub mod FirstLine
+pub mod Hexadecimal
+pub mod Causes
+pub mod ImageCauses
+pub mod Reports
+pub mod Meanings
+pub mod MeanCauses
+pub mod Named
+pub mod Sources
+pub mod Bounded
+pub mod RunLines
+pub mod ExecCauses
+pub mod CompileCauses
+pub mod RunCauses

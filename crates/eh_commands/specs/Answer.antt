@@ -1,0 +1,58 @@
+-- When each status comes, and what it leaves.
+use Rattle.std.specs.Prelude.{◌≡◌, ◌⊎◌, ⊤, ℕ, List, Option, Some, None}
+use Rattle.eh_outer.specs.Store.{StoreView, Rose}
+use Rattle.eh_outer.specs.Sink.{SinkView, Gains}
+use Rattle.eh_commands.specs.declared.status.Status.{Status}
+use Rattle.eh_commands.specs.declared.status.Status.TheVariants.{Done, Usage, SourceRefused, NoMemory}
+use Rattle.command_line.specs.declared.command.Verb.{Verb}
+use Rattle.command_line.specs.declared.command.Verb.TheVariants.{Compile, Run, Exec, Mean, Check, Dump}
+use Rattle.command_line.specs.declared.error.WordsError.{WordsError}
+use Rattle.command_line.specs.declared.error.WordsError.TheVariants as words
+use Rattle.command_line.specs.Command.{CommandView}
+use Rattle.eh_outer.specs.Module.{ModuleView}
+use Rattle.eh_commands.specs.Words.{asked}
+use Rattle.eh_commands.specs.Mean.{Asked, MeanCause}
+use Rattle.eh_commands.specs.Exec.{ExecCause}
+use Rattle.eh_commands.specs.Compile.{CompileCause}
+use Rattle.eh_commands.specs.RunSource.{RunCause}
+use Rattle.cxx_front.specs.declared.error.SourceError.{SourceError}
+use Rattle.cxx_front.specs.declared.error.SourceError.TheVariants as errors
+use Rattle.eh_commands.specs.Image.{ImageCause, check_lines, dump_lines}
+
+-- the status of a source that the front end refuses
+abbrev pub status_of_refusal : SourceError → Status
+status_of_refusal (errors.Refused number place) = SourceRefused number place
+status_of_refusal errors.NoMemory = NoMemory
+
+-- when each command gives each status
+abbrev pub CommandCause : Verb → Asked → StoreView → StoreView → SinkView → SinkView → Status → Type 0
+CommandCause Compile a old new out out' status = CompileCause a old new status × (out' ≡ out)
+CommandCause Run a old new out out' status = RunCause a old new out out' status
+CommandCause Exec a old new out out' status = ExecCause a old new out out' status
+CommandCause Mean a old new out out' status = MeanCause a old new out out' status
+CommandCause Check a old new out out' status = ImageCause check_lines a.source old new out out' status
+CommandCause Dump a old new out out' status = ImageCause dump_lines a.source old new out out' status
+
+-- the told files that a command leaves with a status
+abbrev pub KeptBy : Verb → Status → StoreView → StoreView → Type 0
+KeptBy Compile Done old new = ⊤
+KeptBy verb status old new = new.files ≡ old.files
+
+-- the status of words that are read as no command
+abbrev pub status_of_words : WordsError → Status
+status_of_words words.Usage = Usage
+status_of_words words.NoMemory = NoMemory
+
+-- when any words give each status: Usage where they are no command, and nowhere else
+abbrev pub Cause : List ModuleView → Option CommandView → StoreView → StoreView → SinkView → SinkView → Status → Type 0
+Cause modules None old new out out' status = ((status ≡ Usage) ⊎ (status ≡ NoMemory)) × (new ≡ old) × (out' ≡ out)
+Cause modules (Some command) old new out out' status = CommandCause command.verb (asked modules command) old new out out' status
+
+-- no told file changes, but for the image that `compile` stores
+abbrev pub KeepsFiles : Option CommandView → StoreView → StoreView → Status → Type 0
+KeepsFiles None old new status = new.files ≡ old.files
+KeepsFiles (Some command) old new status = KeptBy command.verb status old new
+
+-- a told sink gained exactly the text, or the sink's count of faults rose
+abbrev pub Reports : List ℕ → SinkView → SinkView → Type 0
+Reports text old new = Rose old.faults new.faults ⊎ Gains text old new

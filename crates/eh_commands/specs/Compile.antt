@@ -1,0 +1,42 @@
+-- When `compile FILE IMAGE` gives each status, and what it stores.
+use Rattle.std.specs.Prelude.{◌≡◌, ℕ, List}
+use Rattle.cxx_ast.specs.Plain.{Program}
+use Rattle.cxx_ast.specs.Checked.{checked}
+use Rattle.cxx_front.specs.Fate.{HasOnly, refused, valid}
+use Rattle.cxx_image.specs.Image.{image_for}
+use Rattle.eh_outer.specs.Store.{StoreView, Refuses, Stores}
+use Rattle.eh_outer.specs.declared.store.RefusalKind.TheVariants.{FailedWrite}
+use Rattle.eh_commands.specs.declared.status.Status.{Status}
+use Rattle.eh_commands.specs.declared.status.Status.TheVariants.{Done, SourceRefused, ReadFault, TooLong, WriteFault, NoMemory}
+use Rattle.eh_commands.specs.File.{Told, Unread, source_limit}
+use Rattle.eh_commands.specs.Mean.{Asked}
+
+-- the source is a valid program, whose image these bytes are
+abbrev pub CompilesTo : List ℕ → List ℕ → Type 0
+CompilesTo bytes source = (p : Program) × HasOnly source (valid p) × (bytes ≡ image_for (checked p))
+
+-- how the storing of an image ends
+abbrev pub ImageStored : List ℕ → List ℕ → StoreView → StoreView → Status → Type 0
+ImageStored name bytes old new Done = Stores name bytes old new
+ImageStored name bytes old new WriteFault = Refuses old new FailedWrite name × (new.files ≡ old.files)
+ImageStored name bytes old new NoMemory = new.files ≡ old.files
+ImageStored name bytes old new status = ⊥
+
+-- what becomes of a source that was read
+abbrev pub SourceCompiles : List ℕ → List ℕ → StoreView → StoreView → Status → Type 0
+SourceCompiles name source old new Done = (bytes : List ℕ) × CompilesTo bytes source × Stores name bytes old new
+SourceCompiles name source old new (SourceRefused number place) = HasOnly source (refused number place) × (new.files ≡ old.files)
+SourceCompiles name source old new WriteFault = (bytes : List ℕ) × CompilesTo bytes source × Refuses old new FailedWrite name × (new.files ≡ old.files)
+SourceCompiles name source old new NoMemory = new.files ≡ old.files
+SourceCompiles name source old new status = ⊥
+
+-- when `compile` gives each status, what it leaves of the store's refusals, and of its files
+abbrev pub CompileCause : Asked → StoreView → StoreView → Status → Type 0
+CompileCause a old new Done = (bytes : List ℕ) × Told source_limit old a.source (CompilesTo bytes) × Stores a.image bytes old new
+CompileCause a old new (SourceRefused number place) = Told source_limit old a.source (λ source. HasOnly source (refused number place)) × (new.files ≡ old.files)
+CompileCause a old new ReadFault = Unread source_limit a.source old new ReadFault × (new.files ≡ old.files)
+CompileCause a old new TooLong = Unread source_limit a.source old new TooLong × (new.files ≡ old.files)
+CompileCause a old new WriteFault =
+    (bytes : List ℕ) × Told source_limit old a.source (CompilesTo bytes) × Refuses old new FailedWrite a.image × (new.files ≡ old.files)
+CompileCause a old new NoMemory = new.files ≡ old.files
+CompileCause a old new status = ⊥

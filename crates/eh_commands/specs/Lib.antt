@@ -1,0 +1,14 @@
+pub mod Output
+pub mod Status
+pub mod Lines
+pub mod File
+pub mod Image
+pub mod Mean
+pub mod RunEnd
+pub mod Exec
+pub mod Compile
+pub mod RunSource
+pub mod Question
+pub mod Words
+pub mod Answer
+pub mod Report

@@ -1,0 +1,17 @@
+-- What is asked of a file.
+use Rattle.std.specs.Prelude.{List, option_map}
+use Rattle.eh_outer.specs.Module.{ModuleView}
+use Rattle.eh_commands.specs.declared.mean.Question.{Question}
+use Rattle.eh_commands.specs.Mean.{Asked}
+
+-- by a question, where the modules tell this of themselves
+abbrev pub asked_by : Question → List ModuleView → Asked
+asked_by q modules = record {
+  source = q.source.now;
+  image = q.image.now;
+  input = option_map (λ name. name.now) q.input;
+  turns = q.turns;
+  trace = q.trace;
+  count = q.count;
+  modules = modules;
+}

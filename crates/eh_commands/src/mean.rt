@@ -1,0 +1,189 @@
+// The command `mean`: what a source means.
+ghost use Rattle.std.specs.Prelude.{◌≡◌, ◌≤◌, length, map, option_map};
+ghost use Rattle.cxx_ast.specs.View.{checked_of};
+ghost use Rattle.eh_outer.specs.Sink.{Puts};
+ghost use Rattle.run_items.specs.Line.{lines_of};
+ghost use Rattle.run_items.specs.Output.{PutsAll};
+ghost use Rattle.meaning_forms.specs.Meaning.{Meaning as MeaningMeant};
+ghost use Rattle.scope_meaning.specs.Mean.{Tells, meant};
+ghost use Rattle.eh_commands.specs.File.{NamesRefusal, source_limit};
+ghost use Rattle.eh_commands.specs.Mean.{MeanCause, MeaningEnds, ReadsInput, SourceMeans, WithInput, end_line, mean_lines, status_of_end};
+ghost use Rattle.eh_commands.specs.Question.{asked_by};
+
+use crate::file::{Ended, SOURCE_LIMIT, read};
+use crate::line::put_int;
+use crate::status::Status;
+use cxx_ast::program::Checked;
+use cxx_front::checked;
+use eh_outer::{Module, Sink, SinkError, Store};
+use run_items::{Item, put_item};
+use scope_meaning::{MeanEnd, Meaning, mean};
+use std::alloc::Global;
+
+/// The longest input, in bytes.
+const INPUT_LIMIT: u64 = 0x10_0000;
+
+/// What is asked of a file: its name, that of the image to be stored, that of its input if it has one, the most turns or
+/// steps, whether events are printed, and whether steps are counted.
+#[derive(Clone, Copy, Debug)]
+pub struct Question<'a> {
+    pub source: &'a str,
+    pub image: &'a str,
+    pub input: Option<&'a str>,
+    pub turns: u64,
+    pub trace: bool,
+    pub count: bool,
+}
+
+// Puts the lines of items.
+fn put_items<Out: Sink>(out: &mut Out, trace: bool, items: &[Item]) -> Result<(), SinkError>
+    ensures { PutsAll (lines_of trace items.now) (Out.view out.old) (Out.view out.new) result }
+{
+    let mut rest = items;
+    while let Some((first, others)) = rest.split_first() {
+        put_item(out, trace, *first)?;
+        rest = others;
+    }
+    Ok(())
+}
+
+// Puts the line of an end.
+fn put_end<Out: Sink>(out: &mut Out, end: MeanEnd) -> Result<(), SinkError>
+    ensures { Puts (end_line end) (Out.view out.old) (Out.view out.new) result }
+{
+    match end {
+        MeanEnd::Exit(n) => put_int(out, "= exit ", n),
+        MeanEnd::Aborted => out.put(b"= aborted\n"),
+        MeanEnd::Undefined => out.put(b"= undefined\n"),
+        MeanEnd::OutOfTurns => out.put(b"= budget\n"),
+        MeanEnd::Deep => out.put(b"= stack\n"),
+    }
+}
+
+// Puts the lines of a meaning.
+#[tactic(auto, using(crate::proofs::Meanings::ended, crate::proofs::Meanings::cut_short))]
+fn put_meaning<Out: Sink>(out: &mut Out, trace: bool, meaning: &Meaning) -> Result<(), SinkError>
+    ensures { PutsAll (mean_lines trace meaning.now.items.items meaning.now.end) (Out.view out.old) (Out.view out.new) result }
+{
+    put_items(out, trace, meaning.items.as_slice())?;
+    put_end(out, meaning.end)
+}
+
+fn status_of_end(end: MeanEnd) -> Status
+    ensures { result ≡ status_of_end end }
+{
+    match end {
+        MeanEnd::Exit(_) => Status::Done,
+        MeanEnd::Aborted => Status::Aborted,
+        MeanEnd::Undefined => Status::Undefined,
+        MeanEnd::OutOfTurns => Status::Budget,
+        MeanEnd::Deep => Status::Stack,
+    }
+}
+
+// Prints a meaning.
+fn print<Out: Sink>(out: &mut Out, trace: bool, meaning: &Meaning) -> Status
+    ensures { (m : MeaningMeant) → Tells meaning.now m → MeaningEnds trace m (Out.view out.old) (Out.view out.new) result }
+{
+    match put_meaning(out, trace, meaning) {
+        Ok(()) => status_of_end(meaning.end),
+        Err(SinkError::Failed) => Status::WriteFault,
+    }
+}
+
+// Prints what a checked program means.
+fn mean_of_program<Out: Sink, M: Module>(
+    alloc: Global,
+    program: &Checked,
+    input: &[u8],
+    question: &Question<'_>,
+    modules: &mut Vec<M>,
+    out: &mut Out,
+) -> Status
+    ensures { MeaningEnds question.now.trace (meant (checked_of program.now) input.now (map M.view modules.old.items) question.now.turns) (Out.view out.old) (Out.view out.new) result }
+{
+    match mean(alloc, program, input, modules, question.turns) {
+        Err(_) => Status::NoMemory,
+        Ok(meaning) => print(out, question.trace, &meaning),
+    }
+}
+
+// Prints what a source means.
+fn mean_of_source<Out: Sink, M: Module>(
+    alloc: Global,
+    source: &[u8],
+    input: &[u8],
+    question: &Question<'_>,
+    modules: &mut Vec<M>,
+    out: &mut Out,
+) -> Status
+    requires { length source.now ≤ source_limit }
+    ensures { SourceMeans (asked_by question.now (map M.view modules.old.items)) source.now input.now (Out.view out.old) (Out.view out.new) result }
+{
+    match checked(alloc, source) {
+        Err(error) => error.into(),
+        Ok(program) => mean_of_program(alloc, &program, input, question, modules, out),
+    }
+}
+
+/// The input of a name; empty where none is named.
+pub fn read_input<St: Store>(
+    alloc: Global,
+    name: Option<&str>,
+    store: &mut St,
+) -> Result<Vec<u8>, Status>
+    ensures read { ReadsInput (option_map (λ s. s.now) name.entry) (St.view store.old) (St.view store.new) result }
+    ensures files { (St.view store.new).files ≡ (St.view store.old).files }
+{
+    match name {
+        None => Ok(Vec::new(alloc)),
+        Some(name) => read(alloc, name, INPUT_LIMIT, store),
+    }
+}
+
+// Prints what a source means with its input, which is read first.
+fn mean_with_input<'a, St: Store, Out: Sink, M: Module>(
+    alloc: Global,
+    source: &[u8],
+    question: Question<'a>,
+    store: &mut St,
+    out: &mut Out,
+    modules: &mut Vec<M>,
+) -> Ended<'a>
+    requires { length source.now ≤ source_limit }
+    ensures cause { WithInput (asked_by question.entry (map M.view modules.old.items)) source.now (St.view store.old) (St.view store.new) (Out.view out.old) (Out.view out.new) result.status }
+    ensures files { (St.view store.new).files ≡ (St.view store.old).files }
+    ensures name { NamesRefusal result.status result.file.now (St.view store.new) }
+{
+    match read_input(alloc, question.input, store) {
+        Err(status) => Ended {
+            status,
+            file: question.input.unwrap_or(""),
+        },
+        Ok(input) => Ended {
+            status: mean_of_source(alloc, source, input.as_slice(), &question, modules, out),
+            file: "",
+        },
+    }
+}
+
+/// Reads a source and its input, and prints what the source means.
+pub fn mean_file<'a, St: Store, Out: Sink, M: Module>(
+    alloc: Global,
+    question: Question<'a>,
+    store: &mut St,
+    out: &mut Out,
+    modules: &mut Vec<M>,
+) -> Ended<'a>
+    ensures cause { MeanCause (asked_by question.entry (map M.view modules.old.items)) (St.view store.old) (St.view store.new) (Out.view out.old) (Out.view out.new) result.status }
+    ensures files { (St.view store.new).files ≡ (St.view store.old).files }
+    ensures name { NamesRefusal result.status result.file.now (St.view store.new) }
+{
+    match read(alloc, question.source, SOURCE_LIMIT, store) {
+        Err(status) => Ended {
+            status,
+            file: question.source,
+        },
+        Ok(source) => mean_with_input(alloc, source.as_slice(), question, store, out, modules),
+    }
+}

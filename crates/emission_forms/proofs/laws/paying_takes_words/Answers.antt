@@ -1,5 +1,0 @@
-use Rattle.emission_forms.proofs.Paying.{paying_takes_words}
-use Rattle.emission_forms.proofs.laws.paying_takes_words.Goals as goal
-
-pub returns : goal.returns
-returns c = paying_takes_words

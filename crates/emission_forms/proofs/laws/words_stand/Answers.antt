@@ -1,5 +1,0 @@
-use Rattle.emission_forms.proofs.Words.{words_stand}
-use Rattle.emission_forms.proofs.laws.words_stand.Goals as goal
-
-pub returns : goal.returns
-returns c = words_stand

@@ -1,5 +1,0 @@
-use Rattle.exception_operations.proofs.DestructorsEnd.{destructors_end}
-use Rattle.exception_operations.proofs.laws.destructors_end.Goals as goal
-
-pub returns : goal.returns
-returns c = destructors_end c.end_catch_destroys.ensures

@@ -1,5 +1,0 @@
-use Rattle.exception_operations.proofs.LastLeft.{leaves_run}
-use Rattle.exception_operations.proofs.laws.leaves_run.Goals as goal
-
-pub returns : goal.returns
-returns c = leaves_run c.end_catch_runs.ensures c.calls_are_made.ensures c.end_catch_comes_back.ensures c.end_catch_frees.ensures

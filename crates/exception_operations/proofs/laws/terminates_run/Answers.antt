@@ -1,5 +1,0 @@
-use Rattle.exception_operations.proofs.Ended.{terminates_run}
-use Rattle.exception_operations.proofs.laws.terminates_run.Goals as goal
-
-pub returns : goal.returns
-returns c = terminates_run c.calls_are_turns.ensures c.calls_terminate.ensures c.terminate_runs.ensures

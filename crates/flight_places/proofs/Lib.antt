@@ -1,7 +1,0 @@
-pub mod Marks
-pub mod Parts
-pub mod Forms
-pub mod Guards
-pub mod Regions
-pub mod Flights
-pub mod Slots

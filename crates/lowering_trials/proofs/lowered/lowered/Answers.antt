@@ -1,5 +1,0 @@
-use Rattle.lowering_trials.proofs.Fitting.{fitting}
-use Rattle.lowering_trials.proofs.lowered.lowered.Goals as goal
-
-pub layout-requires : goal.layout-requires
-layout-requires c = fitting c.as_bytes.result.now c.in-Ok.program c.in-Ok.ensures

@@ -1,0 +1,10 @@
+pub mod Frees
+pub mod Enters
+pub mod Picks
+pub mod Makes
+pub mod Leaves
+pub mod Destroys
+pub mod Filters
+pub mod Answers
+pub mod Terminates
+pub mod Unexpected

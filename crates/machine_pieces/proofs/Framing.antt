@@ -1,0 +1,247 @@
+-- A frame is taken and given back, and jumps and calls go where they say.
+use Rattle.std.proofs.Common.{◌≡◌, ◌≢◌, ◌∙◌, refl, ap, arith, ℕ, zero, suc, ◌+◌, ◌-◌, ◌*◌, ◌/◌, ◌%◌, ◌^◌, ◌<◌, ◌≤◌, ◌==◌, ℤ, pos, negsuc, true, List, [], ◌∷◌, length}
+use Rattle.std.specs.Prelude.{◌+ℤ◌, ◌-ℤ◌, not, nat_lt}
+use Rattle.std.proofs.lemmas.Bool.{eq-eqb, le-ltb}
+use Rattle.std.proofs.lemmas.Bool.Decides.{nat_tests}
+use Rattle.std.proofs.lemmas.Int.{ints}
+use Rattle.rv64_isa.specs.declared.step.Step.TheVariants.{Done}
+use Rattle.rv64_isa.specs.declared.instr.Instr.TheVariants.{Lui, Auipc, Jal, Jalr, Bgeu, Ld, Sd, Addi}
+use Rattle.rv64_isa.specs.Arithmetic.{add, sign_extended}
+use Rattle.rv64_isa.specs.State.{State, Part, state, reg_of, with_reg, with_value}
+use Rattle.rv64_isa.specs.Step.{step_of, next, sets, jumps, branches, stores, x, imm12, imm20, done}
+use Rattle.machine_forms.specs.Immediate.{immediate, upper, lower, jump_field}
+use Rattle.machine_forms.specs.Registers.{zero_register, ra, sp, t0}
+use Rattle.machine_forms.specs.Piece.{Target, entry, Piece, instruction, jump_to, upper_part, jump_rest, placed, distance}
+use Rattle.machine_forms.specs.Shape.{Shape, return_offset, lowest_page, stack_tested, prologue, epilogue}
+use Rattle.machine_pieces.specs.Standing.{Ground, address, PieceAt, PiecesAt}
+use Rattle.machine_pieces.specs.Frames.{Reached}
+use Rattle.machine_pieces.specs.Transfers.{HasRoom, HasFrame, Enters, Leaves, Jumps, Calls}
+use Rattle.machine_pieces.specs.Laws.{ControlGoes}
+use Rattle.machine_pieces.proofs.Routines.{op_stands}
+use Rattle.machine_pieces.proofs.Storing.{stores_done, value_written}
+use Rattle.machine_pieces.proofs.Fetching.{piece_done, pieces_still}
+use Rattle.machine_pieces.proofs.Stepping.{one_step, step_then}
+use Rattle.machine_pieces.proofs.Registers.{set_length, read_same, read_other}
+use Rattle.machine_pieces.proofs.Going.{next_is}
+use Rattle.machine_pieces.proofs.Places.{near_address, far_address, address_done, reached_from}
+
+-- the state behind a word that sets a register
+abbrev pub set_state : Ground → ℕ → State → (rd value : ℕ) → State
+set_state g here s rd value = state (address g (here + 1)) (with_reg s.regs rd value) s.memory
+
+pub sets_at : (g : Ground) (here rd value : ℕ) (y : Piece) (s : State) → PieceAt s.memory g here y → s.pc ≡ address g here → done (placed g.places here y) s ≡ sets s rd value → step_of s ≡ (Done, set_state g here s rd value)
+sets_at g here rd value y s h at does =
+    piece_done g here y s h at ∙ does ∙ ap (λ pc. (Done, state pc (with_reg s.regs rd value) s.memory)) (next_is g here y s h at)
+
+-- ---- what the words do
+
+pub addi_done : (rd rs imm : ℕ) (s : State) → done (Addi rd rs imm) s ≡ sets s rd (add (x s rs) (imm12 imm))
+unfolding done
+addi_done rd rs imm s = refl
+
+lui_done : (rd imm : ℕ) (s : State) → done (Lui rd imm) s ≡ sets s rd (imm20 imm)
+unfolding done
+lui_done rd imm s = refl
+
+pub auipc_done : (rd imm : ℕ) (s : State) → done (Auipc rd imm) s ≡ sets s rd (add s.pc (imm20 imm))
+unfolding done
+auipc_done rd imm s = refl
+
+sd_done : (base value imm : ℕ) (s : State) → done (Sd base value imm) s ≡ stores s 8 (add (x s base) (imm12 imm)) (x s value)
+unfolding done
+sd_done base value imm s = refl
+
+bgeu_done : (a b offset : ℕ) (s : State) → done (Bgeu a b offset) s ≡ branches s (not (nat_lt (x s a) (x s b))) offset
+unfolding done
+bgeu_done a b offset s = refl
+
+pub jalr_done : (rd rs imm : ℕ) (s : State) → done (Jalr rd rs imm) s ≡ jumps s rd (add (x s rs) (imm12 imm) / 2 * 2)
+unfolding done
+jalr_done rd rs imm s = refl
+
+jal_done : (rd offset : ℕ) (s : State) → done (Jal rd offset) s ≡ jumps s rd (add s.pc (sign_extended 21 (2 * offset)))
+unfolding done
+jal_done rd offset s = refl
+
+-- ---- numbers
+
+down_address : (a n : ℕ) → n < 2 ^ 11 → n ≤ a → a < 2 ^ 64 → add a (imm12 (immediate (pos 0 -ℤ pos n))) ≡ a - n
+down_address a zero small le below = grind (arith, nat_tests, small, below)
+down_address a (suc n) small le below = grind (arith, nat_tests, small, le, below)
+
+near_eight : (a : ℕ) → a < 2 ^ 63 → add a (imm12 return_offset) ≡ a + return_offset
+near_eight a below = grind (arith, nat_tests, below)
+
+pub whole_address : (a : ℕ) → a % 4 ≡ 0 → a < 2 ^ 64 → add a (imm12 0) / 2 * 2 ≡ a
+whole_address a aligned below = grind (arith, nat_tests, aligned, below)
+
+-- ---- jumps inside a function
+
+forwards : (pc n : ℕ) → n < 2 ^ 18 → pc + 4 * n < 2 ^ 64 → add pc (sign_extended 21 (2 * jump_field (pos n))) ≡ pc + 4 * n
+forwards pc n small below = grind (arith, nat_tests, small, below)
+
+backwards : (pc n : ℕ) → n < 2 ^ 18 - 1 → pc + 4 * (n + 1) < 2 ^ 64 → add (pc + 4 * (n + 1)) (sign_extended 21 (2 * jump_field (negsuc n))) ≡ pc
+backwards pc n small below = grind (arith, nat_tests, small, below)
+
+jump_target : (base here there : ℕ) (d : ℤ) → pos here +ℤ d ≡ pos there → there < here + 2 ^ 18 → here < there + 2 ^ 18 → base + 4 * here < 2 ^ 64 → base + 4 * there < 2 ^ 64 →
+    add (base + 4 * here) (sign_extended 21 (2 * jump_field d)) ≡ base + 4 * there
+jump_target base here there (pos n) is near far hp tp =
+    let sum : here + n ≡ there = omega (arith, ints, is) in
+    forwards (base + 4 * here) n (omega (arith, near, sum)) (omega (arith, tp, sum)) ∙ omega (arith, sum)
+jump_target base here there (negsuc n) is near far hp tp =
+    let sum : there + (n + 1) ≡ here = omega (arith, ints, is) in
+    let place : base + 4 * here ≡ base + 4 * there + 4 * (n + 1) = omega (arith, sum) in
+    ap (λ p. add p (sign_extended 21 (2 * jump_field (negsuc n)))) place ∙ backwards (base + 4 * there) n (omega (arith, far, sum)) (omega (arith, hp, sum))
+
+pub jumped : (s : State) (rd target : ℕ) → target % 4 ≡ 0 → jumps s rd target ≡ (Done, state target (with_reg s.regs rd (next s)) s.memory)
+jumped s rd target aligned = let test : (target % 4 == 0) ≡ true = eq-eqb (target % 4) 0 aligned in rw test refl
+
+pub label_jumps : (g : Ground) (here l : ℕ) (s : State) → PieceAt s.memory g here (jump_to l) → s.pc ≡ address g here → g.places.label l < here + 2 ^ 18 → here < g.places.label l + 2 ^ 18 →
+    address g (g.places.label l) < 2 ^ 64 → Jumps g (g.places.label l) s
+label_jumps g here l s h at near far below =
+    let there : ℕ = g.places.label l in
+    let d : ℤ = pos there -ℤ pos here in
+    let target : add s.pc (sign_extended 21 (2 * jump_field d)) ≡ address g there
+    = ap (λ p. add p (sign_extended 21 (2 * jump_field d))) at ∙ jump_target g.base here there d (omega (arith, ints)) near far (omega (arith, h.word.below)) below in
+    let aligned : address g there % 4 ≡ 0 = omega (arith, h.word.aligned) in
+    let goes : jumps s 0 (add s.pc (sign_extended 21 (2 * jump_field d))) ≡ (Done, state (address g there) s.regs s.memory) = ap (jumps s 0) target ∙ jumped s 0 (address g there) aligned in
+    record { runs = one_step s (state (address g there) s.regs s.memory) (piece_done g here (jump_to l) s h at ∙ jal_done 0 (jump_field d) s ∙ goes) }
+
+-- ---- the prologue
+
+-- the fields of registers that a frame uses
+pub not_zero : (n : ℕ) → 0 < n → n ≢ 0
+not_zero n some e = omega (arith, some, e)
+
+abbrev pub set_twice : List ℕ → (r v q u : ℕ) → List ℕ
+set_twice regs r v q u = with_reg (with_reg regs r v) q u
+
+pub kept_twice : (regs : List ℕ) (r v q u n : ℕ) → n ≢ r → n ≢ q → reg_of (set_twice regs r v q u) n ≡ reg_of regs n
+kept_twice regs r v q u n first second = read_other (with_reg regs r v) q n u second ∙ read_other regs r n v first
+
+-- the stack test passes where enough is left
+enough : (a b : ℕ) → b ≤ a → not (nat_lt a b) ≡ true
+enough a b le = ap not (le-ltb a b le)
+
+branch_far : (g : Ground) (here : ℕ) (s : State) → s.pc ≡ address g here → address g here % 4 ≡ 0 → address g (here + 3) < 2 ^ 64 → branches s true 6 ≡ (Done, state (address g (here + 3)) s.regs s.memory)
+branch_far g here s at aligned below =
+    let target : add s.pc (sign_extended 13 (2 * 6)) ≡ address g (here + 3) = omega (arith, at, below) in
+    let test : (address g (here + 3) % 4 == 0) ≡ true = eq-eqb (address g (here + 3) % 4) 0 (omega (arith, aligned)) in
+    rw (target, test) refl
+
+pub prologue_enters : (g : Ground) (here : ℕ) (f : Shape) (s : State) → PiecesAt s.memory g here (prologue f) → s.pc ≡ address g here → HasRoom f s → Enters g here f s
+prologue_enters g here f s code at room =
+    let stack : ℕ = x s sp in
+    let low : ℕ = stack - f.size in
+    let place : ℕ = low + return_offset in
+    let back : ℕ = x s ra in
+    let memory : List Part = with_value s.memory place 8 back in
+    let small = room.size.0 in
+    let large = room.size.2 in
+    let even = room.size.1 in
+    let aligned = room.aligned in
+    let above = room.above in
+    let below = room.below in
+    let regs = room.registers in
+    let one : State = set_state g here s sp low in
+    let down : add stack (imm12 (immediate (pos 0 -ℤ pos f.size))) ≡ low = down_address stack f.size small (omega (arith, above)) (omega (arith, below)) in
+    let step1 : step_of s ≡ (Done, one)
+    = sets_at g here sp low (instruction (Addi sp sp (immediate (pos 0 -ℤ pos f.size)))) s code.0 at (addi_done sp sp (immediate (pos 0 -ℤ pos f.size)) s ∙ ap (sets s sp) down) in
+    let sp1 : x one sp ≡ low = read_same s.regs sp low (not_zero sp (omega arith)) (omega (arith, regs)) in
+    let ra1 : x one ra ≡ back = read_other s.regs sp ra low (λ e. absurd (omega (arith, e))) in
+    let there : add (x one sp) (imm12 return_offset) ≡ place = ap (λ a. add a (imm12 return_offset)) sp1 ∙ near_eight low (omega (arith, below)) in
+    let two : State = state (address g (here + 1 + 1)) one.regs memory in
+    let step2 : step_of one ≡ (Done, two)
+    = piece_done g (here + 1) (instruction (Sd sp ra return_offset)) one code.1.0 refl ∙ sd_done sp ra return_offset one ∙ ap (λ a. stores one 8 a (x one ra)) there ∙ ap (stores one 8 place) ra1
+    ∙ stores_done one 8 place back (eq-eqb (place % 8) 0 (omega (arith, aligned, even, above))) room.may
+    ∙ ap (λ pc. (Done, state pc one.regs memory)) (next_is g (here + 1) (instruction (Sd sp ra return_offset)) one code.1.0 refl) in
+    let rest = pieces_still s.memory memory g (here + 1 + 1) (stack_tested) (value_written s.memory place 8 back room.may) code.1.1 in
+    let three : State = set_state g (here + 1 + 1) two t0 0x70001000 in
+    let step3 : step_of two ≡ (Done, three) = sets_at g (here + 1 + 1) t0 0x70001000 (instruction (Lui t0 lowest_page)) two rest.0 refl (lui_done t0 lowest_page two) in
+    let t03 : x three t0 ≡ 0x70001000 = read_same one.regs t0 0x70001000 (not_zero t0 (omega arith)) (omega (arith, regs, set_length s.regs sp low)) in
+    let sp3 : x three sp ≡ low = read_other one.regs t0 sp 0x70001000 (λ e. absurd (omega (arith, e))) ∙ sp1 in
+    let test : not (nat_lt (x three sp) (x three t0)) ≡ true = enough (x three sp) (x three t0) (omega (arith, t03, sp3, above)) in
+    let four : State = state (address g (here + 1 + 1 + 1 + 3)) three.regs memory in
+    let step4 : step_of three ≡ (Done, four)
+    = piece_done g (here + 1 + 1 + 1) (instruction (Bgeu sp t0 6)) three rest.1.0 refl ∙ bgeu_done sp t0 6 three ∙ ap (λ c. branches three c 6) test
+    ∙ branch_far g (here + 1 + 1 + 1) three refl (rest.1.0.word.aligned) (omega (arith, rest.1.1.1.0.word.below)) in
+    record {
+      after = four;
+      runs = step_then 3 s one four step1 (step_then 2 one two four step2 (step_then 1 two three four step3 (one_step three four step4)));
+      pc = omega arith;
+      memory = refl;
+      registers = set_length one.regs t0 0x70001000 ∙ set_length s.regs sp low ∙ regs;
+      stack = sp3;
+      kept = λ r not_sp not_t0. kept_twice s.regs sp low t0 0x70001000 r not_sp not_t0;
+    }
+
+-- ---- the epilogue
+
+pub epilogue_leaves : (g : Ground) (here back : ℕ) (f : Shape) (s : State) → PiecesAt s.memory g here (epilogue f) → s.pc ≡ address g here → HasFrame f back s → Leaves f back s
+epilogue_leaves g here back f s code at frame =
+    let stack : ℕ = x s sp in
+    let up : ℕ = stack + f.size in
+    let regs = frame.registers in
+    let one : State = set_state g here s ra back in
+    let place : add stack (imm12 return_offset) ≡ stack + return_offset = near_address stack return_offset (omega arith) frame.saved.below in
+    let step1 : step_of s ≡ (Done, one) = sets_at g here ra back (instruction (Ld ra sp return_offset)) s code.0 at (address_done ra sp return_offset (stack + return_offset) back s place frame.saved) in
+    let sp1 : x one sp ≡ stack = read_other s.regs ra sp back (λ e. absurd (omega (arith, e))) in
+    let ra1 : x one ra ≡ back = read_same s.regs ra back (not_zero ra (omega arith)) (omega (arith, regs)) in
+    let two : State = set_state g (here + 1) one sp up in
+    let upper_end : add (x one sp) (imm12 (immediate (pos f.size))) ≡ up = ap (λ a. add a (imm12 (immediate (pos f.size)))) sp1 ∙ near_address stack f.size frame.size frame.below in
+    let step2 : step_of one ≡ (Done, two)
+    = sets_at g (here + 1) sp up (instruction (Addi sp sp (immediate (pos f.size)))) one code.1.0 refl (addi_done sp sp (immediate (pos f.size)) one ∙ ap (sets one sp) upper_end) in
+    let ra2 : x two ra ≡ back = read_other one.regs sp ra up (λ e. absurd (omega (arith, e))) ∙ ra1 in
+    let target : add (x two ra) (imm12 0) / 2 * 2 ≡ back = ap (λ a. add a (imm12 0) / 2 * 2) ra2 ∙ whole_address back frame.back_aligned frame.back_below in
+    let three : State = state back two.regs s.memory in
+    let step3 : step_of two ≡ (Done, three)
+    = piece_done g (here + 1 + 1) (instruction (Jalr zero_register ra 0)) two code.1.1.0 refl ∙ jalr_done zero_register ra 0 two ∙ ap (jumps two zero_register) target ∙ jumped two zero_register back frame.back_aligned in
+    record {
+      after = three;
+      runs = step_then 2 s one three step1 (step_then 1 one two three step2 (one_step two three step3));
+      pc = refl;
+      memory = refl;
+      registers = set_length one.regs sp up ∙ set_length s.regs ra back ∙ regs;
+      stack = read_same one.regs sp up (not_zero sp (omega arith)) (omega (arith, regs, set_length s.regs ra back));
+      kept = λ r not_sp not_ra. kept_twice s.regs ra back sp up r not_ra not_sp;
+    }
+
+-- ---- calls
+
+pub function_calls : (g : Ground) (here first : ℕ) (u : Target) (s : State) → PiecesAt s.memory g here (upper_part ra u ∷ jump_rest ra ra u ∷ []) → s.pc ≡ address g here → length s.regs ≡ 32 →
+    Reached g u first → first % 4 ≡ 0 → first < 2 ^ 64 → Calls g here first s
+function_calls g here first u s code at regs reached aligned below =
+    let d : ℤ = distance g.places here u in
+    let high : ℕ = add s.pc (imm20 (upper d)) in
+    let one : State = set_state g here s ra high in
+    let step1 : step_of s ≡ (Done, one) = sets_at g here ra high (upper_part ra u) s code.0 at (auipc_done ra (upper d) s) in
+    let ra1 : x one ra ≡ high = read_same s.regs ra high (not_zero ra (omega arith)) (omega (arith, regs)) in
+    let here_again : here + 1 - 1 ≡ here = omega arith in
+    let low : lower (distance g.places (here + 1 - 1) u) ≡ lower d = ap (λ i. lower (distance g.places i u)) here_again in
+    let near = reached.near here code.0.inside in
+    let place : add (x one ra) (imm12 (lower (distance g.places (here + 1 - 1) u))) ≡ first =
+    ap (λ a. add a (imm12 (lower (distance g.places (here + 1 - 1) u)))) ra1 ∙ ap (λ i. add high (imm12 i)) low ∙ ap (λ p. add (add p (imm20 (upper d))) (imm12 (lower d))) at
+    ∙ far_address (address g here) first d (omega (arith, code.0.word.below)) below near.0 near.1 (reached_from g here u first reached) in
+    let target : add (x one ra) (imm12 (lower (distance g.places (here + 1 - 1) u))) / 2 * 2 ≡ first = ap (λ a. a / 2 * 2) place ∙ omega (arith, aligned) in
+    let back : ℕ = next one in
+    let two : State = state first (with_reg one.regs ra back) s.memory in
+    let step2 : step_of one ≡ (Done, two)
+    = piece_done g (here + 1) (jump_rest ra ra u) one code.1.0 refl ∙ jalr_done ra ra (lower (distance g.places (here + 1 - 1) u)) one ∙ ap (jumps one ra) target ∙ jumped one ra first aligned in
+    record {
+      after = two;
+      runs = step_then 1 s one two step1 (one_step one two step2);
+      pc = refl;
+      back = read_same one.regs ra back (not_zero ra (omega arith)) (omega (arith, regs, set_length s.regs ra high)) ∙ next_is g (here + 1) (jump_rest ra ra u) one code.1.0 refl ∙ omega arith;
+      memory = refl;
+      registers = set_length one.regs ra back ∙ set_length s.regs ra high ∙ regs;
+      kept = λ r not_ra. kept_twice s.regs ra high ra back r not_ra not_ra;
+    }
+
+pub control_goes : ControlGoes
+control_goes = record {
+  enters = prologue_enters;
+  leaves = epilogue_leaves;
+  jumps = label_jumps;
+  calls = λ g here first callee s code at regs reached aligned below. function_calls g here first (entry callee) s code at regs reached aligned below;
+  operation = op_stands;
+}

@@ -1,0 +1,5 @@
+use Rattle.machine_pieces.proofs.SmallMain.{calls_are_turns}
+use Rattle.machine_pieces.proofs.laws.calls_are_turns.Goals as goal
+
+pub returns : goal.returns
+returns c = calls_are_turns

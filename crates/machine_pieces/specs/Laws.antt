@@ -1,0 +1,142 @@
+-- What the calls of laws state.
+use Rattle.std.specs.Prelude.{◌≡◌, ℕ, ◌+◌, ◌*◌, ◌%◌, ◌^◌, ◌<◌, ◌≤◌, ◌==◌, false, ℤ, List, [], ◌∷◌, ◌++◌, map, length, slice_get, Some, suc, negsuc}
+use Rattle.std.specs.List.{flat_map, AllByRecursion}
+use Rattle.run_items.specs.declared.item.Item.TheVariants.{Line}
+use Rattle.cxa_runtime.specs.declared.effect.End.TheVariants.{Exit}
+use Rattle.cxa_runtime.specs.Raising.{Image}
+use Rattle.cxa_runtime.specs.Run.{run}
+use Rattle.cxa_runtime.specs.World as machine
+use Rattle.linear_forms.specs.Linear.{FunctionCode, UnitCode}
+use Rattle.machine_pieces.specs.Numbers.{IsInt, extended}
+use Rattle.eh_outer.specs.declared.module.Reply.{Reply}
+use Rattle.cxx_ast.specs.declared.name.Name.{Name}
+use Rattle.cxx_ast.specs.Plain.{Checked}
+use Rattle.region_forms.specs.Layout.{Layout}
+use Rattle.region_forms.specs.LowerProgram.{regions_of}
+use Rattle.linear_forms.specs.Unit.{unit_of}
+use Rattle.rv64_machine.specs.Initial.{initial}
+use Rattle.machine_pieces.specs.MainTree.{LineTree, AnswerTree, main_function}
+use Rattle.machine_forms.specs.Emitted.{emitted_of, emitted_stubs}
+use Rattle.machine_pieces.specs.UnitAt.{whole_words}
+use Rattle.elf_image.specs.Clean.{CleanImage}
+use Rattle.elf_image.specs.Stands.{ImageStands}
+use Rattle.image_forms.specs.Placed.{code_at, all_code}
+use Rattle.image_forms.specs.Linked.{contents_for}
+use Rattle.eh_run.specs.Program.{program_of}
+use Rattle.machine_pieces.specs.Begins.{Begins}
+use Rattle.machine_pieces.specs.SmallMain.{main_ops}
+use Rattle.rv64_isa.specs.Format.{IsInRange}
+use Rattle.rv64_isa.specs.Listing.{form_of}
+use Rattle.rv64_isa.specs.State.{State, Part, with_value}
+use Rattle.rv64_isa.specs.Step.{step_of, done, x}
+use Rattle.region_forms.specs.Form.{Kinds, Place, Value}
+use Rattle.region_forms.specs.World.{Address, Frame, World}
+use Rattle.region_forms.specs.Evaluation.{Location, value_in, locate, address_of}
+use Rattle.machine_forms.specs.Piece.{entry, Piece, jump_to, Places, placed}
+use Rattle.machine_forms.specs.Shape.{Shape, prologue, epilogue}
+use Rattle.machine_forms.specs.Registers.{sp, a0, a7, register}
+use Rattle.machine_forms.specs.RuntimeCall.{runtime_call}
+use Rattle.rv64_isa.specs.declared.step.Step.TheVariants.{Ecall}
+use Rattle.machine_pieces.specs.Executes.{Executes}
+use Rattle.machine_pieces.specs.RuntimeCalls.{AtCall}
+use Rattle.machine_pieces.specs.Turning.{Turns, Stepped, after_step, after_line, after_byte}
+use Rattle.machine_forms.specs.PlaceCode.{place_stored, place_address}
+use Rattle.machine_forms.specs.CallCode.{function_called}
+use Rattle.machine_forms.specs.Routine.{Routine, op_word}
+use Rattle.linear_forms.specs.Stub.{Function}
+use Rattle.machine_forms.specs.ValueCode.{needs, value_code, test_code}
+use Rattle.machine_pieces.specs.Memory.{Written, WordAt, Holds, MayWrite, shape_of, Apart}
+use Rattle.machine_pieces.specs.Standing.{Ground, address, PieceFits, PieceAt, PiecesAt, WordsAt, HaveBits}
+use Rattle.machine_pieces.specs.Going.{Goes, Computes, Gives, passed_over, Stores}
+use Rattle.machine_pieces.specs.Frames.{Setting, byte_of, RootFits, ValueStands, Ready, Reached, location_byte}
+use Rattle.machine_pieces.specs.Transfers.{HasRoom, HasFrame, Enters, Leaves, Jumps, Calls}
+
+-- The fields of a piece's instruction are in their ranges wherever it stands. Where its word stands at the pc, a step does what the
+-- instruction does.
+pub record WordsAreFetched : Type 0 where
+  pub fields : (places : Places) (here : ℕ) (x : Piece) → PieceFits x → IsInRange (form_of (placed places here x))
+  pub step : (g : Ground) (here : ℕ) (x : Piece) (s : State) → PieceAt s.memory g here x → s.pc ≡ address g here → step_of s ≡ done (placed g.places here x) s
+
+-- Four and eight bytes that may be written hold what was stored there, and what is apart from them holds what it held. With each byte the
+-- same may be done as before, code stays, and every part of memory keeps its place and size.
+pub record StoresAreRead : Type 0 where
+  pub four : (memory : List Part) (a value : ℕ) → MayWrite memory a 4 → Holds (with_value memory a 4 value) a 4 (value % 2 ^ 32)
+  pub eight : (memory : List Part) (a value : ℕ) → MayWrite memory a 8 → Holds (with_value memory a 8 value) a 8 (value % 2 ^ 64)
+  pub apart : (memory : List Part) (a n value b k x : ℕ) → Apart a n b k → Holds memory b k x → Holds (with_value memory a n value) b k x
+  pub written : (memory : List Part) (a n value : ℕ) → MayWrite memory a n → Written memory (with_value memory a n value)
+  pub code : (old new : List Part) (a word : ℕ) → Written old new → WordAt old a word → WordAt new a word
+  pub may : (old new : List Part) (a n : ℕ) → Written old new → MayWrite old a n → MayWrite new a n
+  pub shapes : (memory : List Part) (a n value : ℕ) → map shape_of (with_value memory a n value) ≡ map shape_of memory
+
+-- A value without calls whose int is defined: where its words stand and its call's frame is in memory, the machine runs from the first of
+-- them to behind the last in at most as many steps as there are words. Then the register has that int, with its sign extended; memory is
+-- as before, and so is each register but those that values take from there on. The test of a jump on a condition comes to the word behind
+-- it where the value is 0, and over that word where it is not.
+pub record ValuesAreComputed : Type 0 where
+  pub value : (t : Setting) (f : Shape) (kinds : Kinds) (frame : Frame) (w : World) (v : Value) (z : ℤ) (k here : ℕ) (s : State) → ValueStands t f kinds frame w v → value_in kinds frame w v ≡ Some z →
+      k + needs v ≤ 15 → length (value_code f k v) < 2 ^ 18 → PiecesAt s.memory t.ground here (value_code f k v) → s.pc ≡ address t.ground here → Ready t f kinds frame w s →
+      Gives t.ground here (length (value_code f k v)) k s z
+  pub test : (t : Setting) (f : Shape) (kinds : Kinds) (frame : Frame) (w : World) (v : Value) (z : ℤ) (here : ℕ) (s : State) (y : Piece) → ValueStands t f kinds frame w v → value_in kinds frame w v ≡ Some z →
+      needs v ≤ 15 → length (test_code f v) < 2 ^ 18 → PiecesAt s.memory t.ground here (test_code f v ++ y ∷ []) → s.pc ≡ address t.ground here → Ready t f kinds frame w s →
+      Goes t.ground here (length (test_code f v) + passed_over z) 0 s
+
+-- The address of a place, if it has one, is computed in the k-th register: that of the byte which the address means.
+pub record AddressesAreComputed : Type 0 where
+  pub place : (t : Setting) (f : Shape) (kinds : Kinds) (frame : Frame) (w : World) (k here : ℕ) (s : State) (p : Place) (b : Address) → Ready t f kinds frame w s → k < 15 →
+      RootFits t f kinds frame p.root p.offset → PiecesAt s.memory t.ground here (place_address f (register k) p) → s.pc ≡ address t.ground here → byte_of t b < 2 ^ 64 →
+      address_of kinds frame p ≡ Some b → Computes t.ground here (length (place_address f (register k) p)) k s (byte_of t b)
+
+-- An int in the j-th register for values, with its sign extended, is written to a place, by means of the k-th register: the four bytes of
+-- the place get the int, and nothing else of memory is changed.
+pub record PlacesAreWritten : Type 0 where
+  pub place : (t : Setting) (f : Shape) (kinds : Kinds) (frame : Frame) (w : World) (j k here : ℕ) (s : State) (z : ℤ) (p : Place) (l : Location) → Ready t f kinds frame w s → j < k → k < 15 →
+      RootFits t f kinds frame p.root p.offset → PiecesAt s.memory t.ground here (place_stored f (register j) (register k) p) → s.pc ≡ address t.ground here → x s (register j) ≡ extended z →
+      locate kinds frame p ≡ Some l → location_byte t f (x s sp) l % 4 ≡ 0 → location_byte t f (x s sp) l < 2 ^ 64 → MayWrite s.memory (location_byte t f (x s sp) l) 4 →
+      Stores t.ground here (length (place_stored f (register j) (register k) p)) k s (location_byte t f (x s sp) l) z
+
+-- A function's prologue takes a frame where the stack has room, and its epilogue gives it back and goes to the return address. A jump to a
+-- label comes to the label's word, and a call of a function to the function's first word, with the address behind the call in ra. Where a
+-- routine's pieces stand, those of each operation stand from its first word on.
+pub record ControlGoes : Type 0 where
+  pub enters : (g : Ground) (here : ℕ) (f : Shape) (s : State) → PiecesAt s.memory g here (prologue f) → s.pc ≡ address g here → HasRoom f s → Enters g here f s
+  pub leaves : (g : Ground) (here back : ℕ) (f : Shape) (s : State) → PiecesAt s.memory g here (epilogue f) → s.pc ≡ address g here → HasFrame f back s → Leaves f back s
+  pub jumps : (g : Ground) (here l : ℕ) (s : State) → PieceAt s.memory g here (jump_to l) → s.pc ≡ address g here → g.places.label l < here + 2 ^ 18 → here < g.places.label l + 2 ^ 18 →
+      address g (g.places.label l) < 2 ^ 64 → Jumps g (g.places.label l) s
+  pub calls : (g : Ground) (here first : ℕ) (callee : Function) (s : State) → PiecesAt s.memory g here (function_called callee) → s.pc ≡ address g here → length s.regs ≡ 32 →
+      Reached g (entry callee) first → first % 4 ≡ 0 → first < 2 ^ 64 → Calls g here first s
+  pub operation : (memory : List Part) (g : Ground) (first : ℕ) (r : Routine) (p : ℕ) (b : List Piece) → PiecesAt memory g first (r.front ++ flat_map (λ x. x) r.blocks) → slice_get r.blocks p ≡ Some b →
+      PiecesAt memory g first r.front × PiecesAt memory g (first + op_word r p) b
+
+-- Steps of the hart are as many turns of the ABI machine, which show nothing and leave what the runtime keeps. A runtime call is one step
+-- and then its ECALL: write_int shows the int in a0, read_byte takes a byte of the input or gives -1 at its end, and exit ends the run.
+pub record CallsAreTurns : Type 0 where
+  pub steps : (image : Image) (n : ℕ) (w : machine.World) (s t : State) → w.hart ≡ s → Executes n s t → Stepped image n w t
+  pub call : (g : Ground) (here number : ℕ) (s : State) → number < 2 ^ 11 → PiecesAt s.memory g here (runtime_call number) → s.pc ≡ address g here → length s.regs ≡ 32 → AtCall g here number s
+  pub line : (image : Image) (w : machine.World) (s : State) (z : ℤ) → step_of w.hart ≡ (Ecall, s) → x s a7 ≡ 1 → x s a0 ≡ extended z → IsInt z → Turns image 1 w (after_line z s w) (Line z ∷ [])
+  pub byte : (image : Image) (w : machine.World) (s : State) (b : ℕ) (bytes : List ℕ) → step_of w.hart ≡ (Ecall, s) → x s a7 ≡ 2 → w.input ≡ b ∷ bytes → Turns image 1 w (after_byte b bytes s w) []
+  pub no_byte : (image : Image) (w : machine.World) (s : State) → step_of w.hart ≡ (Ecall, s) → x s a7 ≡ 2 → w.input ≡ [] →
+      Turns image 1 w (machine.gives a0 (extended (negsuc 0)) (after_step s w)) []
+  pub exit : (image : Image) (pick : ℕ → ℕ) (k : ℕ) (w : machine.World) (s : State) (z : ℤ) → step_of w.hart ≡ (Ecall, s) → x s a7 ≡ 0 → x s a0 ≡ extended z → IsInt z →
+      run image pick (suc k) w ≡ record { items = []; end = Exit z; world = after_step s w }
+
+-- A unit whose main writes ints and returns one: the run from the first word on shows exactly those lines, in their order, and exits with
+-- what main returns, within 21 turns and 4 for each line. So does each checked program whose one function is `int main()` with calls of
+-- write_int on literals and a return of a literal, on a new machine that stands at the first of its words: those of the runtime's own
+-- functions and of what is emitted for the program.
+pub record SmallMainsRun : Type 0 where
+  pub unit : (image : Image) (pick : ℕ → ℕ) (n : ℕ) (u : UnitCode) (base : ℕ) (fc : FunctionCode) (r i l : ℕ) (lines : List ℤ) (z : ℤ) (w : machine.World) → (i == l) ≡ false → Begins u base fc r w.hart →
+      fc.ops ≡ main_ops r lines z i l → AllByRecursion IsInt lines → IsInt z → 21 + 4 * length lines ≤ n →
+      ((run image pick n w).items ≡ map Line lines) × ((run image pick n w).end ≡ Exit z)
+  pub program : (image : Image) (pick : ℕ → ℕ) (n : ℕ) (p : Checked) (layout : Layout) (name : Name) (tokens : ℕ) (lines : List LineTree) (a : AnswerTree) (base : ℕ) (parts : List Part) (input : List ℕ)
+      (replies : List (List Reply)) → p.functions ≡ main_function name tokens lines a ∷ [] → p.main ≡ 0 → AllByRecursion IsInt (map (λ t. t.value) lines) → IsInt a.value →
+      whole_words (unit_of (regions_of p layout)) < 2 ^ 28 → WordsAt (initial parts).memory base (emitted_stubs.code ++ (emitted_of (unit_of (regions_of p layout))).code) → 21 + 4 * length lines ≤ n →
+      let ran = run image pick n (machine.begins (record (initial parts) { pc = base }) input replies) in (ran.items ≡ map Line (map (λ t. t.value) lines)) × (ran.end ≡ Exit a.value)
+
+-- The linked image of a checked program whose one function is `int main()` with calls of write_int on literals and a return of a literal,
+-- whatever file it was read of: the run of at least 21 steps and 4 for each line shows exactly those lines, in their order, and exits
+-- with what main returns. Taken for granted is that each word has 32 bits, and that the code ends below 2^30.
+pub record LinkedMainsRun : Type 0 where
+  pub runs : (pick : ℕ → ℕ) (n : ℕ) (p : Checked) (layout : Layout) (name : Name) (tokens : ℕ) (lines : List LineTree) (a : AnswerTree) (i : CleanImage) (input : List ℕ) (replies : List (List Reply)) →
+      p.functions ≡ main_function name tokens lines a ∷ [] → p.main ≡ 0 → AllByRecursion IsInt (map (λ t. t.value) lines) → IsInt a.value →
+      let u = emitted_of (unit_of (regions_of p layout)) in ImageStands (contents_for u) i.image → code_at u + 4 * length (all_code u) < 2 ^ 30 → HaveBits (all_code u) → 21 + 4 * length lines ≤ n →
+      let ran = run (program_of i).image pick n (machine.begins (program_of i).hart input replies) in (ran.items ≡ map Line (map (λ t. t.value) lines)) × (ran.end ≡ Exit a.value)

@@ -1,0 +1,128 @@
+-- A landing in a compiled function: its call is the newest again.
+use Rattle.std.proofs.Common.{◌≡◌, ◌∙◌, refl, sym, ap, subst, arith, ℕ, ◌+◌, ◌<◌, List, [], ◌∷◌, ◌++◌, inl, inr}
+use Rattle.std.specs.Prelude.{◌⊎◌}
+use Rattle.std.specs.List.{AllByRecursion}
+use Rattle.rv64_isa.specs.State.{Part}
+use Rattle.region_forms.specs.World.{nothing, Frame, World}
+use Rattle.linear_forms.specs.Stub.{compiled, end_catch, call_unexpected}
+use Rattle.linear_forms.specs.Activation.{Activation}
+use Rattle.linear_forms.specs.UnitRun.{code_of}
+use Rattle.cxa_runtime.specs.World as abi
+use Rattle.machine_stubs.specs.Stretches.{frame_size}
+use Rattle.raise_simulation.specs.OpenCalls.{outer_sp}
+use Rattle.raise_simulation.specs.Opens.{Open, activations, calls, Judge}
+use Rattle.machine_simulation.specs.Plan.{Plan, shape}
+use Rattle.machine_simulation.specs.Extents.{newer}
+use Rattle.machine_simulation.specs.StubCalls.{StubWaits, DestructorWaits, UnexpectedWaits, LeavingWaits}
+use Rattle.machine_simulation.specs.Calls.{CallStands, CallsWait}
+use Rattle.machine_simulation.specs.Exceptions.{addresses_of, exceptions_in, kept_by, destroyed, ExceptionsMatch}
+use Rattle.machine_simulation.specs.Matches.{RuntimeMatches, MemoryMatches}
+use Rattle.machine_simulation.specs.Returns.{closed}
+use Rattle.machine_simulation.proofs.Closing.{live_before, newer_over, call_narrowed, waits_narrowed, apart_narrowed, objects_narrowed, unit_narrowed, destroyed_nothing, runtime_popped}
+use Rattle.machine_raises.proofs.Waiting.{opens_of, tail_of, all_are}
+use Rattle.machine_raises.proofs.Passing.{Passed, StopsStubs, stub_not_passed}
+
+-- A call among those that wait, where all inside it are passed: it stands, and so do the calls that wait for it.
+pub record Landed (p : Plan) (m : ℕ) (a : Activation) (rest fs : List Activation) (v : World) (memory : List Part) (stack limit : ℕ) : Type 0 where
+  pub less : a.frame.call < limit
+  pub back : ℕ
+  pub stands : CallStands p m a.frame v memory stack back
+  pub waiting : CallsWait p rest v memory (stack + (shape p m).size) back a.frame.call
+  pub none : destroyed fs ≡ destroyed rest
+
+pub same_first : (x y : Open) (xs ys : List Open) → x ∷ xs ≡ y ∷ ys → x ≡ y
+same_first x y xs ys e = cc
+
+pub same_others : (x y : Open) (xs ys : List Open) → x ∷ xs ≡ y ∷ ys → xs ≡ ys
+same_others x y xs ys e = cc
+
+-- a function has one number
+pub one_number : (n m : ℕ) → compiled n ≡ compiled m → n ≡ m
+one_number n m e = cc e
+
+not_compiled : (p : Plan) (a : Activation) (v : World) (memory : List Part) (stack back outer m : ℕ) → StubWaits p a v memory stack back outer → a.function ≡ compiled m → ⊥
+not_compiled p a v memory stack back outer m w callee = by w.waits
+  where
+    by : DestructorWaits p a v memory stack back ⊎ UnexpectedWaits p a v memory stack back ⊎ LeavingWaits p a v memory stack back → ⊥
+    by (inl d) = let both : end_catch ≡ compiled m = sym d.callee ∙ callee in cc both
+    by (inr (inl x)) = let both : call_unexpected ≡ compiled m = sym x.callee ∙ callee in cc both
+    by (inr (inr l)) = let both : call_unexpected ≡ compiled m = sym l.callee ∙ callee in cc both
+
+pub landed : (p : Plan) (judge : Judge) (m : ℕ) (fs : List Activation) (v : World) (memory : List Part) (stack back limit : ℕ) (w : CallsWait p fs v memory stack back limit) (inner : List Open) (landing : Open) (outer : List Open) →
+    opens_of p fs v memory stack back limit w ≡ inner ++ landing ∷ outer → AllByRecursion (λ o. Passed (code_of p.unit) judge o.activation) inner → StopsStubs judge → landing.activation.function ≡ compiled m →
+    Landed p m landing.activation (activations outer ++ tail_of p fs v memory stack back limit w) fs v memory (outer_sp stack (calls inner)) limit
+unfolding opens_of tail_of
+landed p judge m [] v memory stack back limit w [] landing outer is passed stops callee = absurd (cc is)
+landed p judge m [] v memory stack back limit w (o ∷ inner) landing outer is passed stops callee = absurd (cc is)
+landed p judge m (a ∷ fs) v memory stack back limit (inr (inr w)) [] landing outer is passed stops callee = absurd (cc is)
+landed p judge m (a ∷ fs) v memory stack back limit (inr (inr w)) (o ∷ inner) landing outer is passed stops callee = absurd (cc is)
+landed p judge m (a ∷ fs) v memory stack back limit (inl (less, n, out, waits, more)) [] landing outer is passed stops callee =
+    let here : Open = record { activation = a; call = record { size = (shape p n).size; back = out } } in
+    let opens = opens_of p fs v memory (stack + (shape p n).size) out a.frame.call more in
+    let tail = tail_of p fs v memory (stack + (shape p n).size) out a.frame.call more in
+    let same : here ≡ landing = same_first here landing opens outer is in
+    let others : fs ≡ activations outer ++ tail = sym (all_are p fs v memory (stack + (shape p n).size) out a.frame.call more) ∙ ap (λ os. activations os ++ tail) (same_others here landing opens outer is) in
+    let number : n ≡ m = one_number n m (sym waits.callee ∙ (ap (λ o. o.activation.function) same ∙ callee)) in
+    let none : destroyed (a ∷ fs) ≡ destroyed (activations outer ++ tail) = ap (λ ds. ds ++ destroyed fs) (destroyed_nothing p n a waits.callee) ∙ ap destroyed others in
+    let stands : CallStands p m a.frame v memory stack out = subst (λ k. CallStands p k a.frame v memory stack out) number waits.stands in
+    let waiting : CallsWait p (activations outer ++ tail) v memory (stack + (shape p m).size) out a.frame.call
+    = subst (λ xs. CallsWait p xs v memory (stack + (shape p m).size) out a.frame.call) others (subst (λ k. CallsWait p fs v memory (stack + (shape p k).size) out a.frame.call) number more) in
+    subst (λ o. Landed p m o.activation (activations outer ++ tail) (a ∷ fs) v memory stack limit) same (record { less = less; back = out; stands = stands; waiting = waiting; none = none })
+landed p judge m (a ∷ fs) v memory stack back limit (inl (less, n, out, waits, more)) (o ∷ inner) landing outer is passed stops callee =
+    let here : Open = record { activation = a; call = record { size = (shape p n).size; back = out } } in
+    let opens = opens_of p fs v memory (stack + (shape p n).size) out a.frame.call more in
+    let tail = tail_of p fs v memory (stack + (shape p n).size) out a.frame.call more in
+    let same : here ≡ o = same_first here o opens (inner ++ landing ∷ outer) is in
+    let later = landed p judge m fs v memory (stack + (shape p n).size) out a.frame.call more inner landing outer (same_others here o opens (inner ++ landing ∷ outer) is) passed.1 stops callee in
+    let smaller = later.less in
+    let whole : Landed p m landing.activation (activations outer ++ tail) (a ∷ fs) v memory (outer_sp (stack + here.call.size) (calls inner)) limit = record {
+      less = omega (arith, less, smaller);
+      back = later.back;
+      stands = later.stands;
+      waiting = later.waiting;
+      none = ap (λ ds. ds ++ destroyed fs) (destroyed_nothing p n a waits.callee) ∙ later.none;
+    } in
+    subst (λ x. Landed p m landing.activation (activations outer ++ tail) (a ∷ fs) v memory (outer_sp (stack + x.call.size) (calls inner)) limit) same whole
+landed p judge m (a ∷ fs) v memory stack back limit (inr (inl (out, waits, more))) [] landing outer is passed stops callee =
+    let here : Open = record { activation = a; call = record { size = frame_size a.function; back = out } } in
+    let same : here ≡ landing = same_first here landing (opens_of p fs v memory (stack + frame_size a.function) out limit more) outer is in
+    absurd (not_compiled p a v memory stack back out m waits (ap (λ o. o.activation.function) same ∙ callee))
+landed p judge m (a ∷ fs) v memory stack back limit (inr (inl (out, waits, more))) (o ∷ inner) landing outer is passed stops callee =
+    let here : Open = record { activation = a; call = record { size = frame_size a.function; back = out } } in
+    let same : here ≡ o = same_first here o (opens_of p fs v memory (stack + frame_size a.function) out limit more) (inner ++ landing ∷ outer) is in
+    absurd (stub_not_passed p judge a v memory stack back out waits stops (subst (λ x. Passed (code_of p.unit) judge x.activation) (sym same) passed.0))
+
+-- ---- the newest call again
+pub popped_to : (p : Plan) (n m : ℕ) (frame : Frame) (fs rest : List Activation) (a : Activation) (v : World) (memory : List Part) (stack back there out : ℕ) → MemoryMatches p n frame fs v memory stack back →
+    a.frame.call < frame.call → CallStands p m a.frame v memory there out → CallsWait p rest v memory (there + (shape p m).size) out a.frame.call →
+    MemoryMatches (closed p a.frame.call) m a.frame rest v memory there out
+popped_to p n m frame fs rest a v memory stack back there out h less stands waiting =
+    let c : ℕ = a.frame.call in
+    let over = newer c in
+    let narrows = newer_over c in
+    record {
+      top = call_narrowed p over c narrows m a.frame v memory there out (omega arith) stands;
+      newest = omega (arith, less, h.newest);
+      waiting = waits_narrowed p over c narrows rest v memory (there + (shape p m).size) out c (omega arith) waiting;
+      apart = apart_narrowed p over c narrows memory h.apart;
+      inside = λ b z live at. h.inside b z (live_before p over b.base live).0 at;
+      may = h.may;
+      last = λ b live. (live_before p over b live).1;
+      fresh = h.fresh;
+      objects = objects_narrowed p over c narrows v memory h.objects;
+      unit = unit_narrowed p over c narrows memory h.unit;
+    }
+
+-- what the runtime keeps, where no destructor of an exception's object is passed
+pub runtime_to : (p : Plan) (c : ℕ) (fs rest : List Activation) (v : World) (w : abi.World) → RuntimeMatches p fs v w → destroyed fs ≡ destroyed rest → RuntimeMatches (closed p c) rest v w
+runtime_to p c fs rest v w h none =
+    let nobody : Activation = record { function = compiled 0; place = 0; frame = record { call = 0; slots = λ s. nothing } } in
+    let same : RuntimeMatches p (nobody ∷ rest) v w = record {
+      input = h.input;
+      replies = h.replies;
+      last_number = h.last_number;
+      terminating = h.terminating;
+      exceptions = subst (λ ds. ExceptionsMatch (addresses_of p) ds (exceptions_in v) (kept_by w)) none h.exceptions;
+      plan = h.plan;
+    } in
+    runtime_popped p c nobody rest v w same refl

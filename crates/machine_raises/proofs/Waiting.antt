@@ -1,0 +1,187 @@
+-- Calls that wait as open calls on the stack.
+use Rattle.std.proofs.Common.{◌≡◌, ◌∙◌, refl, sym, ap, subst, arith, ℕ, ◌+◌, ◌-◌, ◌*◌, ◌%◌, ◌<◌, ◌≤◌, ◌==◌, true, false, List, [], ◌∷◌, ◌++◌, length, length-append, Ok, inl, inr}
+use Rattle.std.specs.Prelude.{◌⊎◌}
+use Rattle.std.proofs.lemmas.Bool.Decides.{nat_tests}
+use Rattle.table_forms.specs.Verdict.{Thrown, look_up_place}
+use Rattle.rv64_isa.specs.State.{State, Part}
+use Rattle.rv64_machine.specs.Load.{word_loaded}
+use Rattle.elf_image.specs.Clean.{CleanImage}
+use Rattle.eh_run.specs.Program.{program_of}
+use Rattle.region_forms.specs.World.{World}
+use Rattle.linear_forms.specs.Stub.{Function, compiled, end_catch, terminating, call_unexpected}
+use Rattle.linear_forms.specs.Activation.{Activation, look}
+use Rattle.linear_forms.specs.UnitRun.{code_of}
+use Rattle.machine_forms.specs.Shape.{return_offset}
+use Rattle.machine_forms.specs.StubCode.{stub_first}
+use Rattle.machine_pieces.specs.Standing.{address}
+use Rattle.machine_pieces.specs.Frames.{AddressAt}
+use Rattle.machine_stubs.specs.Stretches.{stub_word, frame_size}
+use Rattle.image_tables.specs.Functions.{IsThere, frame_of, records_end, first_byte, operation_at}
+use Rattle.image_tables.specs.TableLaws.{IsByteOf}
+use Rattle.raise_simulation.specs.OpenCalls.{HasRow, CallsStand, outer_ip}
+use Rattle.raise_simulation.specs.Tables.{said}
+use Rattle.raise_simulation.specs.Opens.{Open, activations, calls, Judge, TablesAgree, IsFirst, IsBarred}
+use Rattle.machine_simulation.specs.Plan.{Plan, function, shape, setting}
+use Rattle.machine_simulation.specs.StubCalls.{StubWaits, DestructorWaits, UnexpectedWaits, LeavingWaits}
+use Rattle.machine_simulation.specs.Calls.{CallsWait, stored_behind}
+use Rattle.machine_simulation.specs.Matches.{FrameIs, UnitStands}
+use Rattle.machine_raises.specs.Stacks.{IsRunning, GoesOnIn}
+use Rattle.machine_raises.proofs.Words.{byte_before, calls_a_word}
+use Rattle.machine_raises.proofs.Saying.{SaysAll, has_row, outermost}
+use Rattle.linear_forms.specs.Tables.{bare}
+use Rattle.raise_simulation.specs.Verdicts.{told_of, cover_of}
+
+-- ---- the open calls among those that wait, up to terminate
+unfoldable pub opens_of : (p : Plan) (fs : List Activation) (v : World) (memory : List Part) (stack back limit : ℕ) → CallsWait p fs v memory stack back limit → List Open
+opens_of p [] v memory stack back limit w = []
+opens_of p (a ∷ fs) v memory stack back limit (inl (less, n, outer, waits, more)) =
+    record { activation = a; call = record { size = (shape p n).size; back = outer } } ∷ opens_of p fs v memory (stack + (shape p n).size) outer a.frame.call more
+opens_of p (a ∷ fs) v memory stack back limit (inr (inl (outer, waits, more))) =
+    record { activation = a; call = record { size = frame_size a.function; back = outer } } ∷ opens_of p fs v memory (stack + frame_size a.function) outer limit more
+opens_of p (a ∷ fs) v memory stack back limit (inr (inr w)) = []
+
+unfoldable pub tail_of : (p : Plan) (fs : List Activation) (v : World) (memory : List Part) (stack back limit : ℕ) → CallsWait p fs v memory stack back limit → List Activation
+tail_of p [] v memory stack back limit w = []
+tail_of p (a ∷ fs) v memory stack back limit (inl (less, n, outer, waits, more)) = tail_of p fs v memory (stack + (shape p n).size) outer a.frame.call more
+tail_of p (a ∷ fs) v memory stack back limit (inr (inl (outer, waits, more))) = tail_of p fs v memory (stack + frame_size a.function) outer limit more
+tail_of p (a ∷ fs) v memory stack back limit (inr (inr w)) = a ∷ fs
+
+pub all_are : (p : Plan) (fs : List Activation) (v : World) (memory : List Part) (stack back limit : ℕ) (w : CallsWait p fs v memory stack back limit) →
+    activations (opens_of p fs v memory stack back limit w) ++ tail_of p fs v memory stack back limit w ≡ fs
+unfolding opens_of tail_of
+all_are p [] v memory stack back limit w = refl
+all_are p (a ∷ fs) v memory stack back limit (inl (less, n, outer, waits, more)) = ap (λ xs. a ∷ xs) (all_are p fs v memory (stack + (shape p n).size) outer a.frame.call more)
+all_are p (a ∷ fs) v memory stack back limit (inr (inl (outer, waits, more))) = ap (λ xs. a ∷ xs) (all_are p fs v memory (stack + frame_size a.function) outer limit more)
+all_are p (a ∷ fs) v memory stack back limit (inr (inr w)) = refl
+
+-- ---- one open call
+-- a return address that a frame holds is loaded
+pub saved_back : (s : State) (stack back : ℕ) → AddressAt s.memory (stack + return_offset) back → word_loaded s (stack + 8) ≡ Ok back
+saved_back s stack back h =
+    let test : ((stack + 8) % 8 == 0) ≡ true = grind (arith, nat_tests, h.aligned) in
+    rw test (rw h.holds.there (ap Ok h.holds.is))
+
+pub big_frame : (p : Plan) (n : ℕ) → FrameIs (function p n) → 16 ≤ (shape p n).size
+big_frame p n is = omega (arith, is.size)
+
+-- where a call goes on, with its bytes
+pub record GoesOnAt (p : Plan) (a : Activation) (ip : ℕ) : Type 0 where
+  pub there : IsThere p.unit a.function
+  pub byte : ℕ
+  pub far : 8 ≤ byte
+  pub inside : IsByteOf p.unit a.function a.place byte
+  pub is : ip ≡ first_byte p.unit a.function + byte + 1
+
+pub compiled_at : (p : Plan) (n ip : ℕ) (a : Activation) → p.base ≡ records_end p.unit → n < length p.unit.functions → a.function ≡ compiled n → GoesOnIn p n a.place ip → GoesOnAt p a ip
+compiled_at p n ip a base known callee on =
+    let b = byte_before p n a.place ip base on in
+    record {
+      there = subst (IsThere p.unit) (sym callee) known;
+      byte = b.byte;
+      far = b.far;
+      inside = subst (λ f. IsByteOf p.unit f a.place b.byte) (sym callee) (record { first = b.first; last = b.last });
+      is = b.is ∙ ap (λ f. first_byte p.unit f + b.byte + 1) (sym callee);
+    }
+
+-- the k-th word of one of the runtime's own functions, in an operation of it
+stub_at : (p : Plan) (f : Function) (place k ip : ℕ) (a : Activation) → p.base ≡ records_end p.unit → a.function ≡ f → a.place ≡ place → IsThere p.unit f → 3 ≤ k → IsByteOf p.unit f place (4 * k - 1) →
+    ip ≡ stub_word p.base f k → first_byte p.unit f ≡ records_end p.unit + 4 * stub_first f → GoesOnAt p a ip
+stub_at p f place k ip a base callee at there far inside is first = record {
+  there = subst (IsThere p.unit) (sym callee) there;
+  byte = 4 * k - 1;
+  far = omega (arith, far);
+  inside = subst (λ g. IsByteOf p.unit g a.place (4 * k - 1)) (sym callee) (subst (λ q. IsByteOf p.unit f q (4 * k - 1)) (sym at) inside);
+  is = omega (arith, is, base, far, first) ∙ ap (λ g. first_byte p.unit g + (4 * k - 1) + 1) (sym callee);
+}
+
+stub_waits_at : (p : Plan) (a : Activation) (v : World) (memory : List Part) (stack back outer : ℕ) → p.base ≡ records_end p.unit → StubWaits p a v memory stack back outer → GoesOnAt p a back
+stub_waits_at p a v memory stack back outer base w = by w.waits
+  where
+    by : DestructorWaits p a v memory stack back ⊎ UnexpectedWaits p a v memory stack back ⊎ LeavingWaits p a v memory stack back → GoesOnAt p a back
+    by (inl d) = stub_at p end_catch 1 13 back a base d.callee d.place tt (omega arith) (record { first = omega arith; last = omega arith }) d.returns refl
+    by (inr (inl x)) = stub_at p call_unexpected 1 10 back a base x.callee x.place tt (omega arith) (record { first = omega arith; last = omega arith }) x.returns refl
+    by (inr (inr l)) = by_place l l.returns
+      where
+        by_place : (l : LeavingWaits p a v memory stack back) → ((a.place ≡ 15) × (back ≡ stub_word p.base call_unexpected 55)) ⊎ ((a.place ≡ 16) × (back ≡ stub_word p.base call_unexpected 57)) → GoesOnAt p a back
+        by_place l (inl r) = stub_at p call_unexpected 15 55 back a base l.callee r.0 tt (omega arith) (record { first = omega arith; last = omega arith }) r.1 refl
+        by_place l (inr r) = stub_at p call_unexpected 16 57 back a base l.callee r.0 tt (omega arith) (record { first = omega arith; last = omega arith }) r.1 refl
+
+-- the frame of one of the runtime's own functions that waits
+stub_frame_of : (p : Plan) (a : Activation) (v : World) (memory : List Part) (stack back outer : ℕ) → StubWaits p a v memory stack back outer → (frame_of p.unit a.function ≡ frame_size a.function) × (16 ≤ frame_size a.function)
+stub_frame_of p a v memory stack back outer w = by w.waits
+  where
+    of : (f : Function) → a.function ≡ f → frame_of p.unit f ≡ frame_size f → 16 ≤ frame_size f → (frame_of p.unit a.function ≡ frame_size a.function) × (16 ≤ frame_size a.function)
+    of f callee same big = (ap (frame_of p.unit) callee ∙ (same ∙ ap frame_size (sym callee)), subst (λ g. 16 ≤ frame_size g) (sym callee) big)
+
+    by : DestructorWaits p a v memory stack back ⊎ UnexpectedWaits p a v memory stack back ⊎ LeavingWaits p a v memory stack back → (frame_of p.unit a.function ≡ frame_size a.function) × (16 ≤ frame_size a.function)
+    by (inl d) = of end_catch d.callee refl (omega arith)
+    by (inr (inl x)) = of call_unexpected x.callee refl (omega arith)
+    by (inr (inr l)) = of call_unexpected l.callee refl (omega arith)
+
+-- ---- all of them
+-- what the stack has from an address on, and what the tables say of it
+pub record StackPart (p : Plan) (i : CleanImage) (judge : Judge) (thrown : Thrown) (s : State) (ip stack : ℕ) (opens : List Open) (tail : List Activation) : Type 0 where
+  pub stand : CallsStand s (program_of i).image.fdes ip stack (calls opens)
+  pub agree : TablesAgree (code_of p.unit) (operation_at p.unit) judge (said s (program_of i).image.fdes thrown) ip opens
+  pub ends : IsFirst (program_of i).image.fdes (said s (program_of i).image.fdes thrown) (outer_ip ip (calls opens)) tail ⊎
+      IsBarred (code_of p.unit) (said s (program_of i).image.fdes thrown) (outer_ip ip (calls opens)) tail
+
+pub one_more : (p : Plan) (i : CleanImage) (judge : Judge) (thrown : Thrown) (s : State) (a : Activation) (size ip stack back : ℕ) (opens : List Open) (tail : List Activation) → IsRunning p i s →
+    SaysAll p.unit (said s (program_of i).image.fdes thrown) judge → GoesOnAt p a ip → frame_of p.unit a.function ≡ size → 16 ≤ size → 0x7000_0000 ≤ stack → stack + size ≤ 0x7100_0000 → AddressAt s.memory (stack + return_offset) back →
+    StackPart p i judge thrown s back (stack + size) opens tail → StackPart p i judge thrown s ip stack (record { activation = a; call = record { size = size; back = back } } ∷ opens) tail
+one_more p i judge thrown s a size ip stack back opens tail running says at frame big low high saved more = record {
+  stand = (
+    record {
+      row = subst (HasRow (program_of i).image.fdes (look_up_place ip false)) frame (has_row p i s a.function a.place at.byte ip running at.there at.inside at.far at.is);
+      some = big;
+      low = low;
+      high = high;
+      saved = saved_back s stack back saved;
+    },
+    more.stand,
+  );
+  agree = (says.operation a at.byte ip at.there at.inside at.is, more.agree);
+  ends = more.ends;
+}
+
+pub waiting_stack : (p : Plan) (i : CleanImage) (judge : Judge) (thrown : Thrown) (s : State) (fs : List Activation) (v : World) (stack back limit : ℕ) → IsRunning p i s →
+    SaysAll p.unit (said s (program_of i).image.fdes thrown) judge → UnitStands p s.memory → (w : CallsWait p fs v s.memory stack back limit) →
+    StackPart p i judge thrown s back stack (opens_of p fs v s.memory stack back limit w) (tail_of p fs v s.memory stack back limit w)
+unfolding opens_of tail_of
+waiting_stack p i judge thrown s [] v stack back limit running says unit w =
+    let is : back ≡ records_end p.unit + 7 + 1 = omega (arith, w.0, running.base) in
+    record {
+      stand = tt;
+      agree = tt;
+      ends = inl (record { none = refl; outermost = outermost p i s 7 back running (omega arith) is; says = says.start 7 back (omega arith) is });
+    }
+waiting_stack p i judge thrown s (a ∷ fs) v stack back limit running says unit (inl (less, n, outer, waits, more)) =
+    let front = waits.front in
+    let stands = waits.stands in
+    let some = calls_a_word (shape p n) waits.op front (unit.registers n a.place waits.op waits.there) waits.calls waits.is in
+    let count = ap length waits.is in
+    let on : GoesOnIn p n a.place back = record {
+      operation = waits.op;
+      there = waits.there;
+      word = length front - 1;
+      inside = omega (arith, count, length-append front (stored_behind (shape p n) waits.op), some);
+      is = waits.returns ∙ ap (address (setting p n).ground) (omega (arith, some));
+    } in
+    one_more p i judge thrown s a (shape p n).size back stack outer (opens_of p fs v s.memory (stack + (shape p n).size) outer a.frame.call more) (tail_of p fs v s.memory (stack + (shape p n).size) outer a.frame.call more)
+    running says (compiled_at p n back a running.base stands.known waits.callee on) (ap (frame_of p.unit) waits.callee) (big_frame p n (unit.frames n stands.known)) (omega (arith, stands.above)) stands.below stands.saved
+    (waiting_stack p i judge thrown s fs v (stack + (shape p n).size) outer a.frame.call running says unit more)
+waiting_stack p i judge thrown s (a ∷ fs) v stack back limit running says unit (inr (inl (outer, waits, more))) =
+    let frame = stub_frame_of p a v s.memory stack back outer waits in
+    let stands = waits.stands in
+    one_more p i judge thrown s a (frame_size a.function) back stack outer (opens_of p fs v s.memory (stack + frame_size a.function) outer limit more) (tail_of p fs v s.memory (stack + frame_size a.function) outer limit more)
+    running says (stub_waits_at p a v s.memory stack back outer running.base waits) frame.0 frame.1 stands.above stands.below stands.saved
+    (waiting_stack p i judge thrown s fs v (stack + frame_size a.function) outer limit running says unit more)
+waiting_stack p i judge thrown s (a ∷ fs) v stack back limit running says unit (inr (inr (waits, hidden))) =
+    let at = stub_at p terminating 0 6 back a running.base waits.callee waits.place tt (omega arith) (record { first = omega arith; last = omega arith }) waits.returns refl in
+    let says_so = says.operation a at.byte back at.there at.inside at.is in
+    let barred : cover_of (code_of p.unit) a ≡ bare = ap (λ f. look (code_of p.unit) f a.place) waits.callee ∙ ap (look (code_of p.unit) terminating) waits.place in
+    record {
+      stand = tt;
+      agree = tt;
+      ends = inr (record { first = a; others = fs; is = refl; bars = barred; says = says_so ∙ ap (λ c. told_of (operation_at p.unit a.function) c (judge a)) barred });
+    }

@@ -1,0 +1,4 @@
+pub mod Static
+pub mod Ints
+pub mod Known
+pub mod Asked

@@ -1,5 +1,0 @@
-use Rattle.operation_simulation.proofs.Reading.{bytes_run}
-use Rattle.operation_simulation.proofs.laws.bytes_run.Goals as goal
-
-pub returns : goal.returns
-returns c = bytes_run c.places_are_written.ensures c.calls_are_turns.ensures

@@ -1,5 +1,0 @@
-use Rattle.operation_simulation.proofs.Calling.{calls_run}
-use Rattle.operation_simulation.proofs.laws.calls_run.Goals as goal
-
-pub returns : goal.returns
-returns c = calls_run c.addresses_are_computed.ensures

@@ -1,5 +1,0 @@
-use Rattle.operation_simulation.proofs.Ending.{mains_end}
-use Rattle.operation_simulation.proofs.laws.mains_end.Goals as goal
-
-pub returns : goal.returns
-returns c = mains_end c.calls_are_turns.ensures

@@ -1,5 +1,0 @@
-use Rattle.operation_simulation.proofs.Operations.{operations_run}
-use Rattle.operation_simulation.proofs.laws.operations_run.Goals as goal
-
-pub returns : goal.returns
-returns c = operations_run c.places_are_written.ensures c.addresses_are_computed.ensures

@@ -1,5 +1,0 @@
-use Rattle.operation_simulation.proofs.Fields.{pieces_fit}
-use Rattle.operation_simulation.proofs.laws.pieces_fit.Goals as goal
-
-pub returns : goal.returns
-returns c = pieces_fit

@@ -1,5 +1,0 @@
-use Rattle.operation_simulation.proofs.Room.{stack_has_room}
-use Rattle.operation_simulation.proofs.laws.stack_has_room.Goals as goal
-
-pub returns : goal.returns
-returns c = stack_has_room

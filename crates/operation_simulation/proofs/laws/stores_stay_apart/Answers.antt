@@ -1,5 +1,0 @@
-use Rattle.operation_simulation.proofs.Holding.{stores_stay_apart}
-use Rattle.operation_simulation.proofs.laws.stores_stay_apart.Goals as goal
-
-pub returns : goal.returns
-returns c = stores_stay_apart

@@ -1,5 +1,0 @@
-use Rattle.operation_simulation.proofs.Units.{units_stand}
-use Rattle.operation_simulation.proofs.laws.units_stand.Goals as goal
-
-pub returns : goal.returns
-returns c = units_stand c.stubs_stand.ensures

@@ -1,5 +1,0 @@
-use Rattle.raising_operations.proofs.Cancelling.{cancels_run}
-use Rattle.raising_operations.proofs.laws.cancels_run.Goals as goal
-
-pub returns : goal.returns
-returns c = cancels_run c.calls_are_turns.ensures c.calls_are_made.ensures c.values_are_computed.ensures c.forced_agree.ensures

@@ -1,5 +1,0 @@
-use Rattle.raising_operations.proofs.Modules.{modules_raise}
-use Rattle.raising_operations.proofs.laws.modules_raise.Goals as goal
-
-pub returns : goal.returns
-returns c = modules_raise c.calls_are_turns.ensures c.calls_are_made.ensures c.values_are_computed.ensures c.raises_agree.ensures

@@ -1,5 +1,0 @@
-use Rattle.raising_operations.proofs.Pads.{pads_run}
-use Rattle.raising_operations.proofs.laws.pads_run.Goals as goal
-
-pub returns : goal.returns
-returns c = pads_run

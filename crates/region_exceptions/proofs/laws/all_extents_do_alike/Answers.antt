@@ -1,0 +1,5 @@
+use Rattle.region_exceptions.proofs.Extents.{all_extents_do_alike}
+use Rattle.region_exceptions.proofs.laws.all_extents_do_alike.Goals as goal
+
+pub returns : goal.returns
+returns c = all_extents_do_alike c.caught_list_follows.ensures

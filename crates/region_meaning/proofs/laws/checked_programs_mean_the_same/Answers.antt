@@ -1,0 +1,5 @@
+use Rattle.region_meaning.proofs.Sources.{checked_programs_mean_the_same}
+use Rattle.region_meaning.proofs.laws.checked_programs_mean_the_same.Goals as goal
+
+pub returns : goal.returns
+returns c = checked_programs_mean_the_same c.caught_list_follows.ensures

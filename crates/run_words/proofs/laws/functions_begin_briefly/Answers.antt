@@ -1,5 +1,0 @@
-use Rattle.run_words.proofs.Counts.{functions_begin_briefly}
-use Rattle.run_words.proofs.laws.functions_begin_briefly.Goals as goal
-
-pub returns : goal.returns
-returns c = functions_begin_briefly

@@ -1,5 +1,0 @@
-use Rattle.run_words.proofs.Counts.{operations_have_words}
-use Rattle.run_words.proofs.laws.operations_have_words.Goals as goal
-
-pub returns : goal.returns
-returns c = operations_have_words

@@ -1,5 +1,0 @@
-use Rattle.scope_rules.proofs.Turns.{call_with-spends}
-use Rattle.scope_rules.proofs.laws.turns_do_not_rise.Goals as goal
-
-pub returns : goal.returns
-returns c = λ p limit fuel callee this given d w. call_with-spends p limit fuel callee this given d w

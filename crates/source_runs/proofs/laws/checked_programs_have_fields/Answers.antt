@@ -1,5 +1,0 @@
-use Rattle.source_runs.proofs.CheckedFields.{checked_have_fields}
-use Rattle.source_runs.proofs.laws.checked_programs_have_fields.Goals as goal
-
-pub returns : goal.returns
-returns c = record { fields = checked_have_fields }

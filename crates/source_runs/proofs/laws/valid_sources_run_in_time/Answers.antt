@@ -1,5 +1,0 @@
-use Rattle.source_runs.proofs.Costs.{sources_run_in_time}
-use Rattle.source_runs.proofs.laws.valid_sources_run_in_time.Goals as goal
-
-pub returns : goal.returns
-returns c = record { run = sources_run_in_time }

@@ -1,4 +1,0 @@
-pub mod Clauses
-pub mod Runs
-pub mod Costs
-pub mod Fields

@@ -1,4 +1,0 @@
-//! What the linear code of a source's regions does.
-#![tactic(auto)]
-
-pub mod laws;

@@ -1,5 +1,0 @@
-use Rattle.source_simulation.proofs.Destructors.{empty_constructors_are_same}
-use Rattle.source_simulation.proofs.laws.empty_constructors_are_same.Goals as goal
-
-pub returns : goal.returns
-returns c = empty_constructors_are_same

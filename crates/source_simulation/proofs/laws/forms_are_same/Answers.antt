@@ -1,5 +1,0 @@
-use Rattle.source_simulation.proofs.Forms.{forms_are_same}
-use Rattle.source_simulation.proofs.laws.forms_are_same.Goals as goal
-
-pub returns : goal.returns
-returns c = forms_are_same c.caught_list_follows.ensures

@@ -1,5 +1,0 @@
-use Rattle.source_simulation.proofs.Scopes.{object_scopes_are_same}
-use Rattle.source_simulation.proofs.laws.object_scopes_are_same.Goals as goal
-
-pub returns : goal.returns
-returns c = object_scopes_are_same

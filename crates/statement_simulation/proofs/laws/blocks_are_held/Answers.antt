@@ -1,5 +1,0 @@
-use Rattle.region_simulation.proofs.Flowing.{does_inside}
-use Rattle.statement_simulation.proofs.laws.blocks_are_held.Goals as goal
-
-pub returns : goal.returns
-returns c = does_inside

@@ -1,5 +1,0 @@
-use Rattle.statement_simulation.proofs.Members.{default_constructors_run_alike}
-use Rattle.statement_simulation.proofs.laws.default_constructors_run_alike.Goals as goal
-
-pub returns : goal.returns
-returns c = default_constructors_run_alike

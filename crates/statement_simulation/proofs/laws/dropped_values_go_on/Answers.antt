@@ -1,8 +1,0 @@
-use Rattle.region_forms.specs.LowerExpression.{first_temporary, dropped}
-use Rattle.statement_simulation.proofs.Ending.{does_next}
-use Rattle.statement_simulation.proofs.Dropping.{dropped_goes}
-use Rattle.statement_simulation.proofs.laws.dropped_values_go_on.Goals as goal
-
-pub returns : goal.returns
-returns c = λ l own gives b v c fit n i d e act rest ys evaluates next.
-    does_next l own gives b v c n i d act (λ z. rest) (dropped l e (first_temporary l)) ys (dropped_goes l own b v c fit e act evaluates) (λ z. next)

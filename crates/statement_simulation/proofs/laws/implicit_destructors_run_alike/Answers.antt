@@ -1,5 +1,0 @@
-use Rattle.statement_simulation.proofs.Members.{implicit_destructors_run_alike}
-use Rattle.statement_simulation.proofs.laws.implicit_destructors_run_alike.Goals as goal
-
-pub returns : goal.returns
-returns c = implicit_destructors_run_alike

@@ -1,5 +1,0 @@
-use Rattle.statement_simulation.proofs.Jumps.{jumps_stay_in_loops}
-use Rattle.statement_simulation.proofs.laws.jumps_stay_in_loops.Goals as goal
-
-pub returns : goal.returns
-returns c = jumps_stay_in_loops

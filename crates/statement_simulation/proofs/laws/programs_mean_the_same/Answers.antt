@@ -1,5 +1,0 @@
-use Rattle.statement_simulation.proofs.Programs.{programs_mean_the_same}
-use Rattle.statement_simulation.proofs.laws.programs_mean_the_same.Goals as goal
-
-pub returns : goal.returns
-returns c = programs_mean_the_same

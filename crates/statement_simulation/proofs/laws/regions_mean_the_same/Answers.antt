@@ -1,5 +1,0 @@
-use Rattle.statement_simulation.proofs.Whole.{regions_mean_the_same}
-use Rattle.statement_simulation.proofs.laws.regions_mean_the_same.Goals as goal
-
-pub returns : goal.returns
-returns c = regions_mean_the_same

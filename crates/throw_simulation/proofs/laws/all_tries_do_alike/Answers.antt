@@ -1,5 +1,0 @@
-use Rattle.throw_simulation.proofs.Exceptions.{all_tries_do_alike}
-use Rattle.throw_simulation.proofs.laws.all_tries_do_alike.Goals as goal
-
-pub returns : goal.returns
-returns c = all_tries_do_alike c.caught_list_follows.ensures

@@ -1,5 +1,0 @@
-use Rattle.throw_simulation.proofs.Entering.{enters_alike}
-use Rattle.throw_simulation.proofs.laws.enters_alike.Goals as goal
-
-pub returns : goal.returns
-returns c = enters_alike c.caught_list_follows.ensures

@@ -1,5 +1,0 @@
-use Rattle.throw_simulation.proofs.LettingGo.{handlers_end_alike}
-use Rattle.throw_simulation.proofs.laws.handlers_end_alike.Goals as goal
-
-pub returns : goal.returns
-returns c = handlers_end_alike c.caught_list_follows.ensures

@@ -1,5 +1,0 @@
-use Rattle.throw_simulation.proofs.Modules.{modules_answer_alike}
-use Rattle.throw_simulation.proofs.laws.modules_answer_alike.Goals as goal
-
-pub returns : goal.returns
-returns c = modules_answer_alike c.caught_list_follows.ensures

@@ -1,5 +1,0 @@
-use Rattle.throw_simulation.proofs.Operands.{operands_throw_alike}
-use Rattle.throw_simulation.proofs.laws.operands_throw_alike.Goals as goal
-
-pub returns : goal.returns
-returns c = operands_throw_alike c.caught_list_follows.ensures

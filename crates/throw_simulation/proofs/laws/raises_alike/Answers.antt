@@ -1,5 +1,0 @@
-use Rattle.throw_simulation.proofs.Raises.{raises_alike}
-use Rattle.throw_simulation.proofs.laws.raises_alike.Goals as goal
-
-pub returns : goal.returns
-returns c = raises_alike c.caught_list_follows.ensures

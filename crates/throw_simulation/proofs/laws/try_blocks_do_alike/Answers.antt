@@ -1,5 +1,0 @@
-use Rattle.throw_simulation.proofs.Clauses.{try_blocks_do_alike}
-use Rattle.throw_simulation.proofs.laws.try_blocks_do_alike.Goals as goal
-
-pub returns : goal.returns
-returns c = try_blocks_do_alike c.caught_list_follows.ensures

@@ -1,5 +1,0 @@
-use Rattle.turn_weights.proofs.Runs.{runs_weigh_by_calls}
-use Rattle.turn_weights.proofs.laws.runs_weigh_by_calls.Goals as goal
-
-pub returns : goal.returns
-returns c = runs_weigh_by_calls

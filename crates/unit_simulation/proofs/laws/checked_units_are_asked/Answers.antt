@@ -1,5 +1,0 @@
-use Rattle.unit_simulation.proofs.Asking.{checked_units_are_asked}
-use Rattle.unit_simulation.proofs.laws.checked_units_are_asked.Goals as goal
-
-pub returns : goal.returns
-returns c = checked_units_are_asked c.programs_are_short.ensures c.registers_suffice.ensures c.tokens_are_few.ensures c.units_are_bounded.ensures
