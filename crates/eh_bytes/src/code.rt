@@ -3,6 +3,7 @@ ghost use Rattle.std.specs.Prelude.{◌≡◌, ◌<◌, ◌&&◌, length};
 ghost use Rattle.std.specs.List.{list_any};
 ghost use Rattle.eh_bytes.specs.Memory.{part_of, memory_of, covers, is_code, word_in, word_at};
 
+use crate::number::u64_from;
 use crate::segment::{Segment, Segments};
 
 // Whether the segment has a byte at the address.
@@ -30,10 +31,7 @@ fn word_in(part: &Segment, at: usize) -> Option<u64>
     if bytes.len() < 8 {
         return None;
     }
-    let word = [
-        bytes[0], bytes[1], bytes[2], bytes[3], bytes[4], bytes[5], bytes[6], bytes[7],
-    ];
-    Some(u64::from_le_bytes(word))
+    Some(u64_from(bytes))
 }
 
 impl Segments {

@@ -20,12 +20,12 @@ impl From<ImageError> for Status {
     fn from(error: ImageError) -> Status {
         match error {
             ImageError::Refused {
-                number,
+                reason,
                 place,
                 location,
                 other,
             } => Status::ImageRefused {
-                number,
+                number: reason.number(),
                 place,
                 location,
                 other,

@@ -5,6 +5,7 @@ use Rattle.std.specs.Bool.{⊤}
 use Rattle.std.specs.Int.{w64, from_le_bytes}
 use Rattle.eh_bytes.specs.Memory.{Part, Memory, covers, part_with, is_code, word_in, word_at}
 use Rattle.table_forms.specs.Fault.{least}
+use Rattle.table_forms.specs.declared.reason.Reason.TheVariants.{TableWritable}
 use Rattle.table_forms.proofs.Least.{holds}
 use Rattle.elf_image.specs.Runnable.{written_in, written_at}
 
@@ -102,4 +103,4 @@ unwritten memory a e = by (part_with memory a) e
 
     by : (o : Option Part) → least (written_in o a) ≡ None → IsFixed o
     by None e = tt
-    by (Some part) e = open_not part.write (holds (not part.write) 69 _ e)
+    by (Some part) e = open_not part.write (holds (not part.write) TableWritable _ e)

@@ -9,7 +9,8 @@ use Rattle.eh_bytes.specs.declared.error.ByteError.TheVariants.{Truncated}
 use Rattle.eh_bytes.specs.Encoded.{applied, applies, extended, extends, raw, encoded}
 use Rattle.eh_bytes.specs.Field.{Reading, behind, fixed, at}
 use Rattle.eh_bytes.specs.Memory.{Part, Memory, part_with}
-use Rattle.table_forms.specs.Fault.{Fault, least, answer, unless, numbered, frame_number, ◌>>=◌}
+use Rattle.table_forms.specs.declared.reason.Reason.TheVariants.{Encoding}
+use Rattle.table_forms.specs.Fault.{Fault, least, answer, unless, with_reason, frame_reason, ◌>>=◌}
 use Rattle.table_forms.specs.Header.{Rows, Encodings, is_bare, encoding_faults, encodings_at, in_header, table_rows, with_rows, with_pointer, with_encodings, header_at}
 use Rattle.table_forms.specs.Parts.{Parts}
 use Rattle.table_forms.specs.Frames.{Frames, parts_behind, table_disagreement, frames_in, frames_from, frames}
@@ -54,7 +55,7 @@ value_read address n = by (n == 0) (extended 4 n == 0) refl refl
         let z : extended 4 n ≡ 0 = grind (arith, nat_tests, f) in
         absurd (let t : true ≡ false = sym (ap (λ k. k == 0) (extended_zero n z)) ∙ e in cc)
 
-numbered_ok : {A : Type 0} (place : ℕ) (r : Result A ByteError) (x : A) → numbered frame_number place r ≡ Ok x → r ≡ Ok x
+numbered_ok : {A : Type 0} (place : ℕ) (r : Result A ByteError) (x : A) → with_reason frame_reason place r ≡ Ok x → r ≡ Ok x
 numbered_ok place (Ok y) x e = cc
 numbered_ok place (Err cause) x e = absurd cc
 
@@ -99,10 +100,10 @@ with_read part p e (Ok (n, next)) is none = by (table_rows (e.count == 0x03 && e
   where
     leads : least (encoding_faults part p e) ≡ None → LeadsTo part (p + 4) (start_of part p e n)
     leads none =
-        let first : List Fault = unless (e.pointer == 0x1b) 3 (part.file_at + (p + 1)) in
-        let second : List Fault = unless (is_bare e || e.count == 0x03) 3 (part.file_at + (p + 2)) in
-        let third : List Fault = unless (is_bare e || e.table == 0x3b) 3 (part.file_at + (p + 3)) in
-        let known = holds (e.pointer == 0x1b) 3 (part.file_at + (p + 1)) (none_first first second (none_first (first ++ second) third none)) in
+        let first : List Fault = unless (e.pointer == 0x1b) Encoding (part.file_at + (p + 1)) in
+        let second : List Fault = unless (is_bare e || e.count == 0x03) Encoding (part.file_at + (p + 2)) in
+        let third : List Fault = unless (is_bare e || e.table == 0x3b) Encoding (part.file_at + (p + 3)) in
+        let known = holds (e.pointer == 0x1b) Encoding (part.file_at + (p + 1)) (none_first first second (none_first (first ++ second) third none)) in
         let read = there part (p + 4) n next is in (
           applied pcrel (part.address + (p + 4)) (extended 4 n),
           read.0,

@@ -7,6 +7,7 @@ use Rattle.std.proofs.lemmas.List.{length-take, length-replicate}
 use Rattle.eh_bytes.specs.declared.segment.Segment.{Segment}
 use Rattle.eh_bytes.specs.Extent.{Extent, extent_of, extents_of, AreBelow}
 use Rattle.eh_bytes.specs.Memory.{Part, part_of}
+use Rattle.table_forms.specs.declared.reason.Reason.TheVariants.{SegmentRange, SegmentOverlap, NoFrames, NoRuntime}
 use Rattle.table_forms.specs.Fault.{Fault, least, answer, unless, ◌>>=◌}
 use Rattle.table_forms.proofs.Least.{none_first, none_second, holds}
 use Rattle.elf_image.specs.declared.program.ProgramHeader.{ProgramHeader}
@@ -33,12 +34,12 @@ all_end : (file : List ℕ) (len before low : ℕ) (earlier hs : List ProgramHea
 all_end file len before low earlier [] e f = tt
 all_end file len before low earlier (h ∷ hs) e f =
     let one = none_first (one_faults len before earlier h) (load_faults len (before + h.memory_size) (earlier ++ h ∷ []) hs) e in
-    let placed = holds (is_placed len before h) 64 h.place (none_first (unless (is_placed len before h) 64 h.place) (unless (not (list_any (meet h) earlier)) 65 h.place) one) in
-    let is = holds (is_low low h) 64 h.place (none_first (unless (is_low low h) 64 h.place) (low_faults (low + h.memory_size) hs) f) in (
+    let placed = holds (is_placed len before h) SegmentRange h.place (none_first (unless (is_placed len before h) SegmentRange h.place) (unless (not (list_any (meet h) earlier)) SegmentOverlap h.place) one) in
+    let is = holds (is_low low h) SegmentRange h.place (none_first (unless (is_low low h) SegmentRange h.place) (low_faults (low + h.memory_size) hs) f) in (
       ends file len before low h placed is,
       all_end file len (before + h.memory_size) (low + h.memory_size) (earlier ++ h ∷ []) hs
           (none_second (one_faults len before earlier h) (load_faults len (before + h.memory_size) (earlier ++ h ∷ []) hs) e)
-          (none_second (unless (is_low low h) 64 h.place) (low_faults (low + h.memory_size) hs) f),
+          (none_second (unless (is_low low h) SegmentRange h.place) (low_faults (low + h.memory_size) hs) f),
     )
 
 -- what an image to run keeps to
@@ -59,15 +60,15 @@ faultless file none =
     let headers = headers_of file in
     let ls = loaded headers in
     let a = load_faults (length file) 0 [] ls in
-    let b = unless (is_within ls (frames_header headers)) 66 0 in
+    let b = unless (is_within ls (frames_header headers)) NoFrames 0 in
     let c = runtime_faults file ls (runtime_header headers) in
     let low = low_faults 0 ls in
-    let table = unless (has_table file ls (frames_header headers)) 66 0 in
-    let record_there = unless (is_some (runtime_header headers)) 67 0 in
+    let table = unless (has_table file ls (frames_header headers)) NoFrames 0 in
+    let record_there = unless (is_some (runtime_header headers)) NoRuntime 0 in
     let first = none_first ((a ++ b) ++ c) ((low ++ table) ++ record_there) none in
     let second = none_second ((a ++ b) ++ c) ((low ++ table) ++ record_there) none in record {
       below = all_end file (length file) 0 0 [] ls (none_first a b (none_first (a ++ b) c first)) (none_first low table (none_first (low ++ table) record_there second));
-      places = has_places (runtime_header headers) file (holds (is_some (runtime_header headers)) 67 0 (none_second (low ++ table) record_there second));
+      places = has_places (runtime_header headers) file (holds (is_some (runtime_header headers)) NoRuntime 0 (none_second (low ++ table) record_there second));
     }
 
 pub may_run : (file : List ℕ) (i : Image) → elf file true ≡ Ok i → MayRun i

@@ -5,6 +5,7 @@ use Rattle.eh_bytes.specs.declared.encoded.Pointer.{Pointer}
 use Rattle.eh_bytes.specs.declared.frames.Region64.{Region64}
 use Rattle.eh_bytes.specs.Encoded.{encoded}
 use Rattle.eh_bytes.specs.Memory.{Part, Memory, part_with, word_at}
+use Rattle.table_forms.specs.declared.reason.Reason.TheVariants.{SiteOrder, SiteOutside, PadOutside, FilterOutside}
 use Rattle.table_forms.specs.Fault.{Fault, demand, refusal_of, least, answer, unless, ◌>>=◌}
 use Rattle.table_forms.specs.LsdaHead.{Head, Types, head_at, in_table}
 use Rattle.table_forms.specs.LsdaSites.{SiteRecord, site_records, site_of, site_faults}
@@ -33,7 +34,7 @@ same_entry : (ms ns : Memory) (part : Part) (head : Head) (types : Types) (named
     refusal_of (entry_at ms part head types named_at i) ≡ refusal_of (entry_at ns part head types named_at i)
 unfolding entry_at
 same_entry ms ns part head types named_at i h =
-    inside (demand (nat_le (head.actions_at + i * types.size) types.base) 9 (part.file_at + named_at))
+    inside (demand (nat_le (head.actions_at + i * types.size) types.base) FilterOutside (part.file_at + named_at))
   where
     place : ℕ
     place = types.base - i * types.size
@@ -74,9 +75,9 @@ same_records ms ns part region head before [] h = refl
 same_records ms ns part region head before (r ∷ rs) h =
     let s = site_of head region r in
     let place = part.file_at + r.at in
-    let begins : List Fault = unless (nat_le before s.start) 4 place in
-    let ends : List Fault = unless (nat_le s.end (region.start + region.length)) 5 place in
-    let pad = ap (λ (b : Bool). (begins ++ ends) ++ unless (s.pad == 0 || b) 6 place) (code_alike ms ns s.pad h) in
+    let begins : List Fault = unless (nat_le before s.start) SiteOrder place in
+    let ends : List Fault = unless (nat_le s.end (region.start + region.length)) SiteOutside place in
+    let pad = ap (λ (b : Bool). (begins ++ ends) ++ unless (s.pad == 0 || b) PadOutside place) (code_alike ms ns s.pad h) in
     let chain = ap (λ (fs : List Fault). cond (r.action == 0) [] fs) (same_chain ms ns part head r (chain_of part head r.action) h) in
     let rest = same_records ms ns part region head s.end rs h in
     ap (λ (fs : List Fault). (fs ++ action_faults ms part head r) ++ records_faults ms part region head s.end rs) pad ∙

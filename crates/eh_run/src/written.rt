@@ -3,14 +3,14 @@ ghost use Rattle.std.specs.Prelude.{◌≡◌, ◌++◌, Ok, option_map, flat_ma
 ghost use Rattle.eh_bytes.specs.Memory.{memory_of};
 ghost use Rattle.table_forms.specs.Fault.{least};
 ghost use Rattle.table_forms.specs.Frames as forms;
-ghost use Rattle.table_refusals.specs.Seen.{fault_of};
+ghost use Rattle.table_forms.specs.Seen.{fault_of};
 ghost use Rattle.elf_image.specs.Runnable.{frames_start, frames_written, written_at};
 ghost use Rattle.eh_run.specs.Written.{table_written, tables_written};
 
 use crate::start::frames_start;
 use eh_bytes::Segments;
 use frame_read::Fde;
-use table_refusals::{Refusal, joined, unless};
+use table_forms::{Reason, Refusal, joined, unless};
 
 // 69 where the segment that holds the address, if one does, may be written.
 #[tactic(auto, unfolding(table_forms::specs::Fault::least))]
@@ -19,7 +19,7 @@ fn written_at(memory: &Segments, address: u64) -> Option<Refusal>
 {
     let segment = memory.segment_with(address)?;
     let place = segment.file_at as u128 + (address - segment.address) as u128;
-    unless(!segment.write, 69, place)
+    unless(!segment.write, Reason::TableWritable, place)
 }
 
 // The same of the exception table of a function, if it names one.

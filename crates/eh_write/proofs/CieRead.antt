@@ -4,6 +4,7 @@ use Rattle.std.specs.Prelude.{Option, None, replicate}
 use Rattle.std.proofs.lemmas.Bool.Decides.{nat_tests}
 use Rattle.eh_bytes.specs.Memory.{Part}
 use Rattle.eh_bytes.specs.Spelling.{uleb_spelling, sleb_spelling, sleb_spelling_within}
+use Rattle.table_forms.specs.declared.reason.Reason.TheVariants.{Encoding}
 use Rattle.table_forms.specs.Fault.{◌>>=◌, demand}
 use Rattle.eh_bytes.specs.Field.{byte}
 use Rattle.eh_bytes.specs.Leb128.{sleb}
@@ -75,7 +76,7 @@ common_read part stop p k here ends =
     (λ n enough. nops_read the_coding part stop (p + 1 + 1 + 1) n k fourth (omega (arith, ends)) enough)
 
 direct_read : (part : Part) (stop p : ℕ) (rest : List ℕ) → From part stop p (0x1b ∷ rest) → direct_at part stop p ≡ Ok (27, p + 1)
-direct_read part stop p rest here = ap (λ r. r >>= (λ e. demand (is_direct e.0) 3 (part.file_at + p) >>= (λ _. Ok e))) (in_byte part stop p 27 rest here)
+direct_read part stop p rest here = ap (λ r. r >>= (λ e. demand (is_direct e.0) Encoding (part.file_at + p) >>= (λ _. Ok e))) (in_byte part stop p 27 rest here)
 
 -- the encodings of tables and locations, in so many bytes of data
 abbrev data_read : Bool → Letters

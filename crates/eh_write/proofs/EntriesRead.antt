@@ -10,7 +10,7 @@ use Rattle.eh_bytes.specs.Memory.{Part, Memory}
 use Rattle.eh_bytes.specs.Field.{at, behind}
 use Rattle.eh_bytes.specs.Encoded.{encoded}
 use Rattle.eh_bytes.specs.Listed.{ListedTable}
-use Rattle.table_forms.specs.Fault.{numbered, table_number}
+use Rattle.table_forms.specs.Fault.{with_reason, table_reason}
 use Rattle.table_forms.specs.LsdaHead.{in_table}
 use Rattle.table_forms.specs.LsdaTypes.{entry_at}
 use Rattle.eh_write.specs.Written.{entry_bytes, entries_from, front_bytes, table_bytes}
@@ -65,8 +65,8 @@ entry_stands bytes p place (u ∷ ts) rest (suc k) t here at =
 pub field_read : (part : Part) (p place t : ℕ) (more : List ℕ) → t < 2 ^ 64 → IsReached place t → drop p part.bytes ≡ entry_bytes place t ++ more →
     in_table (encoded 27 place) part p ≡ Ok (record { value = t; indirect = false }, p + 4)
 field_read part p place t more fits reached here =
-    ap (λ xs. numbered table_number (part.file_at + p) (behind p (encoded 27 place xs))) here ∙
-    ap (λ r. numbered table_number (part.file_at + p) (behind p r)) (type_read place t more fits reached)
+    ap (λ xs. with_reason table_reason (part.file_at + p) (behind p (encoded 27 place xs))) here ∙
+    ap (λ r. with_reason table_reason (part.file_at + p) (behind p r)) (type_read place t more fits reached)
 
 -- the types are reached from their entries
 pub reached_at : (first end base : ℕ) (ts : List ℕ) (j t : ℕ) → TypesAreNear first end base ts → slice_get ts j ≡ Some t → first ≤ base - 4 - 4 * j → base - 4 - 4 * j < end →

@@ -11,7 +11,7 @@ use Rattle.eh_bytes.specs.Spelling.{uleb_spelling_within, uleb_spelling, sleb_sp
 use Rattle.std.proofs.lemmas.List.{drop-drop, take-take}
 use Rattle.eh_bytes.proofs.Spelled.{magnitude}
 use Rattle.eh_bytes.proofs.ReadAgain.{uleb-uleb_spelling, sleb-sleb_spelling}
-use Rattle.table_forms.specs.Fault.{frame_number, numbered}
+use Rattle.table_forms.specs.Fault.{frame_reason, with_reason}
 use Rattle.table_forms.specs.Instruction.{in_frames}
 use Rattle.eh_write.specs.Distance.{distance_bytes, IsNear}
 use Rattle.eh_write.proofs.ChainsFound.{cut_stands}
@@ -22,8 +22,8 @@ abbrev pub From : Part → ℕ → ℕ → List ℕ → Type 0
 From part stop p xs = drop p (take stop part.bytes) ≡ xs
 
 pub read_from : {A : Type 0} (field : Field A) (part : Part) (stop p : ℕ) (xs : List ℕ) → From part stop p xs →
-    in_frames field part stop p ≡ numbered frame_number (part.file_at + p) (behind p (field xs))
-read_from field part stop p xs here = ap (λ ys. numbered frame_number (part.file_at + p) (behind p (field ys))) here
+    in_frames field part stop p ≡ with_reason frame_reason (part.file_at + p) (behind p (field xs))
+read_from field part stop p xs here = ap (λ ys. with_reason frame_reason (part.file_at + p) (behind p (field ys))) here
 
 pub in_byte : (part : Part) (stop p b : ℕ) (rest : List ℕ) → From part stop p (b ∷ rest) → in_frames byte part stop p ≡ Ok (b, p + 1)
 in_byte part stop p b rest here = read_from byte part stop p (b ∷ rest) here
@@ -31,27 +31,27 @@ in_byte part stop p b rest here = read_from byte part stop p (b ∷ rest) here
 pub in_uleb : (part : Part) (stop p n : ℕ) (rest : List ℕ) → n < 2 ^ 64 → From part stop p (uleb_spelling n ++ rest) →
     in_frames uleb part stop p ≡ Ok (n, p + length (uleb_spelling n))
 in_uleb part stop p n rest fits here =
-    read_from uleb part stop p (uleb_spelling n ++ rest) here ∙ ap (λ r. numbered frame_number (part.file_at + p) (behind p r)) (uleb-uleb_spelling n rest fits)
+    read_from uleb part stop p (uleb_spelling n ++ rest) here ∙ ap (λ r. with_reason frame_reason (part.file_at + p) (behind p r)) (uleb-uleb_spelling n rest fits)
 
 pub in_sleb : (part : Part) (stop p : ℕ) (z : ℤ) (rest : List ℕ) → magnitude z < 2 ^ 63 → From part stop p (sleb_spelling z ++ rest) →
     in_frames sleb part stop p ≡ Ok (z, p + length (sleb_spelling z))
 in_sleb part stop p z rest fits here =
-    read_from sleb part stop p (sleb_spelling z ++ rest) here ∙ ap (λ r. numbered frame_number (part.file_at + p) (behind p r)) (sleb-sleb_spelling z rest fits)
+    read_from sleb part stop p (sleb_spelling z ++ rest) here ∙ ap (λ r. with_reason frame_reason (part.file_at + p) (behind p r)) (sleb-sleb_spelling z rest fits)
 
 pub in_four : (part : Part) (stop p n : ℕ) (rest : List ℕ) → n < 2 ^ 32 → From part stop p (to_le_bytes w32 n ++ rest) → in_frames (fixed w32) part stop p ≡ Ok (n, p + 4)
 in_four part stop p n rest small here =
-    read_from (fixed w32) part stop p (to_le_bytes w32 n ++ rest) here ∙ ap (λ r. numbered frame_number (part.file_at + p) (behind p r)) (four_read n rest small)
+    read_from (fixed w32) part stop p (to_le_bytes w32 n ++ rest) here ∙ ap (λ r. with_reason frame_reason (part.file_at + p) (behind p r)) (four_read n rest small)
 
 pub in_relative : (part : Part) (stop p place a : ℕ) (rest : List ℕ) → a < 2 ^ 64 → IsNear place a → a ≢ place → From part stop p (distance_bytes place a ++ rest) →
     in_frames (encoded 27 place) part stop p ≡ Ok (record { value = a; indirect = false }, p + 4)
 in_relative part stop p place a rest fits near other here =
     read_from (encoded 27 place) part stop p (distance_bytes place a ++ rest) here ∙
-    ap (λ r. numbered frame_number (part.file_at + p) (behind p r)) (relative_read place a rest fits near other)
+    ap (λ r. with_reason frame_reason (part.file_at + p) (behind p r)) (relative_read place a rest fits near other)
 
 pub in_zero : (part : Part) (stop p place : ℕ) (rest : List ℕ) → From part stop p (to_le_bytes w32 0 ++ rest) →
     in_frames (encoded 27 place) part stop p ≡ Ok (record { value = 0; indirect = false }, p + 4)
 in_zero part stop p place rest here =
-    read_from (encoded 27 place) part stop p (to_le_bytes w32 0 ++ rest) here ∙ ap (λ r. numbered frame_number (part.file_at + p) (behind p r)) (zero_read place rest)
+    read_from (encoded 27 place) part stop p (to_le_bytes w32 0 ++ rest) here ∙ ap (λ r. with_reason frame_reason (part.file_at + p) (behind p r)) (zero_read place rest)
 
 signed_read : (bytes : List ℕ) → encoded 11 0 bytes ≡ applies 11 0 (extends 4 (fixed w32 bytes))
 unfolding encoded raw
@@ -62,7 +62,7 @@ pub in_length : (part : Part) (stop p n : ℕ) (rest : List ℕ) → n < 2 ^ 31 
     in_frames (encoded 11 0) part stop p ≡ Ok (record { value = n; indirect = false }, p + 4)
 in_length part stop p n rest small here =
     read_from (encoded 11 0) part stop p (to_le_bytes w32 n ++ rest) here ∙
-    ap (λ r. numbered frame_number (part.file_at + p) (behind p r))
+    ap (λ r. with_reason frame_reason (part.file_at + p) (behind p r))
     (signed_read (to_le_bytes w32 n ++ rest) ∙ ap (λ r. applies 11 0 (extends 4 r)) (four_read n rest (omega (arith, small))) ∙ positive ∙ by_zero (n == 0) refl)
   where
     below : nat_lt n (2 ^ 31) ≡ true

@@ -7,7 +7,7 @@ use Rattle.eh_bytes.specs.Field.{byte}
 use Rattle.eh_bytes.specs.Leb128.{uleb}
 use Rattle.eh_bytes.specs.Spelling.{uleb_spelling}
 use Rattle.eh_bytes.specs.Listed.{ListedTable}
-use Rattle.table_forms.specs.Fault.{◌>>=◌, numbered, table_number}
+use Rattle.table_forms.specs.Fault.{◌>>=◌, with_reason, table_reason}
 use Rattle.table_forms.specs.LsdaHead.{Head, Types, in_table, pads_start, sized_types, type_table, head_at}
 use Rattle.eh_write.specs.Written.{sites_bytes}
 use Rattle.eh_write.proofs.Reading.{byte_stands, uleb_stands}
@@ -26,11 +26,11 @@ head_of list region p = record {
 }
 
 pub byte_in : (part : Part) (p b : ℕ) (rest : List ℕ) → drop p part.bytes ≡ b ∷ rest → in_table byte part p ≡ Ok (b, p + 1)
-byte_in part p b rest here = ap (numbered table_number (part.file_at + p)) (byte_stands part.bytes p b rest here)
+byte_in part p b rest here = ap (with_reason table_reason (part.file_at + p)) (byte_stands part.bytes p b rest here)
 
 pub uleb_in : (part : Part) (p n : ℕ) (rest : List ℕ) → n < 2 ^ 64 → drop p part.bytes ≡ uleb_spelling n ++ rest →
     in_table uleb part p ≡ Ok (n, p + length (uleb_spelling n))
-uleb_in part p n rest fits here = ap (numbered table_number (part.file_at + p)) (uleb_stands part.bytes p n rest fits here)
+uleb_in part p n rest fits here = ap (with_reason table_reason (part.file_at + p)) (uleb_stands part.bytes p n rest fits here)
 
 pub pads_omitted : (part : Part) (region : Region64) (p : ℕ) → pads_start part region 255 p ≡ Ok (region.start, p + 1)
 unfolding pads_start

@@ -10,7 +10,7 @@ use Rattle.eh_bytes.specs.declared.frames.HdrRow.{HdrRow}
 use Rattle.eh_bytes.specs.Memory.{Part, part_with}
 use Rattle.eh_bytes.specs.Field.{Field, byte, fixed, at, behind}
 use Rattle.eh_bytes.specs.Encoded.{extended}
-use Rattle.table_forms.specs.Fault.{frame_number, numbered}
+use Rattle.table_forms.specs.Fault.{frame_reason, with_reason}
 use Rattle.table_forms.specs.Header.{in_header, encodings_at, from_start, row_in, and_rows, rows_from, rows_within, counted_rows, table_rows, with_rows, with_pointer, with_encodings, header_at}
 use Rattle.table_forms.specs.WrittenFrames.{WritesHeader}
 use Rattle.eh_write.specs.Distance.{distance, distance_bytes, IsNear}
@@ -20,16 +20,16 @@ use Rattle.eh_write.proofs.DistanceRead.{four_read, none_between, led}
 use Rattle.eh_write.proofs.Found.{found_covers}
 
 -- a field of the header is one of the whole part
-whole : {A : Type 0} (field : Field A) (part : Part) (p : ℕ) → in_header field part p ≡ numbered frame_number (part.file_at + p) (at field part.bytes p)
-whole field part p = ap (λ bytes. numbered frame_number (part.file_at + p) (at field bytes p)) (take-length part.bytes)
+whole : {A : Type 0} (field : Field A) (part : Part) (p : ℕ) → in_header field part p ≡ with_reason frame_reason (part.file_at + p) (at field part.bytes p)
+whole field part p = ap (λ bytes. with_reason frame_reason (part.file_at + p) (at field bytes p)) (take-length part.bytes)
 
 byte_in : (part : Part) (p b : ℕ) (rest : List ℕ) → drop p part.bytes ≡ b ∷ rest → in_header byte part p ≡ Ok (b, p + 1)
-byte_in part p b rest here = whole byte part p ∙ ap (λ xs. numbered frame_number (part.file_at + p) (behind p (byte xs))) here
+byte_in part p b rest here = whole byte part p ∙ ap (λ xs. with_reason frame_reason (part.file_at + p) (behind p (byte xs))) here
 
 number_in : (part : Part) (p n : ℕ) (rest : List ℕ) → n < 2 ^ 32 → drop p part.bytes ≡ to_le_bytes w32 n ++ rest → in_header (fixed w32) part p ≡ Ok (n, p + 4)
 number_in part p n rest small here =
-    whole (fixed w32) part p ∙ ap (λ xs. numbered frame_number (part.file_at + p) (behind p (fixed w32 xs))) here ∙
-    ap (λ r. numbered frame_number (part.file_at + p) (behind p r)) (four_read n rest small)
+    whole (fixed w32) part p ∙ ap (λ xs. with_reason frame_reason (part.file_at + p) (behind p (fixed w32 xs))) here ∙
+    ap (λ r. with_reason frame_reason (part.file_at + p) (behind p r)) (four_read n rest small)
 
 distance_in : (part : Part) (p place a : ℕ) (rest : List ℕ) → drop p part.bytes ≡ distance_bytes place a ++ rest → in_header (fixed w32) part p ≡ Ok (distance place a, p + 4)
 distance_in part p place a rest here = number_in part p (distance place a) rest (omega arith) here

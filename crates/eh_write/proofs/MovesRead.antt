@@ -13,6 +13,7 @@ use Rattle.eh_bytes.specs.Leb128.{is_i64}
 use Rattle.eh_bytes.specs.Memory.{Part}
 use Rattle.eh_bytes.specs.Spelling.{uleb_spelling}
 use Rattle.table_forms.specs.declared.found.Rule.TheVariants as rules
+use Rattle.table_forms.specs.declared.reason.Reason.TheVariants.{LebRange}
 use Rattle.table_forms.specs.Fault.{fault, ◌>>=◌}
 use Rattle.table_forms.specs.Instruction.{Instruction, nop, advance, set_cfa_offset, set_rule, Coding, in_range, unsigned_offset, register_at, extended, operands, instruction_at}
 use Rattle.table_forms.specs.Instructions.{states_after, and_instructions, instructions_after, instructions_from, instructions_within}
@@ -49,7 +50,7 @@ fits_offset n small = grind (arith, nat_tests, small)
 
 in_i64 : (part : Part) (p after : ℕ) (value z : ℤ) → value ≡ z → is_i64 z ≡ true → in_range part p value after ≡ Ok (z, after)
 in_i64 part p after value z same fits =
-    ap (λ v. in_range part p v after) same ∙ ap (λ b. (if b then Ok b else Err (fault 2 (part.file_at + p))) >>= (λ _. Ok (z, after))) fits
+    ap (λ v. in_range part p v after) same ∙ ap (λ b. (if b then Ok b else Err (fault LebRange (part.file_at + p))) >>= (λ _. Ok (z, after))) fits
 
 pub plain_offset : (part : Part) (stop p n : ℕ) (rest : List ℕ) → n < 2 ^ 31 → From part stop p (uleb_spelling n ++ rest) →
     unsigned_offset (pos 1) part stop p ≡ Ok (pos n, p + length (uleb_spelling n))

@@ -8,6 +8,7 @@ use Rattle.eh_bytes.specs.declared.frames.Region64.{Region64}
 use Rattle.eh_bytes.specs.Memory.{Part}
 use Rattle.eh_bytes.specs.Field.{fixed}
 use Rattle.eh_bytes.specs.Listed.{ListedFrame, ListedFrames}
+use Rattle.table_forms.specs.declared.reason.Reason.TheVariants.{Overlap}
 use Rattle.table_forms.specs.Fault.{Fault, fault}
 use Rattle.table_forms.specs.Instruction.{in_frames}
 use Rattle.table_forms.specs.Spans.{Span, Spans, spans_within, distance_at}
@@ -141,7 +142,7 @@ regions_apart tables part cie address p earlier (f ∷ fs) apart =
     let address2 = address + length (fde_bytes tables cie address f) in
     let p2 = p + 4 + body_size tables cie address f in
     let others = overlaps part (f.region ∷ earlier) (places tables cie address2 p2 fs) in
-    ap (λ b. (if b then fault 57 (part.file_at + p) ∷ [] else []) ++ others) (none_overlaps f.region earlier apart.0) ∙
+    ap (λ b. (if b then fault Overlap (part.file_at + p) ∷ [] else []) ++ others) (none_overlaps f.region earlier apart.0) ∙
     regions_apart tables part cie address2 p2 (f.region ∷ earlier) fs apart.1
 
 says_is : (part : Part) (cies : Cies) (s : Span) → says part cies s ≡ said_of part cies s (distance_at part s)

@@ -7,6 +7,7 @@ use Rattle.eh_bytes.specs.declared.frames.Region64.{Region64}
 use Rattle.eh_bytes.specs.declared.table.ListSite.{ListSite}
 use Rattle.eh_bytes.specs.Memory.{Part, Memory, is_code}
 use Rattle.eh_bytes.specs.Listed.{ListedTable}
+use Rattle.table_forms.specs.declared.reason.Reason.TheVariants.{PadOutside}
 use Rattle.table_forms.specs.Fault.{unless, refusal_of}
 use Rattle.table_forms.specs.LsdaHead.{Head, Types}
 use Rattle.table_forms.specs.LsdaSites.{SiteRecord, site_of, site_faults}
@@ -120,7 +121,7 @@ site_clean memory place before region s h r pads start len pad fits order =
     let inside = fits.inside in
     let first : nat_le before (region.start + r.start) ≡ true = grind (arith, nat_tests, order, start) in
     let second : nat_le (region.start + r.start + r.length) (region.start + region.length) ≡ true = grind (arith, nat_tests, inside, start, len) in
-    rw (first, second) (ap (λ b. unless b 6 place) code)
+    rw (first, second) (ap (λ b. unless b PadOutside place) code)
   where
     at : ℕ
     at = if r.pad == 0 then 0 else h.pads_from + r.pad

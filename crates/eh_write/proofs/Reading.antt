@@ -9,7 +9,7 @@ use Rattle.eh_bytes.specs.declared.encoded.Pointer.{Pointer}
 use Rattle.eh_bytes.specs.Encoded.{encoded, raw, applied, applies}
 use Rattle.eh_bytes.specs.Spelling.{uleb_spelling}
 use Rattle.eh_bytes.proofs.ReadAgain.{uleb-uleb_spelling}
-use Rattle.table_forms.specs.Fault.{◌>>=◌, numbered, table_number}
+use Rattle.table_forms.specs.Fault.{◌>>=◌, with_reason, table_reason}
 use Rattle.table_forms.specs.LsdaHead.{Head}
 use Rattle.table_forms.specs.LsdaSites.{number_at, record_at}
 
@@ -44,7 +44,7 @@ number_stands bytes file_at p n rest fits here =
     let read : at (encoded 1 (0 + p)) bytes p ≡ Ok (record { value = n; indirect = false }, p + length (uleb_spelling n)) =
     ap (behind p) (uleb_plain (0 + p) (drop p bytes)) ∙ ap (λ xs. behind p (applies 1 (0 + p) (uleb xs))) here ∙
     ap (λ r. behind p (applies 1 (0 + p) r)) (uleb-uleb_spelling n rest fits) ∙ ap (λ v. Ok (v, p + length (uleb_spelling n))) (plain (0 + p) n) in
-    ap (λ r. numbered table_number (file_at + p) r >>= (λ x. Ok (x.0.value, x.1))) read
+    ap (λ r. with_reason table_reason (file_at + p) r >>= (λ x. Ok (x.0.value, x.1))) read
 
 -- the numbers of a site one after the other are its record
 pub record_stands : (bytes : List ℕ) (file_at : ℕ) (h : Head) (p start len pad action : ℕ) (rest : List ℕ) → h.site_encoding ≡ 1 →

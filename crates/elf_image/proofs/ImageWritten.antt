@@ -9,6 +9,8 @@ use Rattle.eh_bytes.specs.Memory.{Part, Memory, part_with, is_code}
 use Rattle.eh_bytes.specs.Memory as memories
 use Rattle.eh_bytes.specs.declared.segment.Segment.{Segment}
 use Rattle.eh_bytes.specs.Extent.{extents_of, AreApart, AreInRange}
+use Rattle.table_forms.specs.declared.reason.Reason.{Reason}
+use Rattle.table_forms.specs.declared.reason.Reason.TheVariants.{NoFrames, NoRuntime}
 use Rattle.table_forms.specs.Fault.{Fault, least, unless, joined}
 use Rattle.table_forms.proofs.Least.{least-append}
 use Rattle.elf_image.specs.declared.program.ProgramHeader.{ProgramHeader}
@@ -76,9 +78,9 @@ none_of : (a : List Fault) → a ≡ [] → least a ≡ None
 unfolding least
 none_of a e = ap least e
 
-none_unless : (b : Bool) (n p : ℕ) → b ≡ true → least (unless b n p) ≡ None
+none_unless : (b : Bool) (reason : Reason) (p : ℕ) → b ≡ true → least (unless b reason p) ≡ None
 unfolding least
-none_unless b n p e = ap (λ x. least (unless x n p)) e
+none_unless b reason p e = ap (λ x. least (unless x reason p)) e
 
 -- what a memory has that is apart, and in the address space
 pub record IsSpread (memory : Memory) : Type 0 where
@@ -102,11 +104,11 @@ segments_faultless c fit can spread =
     let hs = headers_for c in
     let ls = loads_of c in
     let laid = image_laid c in
-    ap (λ xs. least (load_faults (length file) 0 [] xs ++ unless (is_within xs (frames_header hs)) 66 0 ++ runtime_faults file xs (runtime_header hs))) (loads_found c) ∙
-    ap (λ f. least (load_faults (length file) 0 [] ls ++ unless (is_within ls f) 66 0 ++ runtime_faults file ls (runtime_header hs))) (frames_found c) ∙
-    ap (λ r. least (load_faults (length file) 0 [] ls ++ unless (is_within ls (Some (frames_of c))) 66 0 ++ runtime_faults file ls r)) (record_found c) ∙
-    none_both (load_faults (length file) 0 [] ls ++ unless (is_within ls (Some (frames_of c))) 66 0) (runtime_faults file ls (Some (record_of c)))
-    (none_both (load_faults (length file) 0 [] ls) (unless (is_within ls (Some (frames_of c))) 66 0) (loads_faultless file c.memory ls laid spread.ends spread.apart can.small)
+    ap (λ xs. least (load_faults (length file) 0 [] xs ++ unless (is_within xs (frames_header hs)) NoFrames 0 ++ runtime_faults file xs (runtime_header hs))) (loads_found c) ∙
+    ap (λ f. least (load_faults (length file) 0 [] ls ++ unless (is_within ls f) NoFrames 0 ++ runtime_faults file ls (runtime_header hs))) (frames_found c) ∙
+    ap (λ r. least (load_faults (length file) 0 [] ls ++ unless (is_within ls (Some (frames_of c))) NoFrames 0 ++ runtime_faults file ls r)) (record_found c) ∙
+    none_both (load_faults (length file) 0 [] ls ++ unless (is_within ls (Some (frames_of c))) NoFrames 0) (runtime_faults file ls (Some (record_of c)))
+    (none_both (load_faults (length file) 0 [] ls) (unless (is_within ls (Some (frames_of c))) NoFrames 0) (loads_faultless file c.memory ls laid spread.ends spread.apart can.small)
     (none_unless (is_within ls (Some (frames_of c))) 66 0 (frames_within file (behind_headers (length c.memory)) c.memory ls c.frame_header laid can.frames)))
     (none_unless (is_runtime file ls (record_of c)) 68 (record_of c).place (runtime_is c fit can))
 
@@ -119,11 +121,11 @@ run_faultless c can =
     let file = image_bytes c in
     let hs = headers_for c in
     let ls = loads_of c in
-    ap (λ xs. least (low_faults 0 xs ++ unless (has_table file xs (frames_header hs)) 66 0 ++ unless (is_some (runtime_header hs)) 67 0)) (loads_found c) ∙
-    ap (λ f. least (low_faults 0 ls ++ unless (has_table file ls f) 66 0 ++ unless (is_some (runtime_header hs)) 67 0)) (frames_found c) ∙
-    ap (λ (r : Option ProgramHeader). least (low_faults 0 ls ++ unless (has_table file ls (Some (frames_of c))) 66 0 ++ unless (is_some r) 67 0)) (record_found c) ∙
-    none_both (low_faults 0 ls ++ unless (has_table file ls (Some (frames_of c))) 66 0) []
-    (none_both (low_faults 0 ls) (unless (has_table file ls (Some (frames_of c))) 66 0) (none_of (low_faults 0 ls) (low_faultless file c.memory ls 0 (image_laid c) can.low (let s = can.small in omega (arith, s))))
+    ap (λ xs. least (low_faults 0 xs ++ unless (has_table file xs (frames_header hs)) NoFrames 0 ++ unless (is_some (runtime_header hs)) NoRuntime 0)) (loads_found c) ∙
+    ap (λ f. least (low_faults 0 ls ++ unless (has_table file ls f) NoFrames 0 ++ unless (is_some (runtime_header hs)) NoRuntime 0)) (frames_found c) ∙
+    ap (λ (r : Option ProgramHeader). least (low_faults 0 ls ++ unless (has_table file ls (Some (frames_of c))) NoFrames 0 ++ unless (is_some r) NoRuntime 0)) (record_found c) ∙
+    none_both (low_faults 0 ls ++ unless (has_table file ls (Some (frames_of c))) NoFrames 0) []
+    (none_both (low_faults 0 ls) (unless (has_table file ls (Some (frames_of c))) NoFrames 0) (none_of (low_faults 0 ls) (low_faultless file c.memory ls 0 (image_laid c) can.low (let s = can.small in omega (arith, s))))
     (none_unless (has_table file ls (Some (frames_of c))) 66 0 (table_is c can))) (none_of [] refl)
 
 -- the image that is read

@@ -1,6 +1,7 @@
 -- The refusal that answers of two groups, and of the segments that are loaded one by one.
 use Rattle.std.proofs.Common.{◌≡◌, ◌+◌, ◌<◌, ℕ, List, [], ◌∷◌, ◌++◌, length, take, drop, slice_index_or, ap, sym, ◌∙◌, append-nil}
 use Rattle.std.specs.Prelude.{Option, None}
+use Rattle.table_forms.specs.declared.reason.Reason.TheVariants.{SegmentRange}
 use Rattle.table_forms.specs.Fault.{Fault, unless, least, joined}
 use Rattle.table_forms.proofs.Least.{least-append, joined_joined, joined_none}
 use Rattle.elf_image.proofs.Turns.{drop_turn, take_turn}
@@ -30,8 +31,8 @@ unfolding least
 load_end so_far len before earlier rest none = ap (λ x. joined so_far (least (load_faults len before earlier x))) none ∙ sym (joined_none so_far)
 
 pub low_step : (so_far : Option Fault) (before : ℕ) (h : ProgramHeader) (rest : List ProgramHeader) →
-    joined so_far (least (low_faults before (h ∷ rest))) ≡ joined (joined so_far (least (unless (is_low before h) 64 h.place))) (least (low_faults (before + h.memory_size) rest))
-low_step so_far before h rest = more so_far (unless (is_low before h) 64 h.place) (low_faults (before + h.memory_size) rest)
+    joined so_far (least (low_faults before (h ∷ rest))) ≡ joined (joined so_far (least (unless (is_low before h) SegmentRange h.place))) (least (low_faults (before + h.memory_size) rest))
+low_step so_far before h rest = more so_far (unless (is_low before h) SegmentRange h.place) (low_faults (before + h.memory_size) rest)
 
 pub none_more : (so_far : Option Fault) → joined so_far None ≡ so_far
 none_more so_far = sym (joined_none so_far)

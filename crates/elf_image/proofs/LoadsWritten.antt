@@ -6,6 +6,7 @@ use Rattle.std.proofs.lemmas.Bool.Decides.{nat_tests}
 use Rattle.std.proofs.lemmas.List.Sums.{sum_by-cons}
 use Rattle.eh_bytes.specs.Memory.{Part, Memory}
 use Rattle.eh_bytes.specs.Extent.{Holds, AreApart}
+use Rattle.table_forms.specs.declared.reason.Reason.TheVariants.{SegmentRange}
 use Rattle.table_forms.specs.Fault.{least, unless}
 use Rattle.elf_image.specs.declared.program.ProgramHeader.{ProgramHeader}
 use Rattle.elf_image.specs.Loads.{part_of, is_placed, meet, one_faults, load_faults, is_low, low_faults}
@@ -142,4 +143,4 @@ low_faultless file (part ∷ memory) (h ∷ hs) before laid low small =
     let first = low.0.0 in let last = low.0.1 in
     let sum = sum_by-cons (λ (p : Part). length p.bytes) part memory in
     let is : is_low before h ≡ true = grind (arith, nat_tests, la, ls, first, last, sum, small) in
-    ap (λ b. unless b 64 h.place ++ low_faults (before + h.memory_size) hs) is ∙ low_faultless file memory hs (before + h.memory_size) laid.1 low.1 (omega (arith, ls, sum, small))
+    ap (λ b. unless b SegmentRange h.place ++ low_faults (before + h.memory_size) hs) is ∙ low_faultless file memory hs (before + h.memory_size) laid.1 low.1 (omega (arith, ls, sum, small))

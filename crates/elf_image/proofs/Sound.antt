@@ -7,6 +7,7 @@ use Rattle.std.proofs.lemmas.List.{length-take-le, length-drop, length-replicate
 use Rattle.eh_bytes.specs.declared.segment.Segment.{Segment}
 use Rattle.eh_bytes.specs.Extent.{Extent, extent_of, extents_of, Holds, AreApart, AreInRange}
 use Rattle.eh_bytes.specs.Memory as memories
+use Rattle.table_forms.specs.declared.reason.Reason.TheVariants.{SegmentRange, SegmentOverlap}
 use Rattle.table_forms.specs.Fault.{least, unless}
 use Rattle.table_forms.proofs.Least.{least-append, none_left, none_right, holds}
 use Rattle.elf_image.specs.declared.program.ProgramHeader.{ProgramHeader}
@@ -20,13 +21,13 @@ pub sound : (len before : ℕ) (earlier hs : List ProgramHeader) → least (load
 sound len before earlier [] e = tt
 sound len before earlier (h ∷ hs) e =
     let a = one_faults len before earlier h in
-    let x = unless (is_placed len before h) 64 h.place in
-    let y = unless (not (list_any (meet h) earlier)) 65 h.place in
+    let x = unless (is_placed len before h) SegmentRange h.place in
+    let y = unless (not (list_any (meet h) earlier)) SegmentOverlap h.place in
     let rest = load_faults len (before + h.memory_size) (earlier ++ h ∷ []) hs in
     let whole = sym (least-append a rest) ∙ e in
     let one = sym (least-append x y) ∙ none_left (least a) (least rest) whole in (
-      holds (is_placed len before h) 64 h.place (none_left (least x) (least y) one),
-      no_more (list_any (meet h) earlier) (holds (not (list_any (meet h) earlier)) 65 h.place (none_right (least x) (least y) one)),
+      holds (is_placed len before h) SegmentRange h.place (none_left (least x) (least y) one),
+      no_more (list_any (meet h) earlier) (holds (not (list_any (meet h) earlier)) SegmentOverlap h.place (none_right (least x) (least y) one)),
       sound len (before + h.memory_size) (earlier ++ h ∷ []) hs (none_right (least a) (least rest) whole),
     )
 

@@ -1,6 +1,7 @@
 -- A whole image, by what is refused of its parts.
 use Rattle.std.proofs.Common.{◌≡◌, ℕ, Bool, true, List, [], ◌++◌, length, Ok, Err, Result, refl, ap, sym, subst, ◌∙◌}
 use Rattle.std.specs.Prelude.{Some, None}
+use Rattle.table_forms.specs.declared.reason.Reason.TheVariants.{NoFrames}
 use Rattle.table_forms.specs.Fault.{Fault, ◌>>=◌, unless, least, answer}
 use Rattle.table_forms.proofs.Least.{least-append, none_left}
 use Rattle.elf_image.specs.declared.error.ImageError.{ImageError}
@@ -46,7 +47,7 @@ image_sound file run none =
     let headers = headers_of file in
     let ls = loaded headers in
     let a = load_faults (length file) 0 [] ls in
-    let b = unless (is_within ls (frames_header headers)) 66 0 in
+    let b = unless (is_within ls (frames_header headers)) NoFrames 0 in
     let c = runtime_faults file ls (runtime_header headers) in
     let d = faults_to_run run file headers in
     let first = none_left (least (a ++ b ++ c)) (least d) (sym (least-append (a ++ b ++ c) d) ∙ sym none) in

@@ -23,7 +23,7 @@ pub record CleanImage : Type 0 where
 -- a table is refused at one place, without locations that differ
 abbrev pub table_read : Result Table Fault → Result (Option Table) Fault
 table_read (Ok t) = Ok (Some t)
-table_read (Err e) = Err (fault e.number e.place)
+table_read (Err e) = Err (fault e.reason e.place)
 
 -- address 0 is no table
 abbrev pub table_named : Memory → ℕ → Region64 → Result (Option Table) Fault

@@ -2,6 +2,7 @@
 use Rattle.std.specs.Prelude.{ℕ, Bool, true, false, List, [], ◌++◌, length, Option, option_map, unwrap_or, is_some, Result}
 use Rattle.std.specs.Int.{w64}
 use Rattle.eh_bytes.specs.Memory.{Memory}
+use Rattle.table_forms.specs.declared.reason.Reason.TheVariants.{NoFrames, NoRuntime}
 use Rattle.table_forms.specs.Fault.{Fault, ◌>>=◌, unless, least, answer}
 use Rattle.elf_image.specs.declared.program.ProgramHeader.{ProgramHeader}
 use Rattle.eh_bytes.specs.declared.unit.RuntimeRecord.{RuntimeRecord}
@@ -25,17 +26,17 @@ image_of file headers = record {
   runtime = option_map (runtime_of file) (runtime_header headers);
 }
 
--- 66 at 0: no PT_GNU_EH_FRAME lies inside a PT_LOAD
+-- refused at 0, where no PT_GNU_EH_FRAME lies inside a PT_LOAD
 unfoldable pub segment_faults : List ℕ → List ProgramHeader → List Fault
 segment_faults file headers =
-    load_faults (length file) 0 [] (loaded headers) ++ unless (is_within (loaded headers) (frames_header headers)) 66 0 ++
+    load_faults (length file) 0 [] (loaded headers) ++ unless (is_within (loaded headers) (frames_header headers)) NoFrames 0 ++
     runtime_faults file (loaded headers) (runtime_header headers)
 
--- to run: 64 out of reach, 66 at 0 without a table, 67 at 0 without a record for the runtime
+-- to run: refused where a segment is out of reach, and at 0 without a table or a record for the runtime
 unfoldable pub run_faults : List ℕ → List ProgramHeader → List Fault
 run_faults file headers =
-    low_faults 0 (loaded headers) ++ unless (has_table file (loaded headers) (frames_header headers)) 66 0 ++
-    unless (is_some (runtime_header headers)) 67 0
+    low_faults 0 (loaded headers) ++ unless (has_table file (loaded headers) (frames_header headers)) NoFrames 0 ++
+    unless (is_some (runtime_header headers)) NoRuntime 0
 
 abbrev pub faults_to_run : Bool → List ℕ → List ProgramHeader → List Fault
 faults_to_run false file headers = []

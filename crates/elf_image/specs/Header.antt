@@ -2,6 +2,7 @@
 use Rattle.std.specs.Prelude.{ℕ, ◌+◌, ◌*◌, ◌==◌, ◌&&◌, ◌||◌, nat_eq, nat_lt, nat_le, Bool, List, [], ◌∷◌, ◌++◌, length}
 use Rattle.std.specs.List.{starts_with}
 use Rattle.std.specs.Int.{w8, w16, w64}
+use Rattle.table_forms.specs.declared.reason.Reason.TheVariants.{Magic, Class, Machine, FileHeader}
 use Rattle.table_forms.specs.Fault.{Fault, unless}
 use Rattle.elf_image.specs.Numbers.{number_at, field, holds}
 
@@ -32,8 +33,8 @@ is_entry_size file = holds (λ n. n == 56) (number_at w16 file 54)
 abbrev pub is_count : List ℕ → Bool
 is_count file = holds (λ n. nat_lt 0 n && nat_le n 64) (number_at w16 file 56)
 
--- 60 at 0: the first four bytes. 61 at 4: class or byte order. 62 at 18: the machine. 63: another field, at it
+-- the first four bytes, class and byte order, the type, the machine, where the program headers lie, their size and their number: each refused at its field
 unfoldable pub header_faults : List ℕ → List Fault
 header_faults file =
-    unless (is_elf file) 60 0 ++ unless (is_class file) 61 4 ++ unless (is_type file) 63 16 ++ unless (is_machine file) 62 18 ++
-    unless (headers_fit file) 63 32 ++ unless (is_entry_size file) 63 54 ++ unless (is_count file) 63 56
+    unless (is_elf file) Magic 0 ++ unless (is_class file) Class 4 ++ unless (is_type file) FileHeader 16 ++ unless (is_machine file) Machine 18 ++
+    unless (headers_fit file) FileHeader 32 ++ unless (is_entry_size file) FileHeader 54 ++ unless (is_count file) FileHeader 56

@@ -2,6 +2,7 @@
 use Rattle.std.specs.Prelude.{◌≡◌, ◌≤◌, ℕ, ⊤, true, ◌+◌, ◌-◌, ◌^◌, ◌&&◌, not, nat_lt, nat_le, Bool, false, List, [], ◌∷◌, ◌++◌, length, take, drop, map, replicate, Option, Some, None}
 use Rattle.std.specs.List.{list_any}
 use Rattle.eh_bytes.specs.Memory.{Part, Memory}
+use Rattle.table_forms.specs.declared.reason.Reason.TheVariants.{SegmentRange, SegmentOverlap}
 use Rattle.table_forms.specs.Fault.{Fault, unless}
 use Rattle.elf_image.specs.declared.program.ProgramHeader.{ProgramHeader}
 use Rattle.elf_image.specs.Programs.{loaded, end_of, is_executable, is_writable}
@@ -29,9 +30,9 @@ is_placed len before h =
 abbrev pub meet : ProgramHeader → ProgramHeader → Bool
 meet h k = nat_lt 0 h.memory_size && nat_lt 0 k.memory_size && nat_lt h.address (end_of k) && nat_lt k.address (end_of h)
 
--- 64: it is not placed so. 65: it overlaps an earlier one. Both at the header
+-- refused at the header, where it is not placed so or overlaps an earlier one
 abbrev pub one_faults : ℕ → ℕ → List ProgramHeader → ProgramHeader → List Fault
-one_faults len before earlier h = unless (is_placed len before h) 64 h.place ++ unless (not (list_any (meet h) earlier)) 65 h.place
+one_faults len before earlier h = unless (is_placed len before h) SegmentRange h.place ++ unless (not (list_any (meet h) earlier)) SegmentOverlap h.place
 
 abbrev pub load_faults : ℕ → ℕ → List ProgramHeader → List ProgramHeader → List Fault
 load_faults len before earlier [] = []
@@ -60,7 +61,7 @@ is_low before h = nat_le 0x10000 h.address && nat_le (end_of h) 0x60000000 && na
 
 abbrev pub low_faults : ℕ → List ProgramHeader → List Fault
 low_faults before [] = []
-low_faults before (h ∷ rest) = unless (is_low before h) 64 h.place ++ low_faults (before + h.memory_size) rest
+low_faults before (h ∷ rest) = unless (is_low before h) SegmentRange h.place ++ low_faults (before + h.memory_size) rest
 
 abbrev pub covers : ProgramHeader → ProgramHeader → Bool
 covers h l = nat_le l.address h.address && nat_le (end_of h) (end_of l)

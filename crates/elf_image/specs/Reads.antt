@@ -14,5 +14,5 @@ image_seen e = record { entry = e.entry; memory = memory_of e.segments; frame_he
 -- the image, or the refusal, exactly; want of memory is free
 abbrev pub ReadsImage : Result Elf ImageError → Result Image Fault → Type 0
 ReadsImage (Ok e) read = read ≡ Ok (image_seen e)
-ReadsImage (Err (Refused number place location other)) read = (f : Fault) × (read ≡ Err f) × (reported f ≡ Refused number place location other)
+ReadsImage (Err (Refused reason place location other)) read = (f : Fault) × (read ≡ Err f) × (reported f ≡ Refused reason place location other)
 ReadsImage (Err NoMemory) read = ⊤

@@ -1,14 +1,15 @@
 -- Runnable images (profile): clean ones that may be run, whose frames and exception tables lie where nothing is written.
 use Rattle.std.specs.Prelude.{ℕ, ◌+◌, ◌-◌, ◌==◌, not, true, List, [], ◌++◌, flat_map, Option, Some, None, Result, if◌then◌else◌}
 use Rattle.eh_bytes.specs.Memory.{Part, Memory, part_with}
+use Rattle.table_forms.specs.declared.reason.Reason.TheVariants.{TableWritable}
 use Rattle.table_forms.specs.Fault.{Fault, ◌>>=◌, unless, least, answer}
 use Rattle.table_forms.specs.Header.{header_at}
 use Rattle.elf_image.specs.Clean.{Function, CleanImage, judged}
 
--- 69: the address lies in a segment with write, at its place in the file
+-- refused at its place in the file, where the address lies in a segment with write
 abbrev pub written_in : Option Part → ℕ → List Fault
 written_in None a = []
-written_in (Some part) a = unless (not part.write) 69 (part.file_at + (a - part.address))
+written_in (Some part) a = unless (not part.write) TableWritable (part.file_at + (a - part.address))
 
 abbrev pub written_at : Memory → ℕ → List Fault
 written_at memory a = written_in (part_with memory a) a

@@ -2,6 +2,7 @@
 use Rattle.std.specs.Prelude.{ℕ, ◌+◌, ◌-◌, ◌%◌, ◌==◌, ◌&&◌, not, nat_lt, nat_le, Bool, false, List, [], length, find, Option, Some, None, unwrap_or, option_map, if◌then◌else◌}
 use Rattle.std.specs.List.{list_any}
 use Rattle.std.specs.Int.{w8, w64}
+use Rattle.table_forms.specs.declared.reason.Reason.TheVariants.{Runtime}
 use Rattle.table_forms.specs.Fault.{Fault, unless}
 use Rattle.elf_image.specs.declared.program.ProgramHeader.{ProgramHeader}
 use Rattle.eh_bytes.specs.declared.unit.RuntimeRecord.{RuntimeRecord}
@@ -39,10 +40,10 @@ is_runtime file ls h =
     nat_le (h.offset + h.file_size) (length file) && h.file_size == 24 && field w64 file h.offset == 1 &&
     has_stub ls (field w64 file (h.offset + 8))
 
--- 68: it is not so, at its header
+-- refused at its header, where it is not so
 abbrev pub runtime_faults : List ℕ → List ProgramHeader → Option ProgramHeader → List Fault
 runtime_faults file ls None = []
-runtime_faults file ls (Some h) = unless (is_runtime file ls h) 68 h.place
+runtime_faults file ls (Some h) = unless (is_runtime file ls h) Runtime h.place
 
 abbrev pub runtime_of : List ℕ → ProgramHeader → RuntimeRecord
 runtime_of file h = record { terminate = field w64 file (h.offset + 8); bad_exception = field w64 file (h.offset + 16) }

@@ -1,7 +1,7 @@
 // Whole images.
 ghost use Rattle.std.specs.Prelude.{◌≡◌, ◌≤◌, ◌^◌, ◌++◌, [], option_map, length, IfOk};
 ghost use Rattle.table_forms.specs.Fault.{least};
-ghost use Rattle.table_refusals.specs.Seen.{fault_of};
+ghost use Rattle.table_forms.specs.Seen.{fault_of};
 ghost use Rattle.elf_image.specs.Programs.{loaded};
 ghost use Rattle.elf_image.specs.Elf.{segment_faults, run_faults, faults_to_run, image_of, elf};
 ghost use Rattle.elf_image.specs.Loads.{AreSound};
@@ -16,7 +16,7 @@ use crate::program::{ProgramHeader, frames_header, headers_of, loads, runtime_he
 use crate::runtime_header::{has_table, runtime_of, runtime_refusal};
 use eh_bytes::{RuntimeRecord, Segments};
 use std::alloc::{AllocError, Global};
-use table_refusals::{Refusal, joined, unless};
+use table_forms::{Reason, Refusal, joined, unless};
 
 /// An image: where it begins, its memory, and what it names.
 #[derive(Debug, Drop)]
@@ -39,7 +39,7 @@ fn segment_refusal(
     requires few { length loads.now ≤ 2 ^ 16 }
     ensures { option_map fault_of result ≡ least (segment_faults file.now headers.now) }
 {
-    let frames = unless(is_within(loads, frames_header(headers)), 66, 0);
+    let frames = unless(is_within(loads, frames_header(headers)), Reason::NoFrames, 0);
     joined(
         joined(load_refusal(file.len() as u64, loads), frames),
         runtime_refusal(file, loads, runtime_header(headers)),
@@ -53,8 +53,8 @@ fn run_refusal(file: &[u8], headers: &[ProgramHeader], loads: &[ProgramHeader]) 
     requires few { length loads.now ≤ 2 ^ 16 }
     ensures { option_map fault_of result ≡ least (run_faults file.now headers.now) }
 {
-    let table = unless(has_table(file, loads, frames_header(headers)), 66, 0);
-    let runtime = unless(runtime_header(headers).is_some(), 67, 0);
+    let table = unless(has_table(file, loads, frames_header(headers)), Reason::NoFrames, 0);
+    let runtime = unless(runtime_header(headers).is_some(), Reason::NoRuntime, 0);
     joined(joined(low_refusal(loads), table), runtime)
 }
 
@@ -103,6 +103,11 @@ fn all_refusal(
 
 /// The image in a file, or the first of its refusals: 60 to 66 and 68 of docs/TABLES.md; with
 /// `run` also 67 and what is refused of an image to run.
+///
+/// ```rust
+/// let elf = read_elf(alloc, &file, false)?;
+/// let frames = read_frames(alloc, &elf.segments, elf.frame_header)?;
+/// ```
 pub fn read_elf(alloc: Global, bytes: &[u8], run: bool) -> Result<Elf, ImageError>
     ensures { ReadsImage result (elf bytes.now run) }
 {

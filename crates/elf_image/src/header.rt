@@ -1,11 +1,11 @@
 // The header of the file.
 ghost use Rattle.std.specs.Prelude.{◌≡◌, option_map};
 ghost use Rattle.table_forms.specs.Fault.{least};
-ghost use Rattle.table_refusals.specs.Seen.{fault_of};
+ghost use Rattle.table_forms.specs.Seen.{fault_of};
 ghost use Rattle.elf_image.specs.Header.{is_elf, is_class, is_type, is_machine, headers_fit, is_entry_size, is_count, header_faults};
 
 use crate::number::{u8_at, u16_at, u64_at};
-use table_refusals::{Refusal, joined, unless};
+use table_forms::{Reason, Refusal, joined, unless};
 
 const HEADER_SIZE: u128 = 56;
 
@@ -80,10 +80,10 @@ fn is_count(file: &[u8]) -> bool
 pub fn header_refusal(file: &[u8]) -> Option<Refusal>
     ensures { option_map fault_of result ≡ least (header_faults file.now) }
 {
-    let first = joined(unless(is_elf(file), 60, 0), unless(is_class(file), 61, 4));
-    let first = joined(first, unless(is_type(file), 63, 16));
-    let first = joined(first, unless(is_machine(file), 62, 18));
-    let first = joined(first, unless(headers_fit(file), 63, 32));
-    let first = joined(first, unless(is_entry_size(file), 63, 54));
-    joined(first, unless(is_count(file), 63, 56))
+    let first = joined(unless(is_elf(file), Reason::Magic, 0), unless(is_class(file), Reason::Class, 4));
+    let first = joined(first, unless(is_type(file), Reason::FileHeader, 16));
+    let first = joined(first, unless(is_machine(file), Reason::Machine, 18));
+    let first = joined(first, unless(headers_fit(file), Reason::FileHeader, 32));
+    let first = joined(first, unless(is_entry_size(file), Reason::FileHeader, 54));
+    joined(first, unless(is_count(file), Reason::FileHeader, 56))
 }

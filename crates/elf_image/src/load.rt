@@ -2,11 +2,11 @@
 ghost use Rattle.std.specs.Prelude.{◌≡◌, ◌<◌, ◌≤◌, ◌^◌, ◌+◌, ◌*◌, [], length, option_map};
 ghost use Rattle.std.specs.List.{list_any};
 ghost use Rattle.table_forms.specs.Fault.{least};
-ghost use Rattle.table_refusals.specs.Seen.{fault_of};
+ghost use Rattle.table_forms.specs.Seen.{fault_of};
 ghost use Rattle.elf_image.specs.Loads.{is_placed, meet, one_faults, load_faults, is_low, low_faults, covers, is_within};
 
 use crate::program::ProgramHeader;
-use table_refusals::{Refusal, joined, unless};
+use table_forms::{Reason, Refusal, joined, unless};
 
 const GIB: u128 = 0x4000_0000;
 
@@ -54,8 +54,8 @@ fn one_refusal(
     ensures { option_map fault_of result ≡ least (one_faults len before earlier.now header.now) }
 {
     joined(
-        unless(is_placed(len, before, header), 64, header.place),
-        unless(!meets_one(header, earlier), 65, header.place),
+        unless(is_placed(len, before, header), Reason::SegmentRange, header.place),
+        unless(!meets_one(header, earlier), Reason::SegmentOverlap, header.place),
     )
 }
 
@@ -95,7 +95,7 @@ pub fn low_refusal(loads: &[ProgramHeader]) -> Option<Refusal>
     let mut before = 0u128;
     let mut rest = loads;
     'loads: while let Some((header, others)) = rest.split_first() {
-        least = joined(least, unless(is_low(before, header), 64, header.place));
+        least = joined(least, unless(is_low(before, header), Reason::SegmentRange, header.place));
         before += header.memory_size as u128;
         rest = others;
     }

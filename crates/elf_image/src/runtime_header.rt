@@ -3,13 +3,13 @@ ghost use Rattle.std.specs.Prelude.{◌≡◌, true, option_map, find, IfSome};
 ghost use Rattle.std.specs.List.{list_any};
 ghost use Rattle.std.specs.Option.{option_copied};
 ghost use Rattle.table_forms.specs.Fault.{least};
-ghost use Rattle.table_refusals.specs.Seen.{fault_of};
+ghost use Rattle.table_forms.specs.Seen.{fault_of};
 ghost use Rattle.elf_image.specs.Runtime.{has_address, byte_in, byte_at, is_bare_at, has_table, is_stub, has_stub, is_runtime, runtime_faults, runtime_of};
 
 use crate::number::{u8_at, word};
 use crate::program::ProgramHeader;
 use eh_bytes::RuntimeRecord;
-use table_refusals::{Refusal, unless};
+use table_forms::{Reason, Refusal, unless};
 
 pub const FORMAT: u64 = 1;
 
@@ -105,7 +105,7 @@ pub fn runtime_refusal(
 {
     match header {
         None => None,
-        Some(header) => unless(is_runtime(file, loads, &header), 68, header.place),
+        Some(header) => unless(is_runtime(file, loads, &header), Reason::Runtime, header.place),
     }
 }
 

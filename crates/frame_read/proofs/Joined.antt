@@ -1,9 +1,9 @@
 -- The refusal that answers of lists put together.
 use Rattle.std.proofs.Common.{◌≡◌, List, ◌++◌, Option, Some, None, option_map, refl, ap, ◌∙◌}
 use Rattle.table_forms.specs.Fault.{Fault, least, joined}
-use Rattle.table_refusals.specs.Seen.{fault_of}
+use Rattle.table_forms.specs.Seen.{fault_of}
 use Rattle.frame_read.specs.SeenSpan.{cut_of}
-use Rattle.table_refusals.specs.declared.Refusal.{Refusal}
+use Rattle.table_forms.specs.declared.refusal.Refusal.{Refusal}
 use Rattle.table_forms.proofs.Least.{least-append}
 
 -- the law of lists, by a name that an attribute can have

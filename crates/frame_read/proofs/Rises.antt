@@ -5,7 +5,7 @@ use Rattle.eh_bytes.specs.declared.frames.Region64.{Region64}
 use Rattle.eh_bytes.specs.declared.error.ByteError.TheVariants.{Truncated}
 use Rattle.eh_bytes.specs.Memory.{Part}
 use Rattle.eh_bytes.specs.Field.{fixed, behind}
-use Rattle.table_forms.specs.Fault.{Fault, numbered, frame_number}
+use Rattle.table_forms.specs.Fault.{Fault, with_reason, frame_reason}
 use Rattle.table_forms.specs.Instruction.{in_frames}
 use Rattle.table_forms.specs.Cie.{Cie, cie_at}
 use Rattle.table_forms.specs.Spans.{Span, spans_from, spans_after, spans_within, distance_at}
@@ -28,7 +28,7 @@ next_read (Err f) = 0
 pub next_place : (part : Part) (stop p n next : ℕ) → in_frames (fixed w32) part stop p ≡ Ok (n, next) → next ≡ p + 4
 next_place part stop p n next read = by (nat_lt (length (drop p (take stop part.bytes))) 4) read
   where
-    by : (b : Bool) → numbered frame_number (part.file_at + p) (behind p (if b then Err Truncated else Ok (from_le_bytes w32 (take 4 (drop p (take stop part.bytes))), 4))) ≡ Ok (n, next) → next ≡ p + 4
+    by : (b : Bool) → with_reason frame_reason (part.file_at + p) (behind p (if b then Err Truncated else Ok (from_le_bytes w32 (take 4 (drop p (take stop part.bytes))), 4))) ≡ Ok (n, next) → next ≡ p + 4
     by true e = absurd cc
     by false e = sym (ap next_read e)
 

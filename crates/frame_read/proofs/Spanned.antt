@@ -3,6 +3,7 @@ use Rattle.std.proofs.Common.{◌≡◌, ◌+◌, ℕ, zero, suc, true, false, L
 use Rattle.std.specs.Int.{w32}
 use Rattle.eh_bytes.specs.Memory.{Part}
 use Rattle.eh_bytes.specs.Field.{fixed}
+use Rattle.table_forms.specs.declared.reason.Reason.TheVariants.{FrameTruncated}
 use Rattle.table_forms.specs.Fault.{Fault, fault}
 use Rattle.table_forms.specs.Instruction.{in_frames}
 use Rattle.table_forms.specs.Spans.{Span, Spans, spans_within}
@@ -29,9 +30,9 @@ unfolding spans_within
 span_zero part read p n next inside here = rw (inside, here) (nothing read [])
 
 pub span_out : (part : Part) (read : List Span) (p n k next : ℕ) → nat_lt p (length part.bytes) ≡ true → length_read part p ≡ Ok (suc k, next) →
-    nat_le (next + suc k) (length part.bytes) ≡ false → span_rest part read (suc n) p ≡ ends_with read (fault 50 (part.file_at + p) ∷ [])
+    nat_le (next + suc k) (length part.bytes) ≡ false → span_rest part read (suc n) p ≡ ends_with read (fault FrameTruncated (part.file_at + p) ∷ [])
 unfolding spans_within
-span_out part read p n k next inside here out = rw (inside, here, out) (nothing read (fault 50 (part.file_at + p) ∷ []))
+span_out part read p n k next inside here out = rw (inside, here, out) (nothing read (fault FrameTruncated (part.file_at + p) ∷ []))
 
 pub span_more : (part : Part) (read : List Span) (p n k next : ℕ) → nat_lt p (length part.bytes) ≡ true → length_read part p ≡ Ok (suc k, next) →
     nat_le (next + suc k) (length part.bytes) ≡ true →

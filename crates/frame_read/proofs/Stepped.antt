@@ -2,6 +2,7 @@
 use Rattle.std.proofs.Common.{◌≡◌, ◌+◌, ℕ, zero, suc, true, false, Some, None, Result, Ok, Err, refl, ap}
 use Rattle.std.specs.Prelude.{nat_lt}
 use Rattle.eh_bytes.specs.Memory.{Part}
+use Rattle.table_forms.specs.declared.reason.Reason.TheVariants.{StateStack}
 use Rattle.table_forms.specs.Fault.{Fault, fault}
 use Rattle.table_forms.specs.Instruction.{Instruction, Coding, instruction_at}
 use Rattle.table_forms.specs.Instructions.{Instructions, states_after, and_instructions, instructions_within}
@@ -20,7 +21,7 @@ states_go c part stop states p n i next states' inside read kept =
 
 pub states_refused : (c : Coding) (part : Part) (stop states p n : ℕ) (i : Instruction) (next : ℕ) → nat_lt p stop ≡ true →
     instruction_at c part stop p ≡ Ok (i, next) → states_after i states ≡ None →
-    states_rest c part stop states (suc n) p ≡ Err (fault 56 (part.file_at + p))
+    states_rest c part stop states (suc n) p ≡ Err (fault StateStack (part.file_at + p))
 unfolding instructions_within
 states_refused c part stop states p n i next inside read lost = rw (inside, read, lost) refl
 

@@ -4,7 +4,7 @@ use Rattle.std.proofs.lemmas.Bool.Decides.{nat_tests}
 use Rattle.eh_bytes.specs.Field.{Reading, behind}
 use Rattle.eh_bytes.specs.Encoded.{is_relative, encoding_format, raw, encoded, applied, applies}
 use Rattle.eh_bytes.specs.Memory.{Part}
-use Rattle.table_forms.specs.Fault.{numbered, frame_number}
+use Rattle.table_forms.specs.Fault.{with_reason, frame_reason}
 use Rattle.table_forms.specs.Instruction.{in_frames}
 
 applied_same : (f a b n : ℕ) → is_relative f ≡ false → applied f a n ≡ applied f b n
@@ -20,4 +20,4 @@ unmoved f a b bytes e = applies_same f a b (raw (encoding_format f) bytes) e
 
 pub unmoved_at : (e a : ℕ) (part : Part) (stop p : ℕ) → in_frames (encoded (e % 16) a) part stop p ≡ in_frames (encoded (e % 16) 0) part stop p
 unmoved_at e a part stop p =
-    ap (λ r. numbered frame_number (part.file_at + p) (behind p r)) (unmoved (e % 16) a 0 (drop p (take stop part.bytes)) (let no : (e % 16 / 16 % 8 == 1) ≡ false = grind (arith, nat_tests) in no))
+    ap (λ r. with_reason frame_reason (part.file_at + p) (behind p r)) (unmoved (e % 16) a 0 (drop p (take stop part.bytes)) (let no : (e % 16 / 16 % 8 == 1) ≡ false = grind (arith, nat_tests) in no))

@@ -6,8 +6,8 @@ use Rattle.table_forms.specs.Instructions.{Instructions, instructions_at}
 use Rattle.table_forms.specs.Cie.{Cie, cie_at}
 use Rattle.table_forms.specs.Fde.{Fde}
 use Rattle.table_forms.specs.Spans.{Span}
-use Rattle.table_refusals.specs.declared.Refusal.{Refusal}
-use Rattle.table_refusals.specs.Seen.{fault_of}
+use Rattle.table_forms.specs.declared.refusal.Refusal.{Refusal}
+use Rattle.table_forms.specs.Seen.{fault_of}
 use Rattle.frame_read.specs.Entry.{ok_of, cie_here, fde_behind}
 use Rattle.frame_read.specs.Seen.{coding_seen}
 use Rattle.frame_read.specs.declared.cie_part.CiePart.{CiePart}

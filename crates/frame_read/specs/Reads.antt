@@ -1,8 +1,8 @@
 -- What a reader returned, against what the definition reads.
 use Rattle.std.specs.Prelude.{◌≡◌, Result, Ok, Err}
 use Rattle.table_forms.specs.Fault.{Fault}
-use Rattle.table_refusals.specs.declared.Refusal.{Refusal}
-use Rattle.table_refusals.specs.Seen.{fault_of}
+use Rattle.table_forms.specs.declared.refusal.Refusal.{Refusal}
+use Rattle.table_forms.specs.Seen.{fault_of}
 
 -- it gives what is read, seen by view, or its refusal
 abbrev pub Reads : {X Y : Type 0} → (X → Y) → Result X Refusal → Result Y Fault → Type 0

@@ -18,7 +18,7 @@ listing d = record { cies = map cie_listed d.cies; fdes = map fde_listed d.fdes 
 
 -- a refusal as it is reported; a place that passes the numbers of 64 bits becomes the last of them
 abbrev pub reported : Fault → FrameError
-reported f = errors.Refused f.number (min f.place (2 ^ 64 - 1)) f.location f.other
+reported f = errors.Refused f.reason (min f.place (2 ^ 64 - 1)) f.location f.other
 
 -- the list is what is read, or the error is the refusal that answers, or memory ran out
 abbrev pub ReadsFrames : Result Listing FrameError → Result forms.Frames Fault → Type 0

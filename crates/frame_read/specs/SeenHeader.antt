@@ -5,9 +5,9 @@ use Rattle.eh_bytes.specs.declared.frames.HdrRow.{HdrRow}
 use Rattle.eh_bytes.specs.Memory.{Part}
 use Rattle.table_forms.specs.Fault.{Fault, least}
 use Rattle.table_forms.specs.Header as forms
-use Rattle.table_refusals.specs.Seen.{fault_of}
+use Rattle.table_forms.specs.Seen.{fault_of}
 use Rattle.frame_read.specs.SeenSpan.{cut_of}
-use Rattle.table_refusals.specs.declared.Refusal.{Refusal}
+use Rattle.table_forms.specs.declared.refusal.Refusal.{Refusal}
 use Rattle.frame_read.specs.declared.header_read.Encodings.{Encodings}
 use Rattle.frame_read.specs.declared.header_read.HeaderRead.{HeaderRead}
 

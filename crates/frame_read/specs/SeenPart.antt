@@ -4,7 +4,7 @@ use Rattle.eh_bytes.specs.Memory.{Part}
 use Rattle.table_forms.specs.Fault.{Fault}
 use Rattle.table_forms.specs.Cie.{Cie}
 use Rattle.table_forms.specs.Parts as forms
-use Rattle.table_refusals.specs.Seen.{fault_of}
+use Rattle.table_forms.specs.Seen.{fault_of}
 use Rattle.frame_read.specs.Reads.{result_seen}
 use Rattle.frame_read.specs.SeenCie.{cie_seen}
 use Rattle.frame_read.specs.SeenFde.{fde_seen}

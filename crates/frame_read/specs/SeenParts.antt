@@ -1,7 +1,7 @@
 -- What is gathered, as the definitions have it.
 use Rattle.std.specs.Prelude.{ℕ, ◌≡◌, ⊤, map, option_map}
 use Rattle.eh_bytes.specs.declared.frames.Region64.{Region64}
-use Rattle.table_refusals.specs.Seen.{fault_of}
+use Rattle.table_forms.specs.Seen.{fault_of}
 use Rattle.frame_read.specs.Gathered.{Gathered}
 use Rattle.frame_read.specs.declared.entry.Said.{Said}
 use Rattle.frame_read.specs.declared.entry.Said.TheVariants as found

@@ -3,8 +3,8 @@ use Rattle.std.specs.Prelude.{ℕ, ◌≤◌, ◌+◌, List, map, Option, Some, 
 use Rattle.table_forms.specs.Fault.{Fault}
 use Rattle.table_forms.specs.Spans as forms
 use Rattle.frame_read.specs.declared.span.Span.{Span}
-use Rattle.table_refusals.specs.declared.Refusal.{Refusal}
-use Rattle.table_refusals.specs.Seen.{fault_of}
+use Rattle.table_forms.specs.declared.refusal.Refusal.{Refusal}
+use Rattle.table_forms.specs.Seen.{fault_of}
 
 abbrev pub span_seen : Span → forms.Span
 span_seen s = record { at = s.at; stop = s.stop }

@@ -2,6 +2,7 @@
 use Rattle.std.specs.Prelude.{ℕ, ◌+◌, ◌==◌, nat_lt, List, fold, Option, Some, None, if◌then◌else◌}
 use Rattle.eh_bytes.specs.declared.frames.Region64.{Region64}
 use Rattle.eh_bytes.specs.Memory.{Part}
+use Rattle.table_forms.specs.declared.reason.Reason.TheVariants.{Overlap}
 use Rattle.table_forms.specs.Fault.{Fault, fault}
 
 -- the region that reaches farthest of those that are kept, and the first place so far
@@ -37,6 +38,6 @@ sweep_from s regions = (fold swept s regions).least
 abbrev pub first_overlap : List (ℕ × Region64) → Option ℕ
 first_overlap regions = sweep_from unswept regions
 
--- 57: at the place of the part
+-- refused at the place of the part
 abbrev pub meets_at : Part → ℕ → Fault
-meets_at part a = fault 57 (part.file_at + a)
+meets_at part a = fault Overlap (part.file_at + a)

@@ -2,7 +2,7 @@
 use Rattle.std.specs.Prelude.{List, map, Option, option_map}
 use Rattle.table_forms.specs.Fault.{Fault, least}
 use Rattle.table_forms.specs.Parts.{Parts}
-use Rattle.table_refusals.specs.Seen.{fault_of}
+use Rattle.table_forms.specs.Seen.{fault_of}
 use Rattle.frame_read.specs.Listed.{cie_listed, fde_listed}
 use Rattle.frame_read.specs.declared.listed.Cie.{Cie}
 use Rattle.frame_read.specs.declared.listed.Fde.{Fde}

@@ -9,7 +9,7 @@ ghost use Rattle.frame_read.specs.Fits.{Fits};
 use crate::instruction::Instruction;
 use crate::offset::{register_of, signed_of, unsigned_of};
 use eh_bytes::Segment;
-use table_refusals::Refusal;
+use table_forms::Refusal;
 
 /// It is a register and an unsigned offset.
 pub fn defines(

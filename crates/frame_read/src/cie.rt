@@ -19,7 +19,7 @@ use crate::letters::augmented;
 use crate::states::instructions_of;
 use crate::text::{text_at, wrong_letter};
 use eh_bytes::Segment;
-use table_refusals::{Refusal, refused};
+use table_forms::{Reason, Refusal, refused};
 
 // The number that a byte is.
 fn byte_number(segment: &Segment, stop: usize, place: usize) -> Result<(u64, usize), Refusal>
@@ -66,7 +66,7 @@ pub fn return_register_of(
 {
     let (register, next) = register_number(version, segment, stop, place)?;
     if register >= 64 {
-        return Err(refused(58, segment.file_at as u128 + place as u128));
+        return Err(refused(Reason::RegisterRange, segment.file_at as u128 + place as u128));
     }
     Ok((register as u8, next))
 }
@@ -89,11 +89,11 @@ pub fn cie_head_of(
 {
     let (version, next) = byte_at(segment, stop, place)?;
     if version != 1 && version != 3 {
-        return Err(refused(51, segment.file_at as u128 + place as u128));
+        return Err(refused(Reason::Version, segment.file_at as u128 + place as u128));
     }
     let (augmentation, behind) = text_at(segment, stop, next)?;
     if let Some(wrong) = wrong_letter(next, augmentation) {
-        return Err(refused(52, segment.file_at as u128 + wrong));
+        return Err(refused(Reason::Augmentation, segment.file_at as u128 + wrong));
     }
     let (code_factor, next) = uleb_at(segment, stop, behind)?;
     let (data_factor, next) = sleb_at(segment, stop, next)?;

@@ -1,7 +1,7 @@
 // What parts say.
 use crate::cie_part::CiePart;
 use crate::fde_part::FdePart;
-use table_refusals::Refusal;
+use table_forms::Refusal;
 
 /// A CIE, or why it is refused, by the place of its length.
 #[derive(Clone, Copy, Drop)]

@@ -17,7 +17,7 @@ use crate::field::encoded_at;
 use crate::letters::sized_of;
 use crate::states::instructions_of;
 use eh_bytes::{Pointer, Region64, Segment};
-use table_refusals::{Refusal, refused};
+use table_forms::{Reason, Refusal, refused};
 
 // A number in the format of an encoding, which applies to no address.
 fn length_at(
@@ -52,7 +52,7 @@ pub fn region_of(
     let (start, behind) = encoded_at(encoding, segment, stop, place)?;
     let (length, next) = length_at(encoding, segment, stop, behind)?;
     if length.value > u64::MAX - start.value {
-        return Err(refused(50, segment.file_at as u128 + behind as u128));
+        return Err(refused(Reason::FrameTruncated, segment.file_at as u128 + behind as u128));
     }
     let region = Region64 {
         start: start.value,

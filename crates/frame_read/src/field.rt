@@ -10,7 +10,7 @@ ghost use Rattle.frame_read.specs.Reads.{Reads};
 
 use crate::refusal::field_refusal;
 use eh_bytes::{ByteError, Pointer, RawCursor, Segment};
-use table_refusals::Refusal;
+use table_forms::Refusal;
 
 /// The byte at a place, and the place behind it.
 pub fn byte_at(segment: &Segment, stop: usize, place: usize) -> Result<(u8, usize), Refusal>

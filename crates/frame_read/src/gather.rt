@@ -1,7 +1,7 @@
 // What is gathered of parts.
 use crate::listed::{Cie, Fde};
 use eh_bytes::Region64;
-use table_refusals::Refusal;
+use table_forms::Refusal;
 
 /// The region of an FDE, by the place of its length.
 #[derive(Clone, Copy, Drop)]

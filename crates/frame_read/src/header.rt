@@ -4,7 +4,7 @@ ghost use Rattle.eh_bytes.specs.Memory.{part_of};
 ghost use Rattle.eh_bytes.specs.Encoded.{extended};
 ghost use Rattle.table_forms.specs.Fault.{least};
 ghost use Rattle.table_forms.specs.Header.{is_bare, encodings_at, encoding_faults, from_start, row_in, rows_within, table_rows, with_encodings, header_at};
-ghost use Rattle.table_refusals.specs.Seen.{fault_of};
+ghost use Rattle.table_forms.specs.Seen.{fault_of};
 ghost use Rattle.frame_read.specs.Reads.{Reads};
 ghost use Rattle.frame_read.specs.SeenSpan.{cut_of};
 ghost use Rattle.frame_read.specs.SeenHeader.{encodings_seen, rows_seen, summary, header_seen};
@@ -13,7 +13,7 @@ use crate::field::{byte_at, u32_at};
 use crate::header_read::{Encodings, HeaderRead};
 use eh_bytes::{HdrRow, Segment};
 use std::alloc::{AllocError, Global};
-use table_refusals::{Refusal, joined, refused, unless};
+use table_forms::{Reason, Refusal, joined, refused, unless};
 
 // The three encodings behind the version.
 #[tactic(auto, unfolding(table_forms::specs::Header::encodings_at))]
@@ -25,7 +25,7 @@ fn encodings_of(segment: &Segment, place: usize) -> Result<Encodings, Refusal>
     let end = segment.bytes.len();
     let (version, next) = byte_at(segment, end, place)?;
     if version != 1 {
-        return Err(refused(51, segment.file_at as u128 + place as u128));
+        return Err(refused(Reason::Version, segment.file_at as u128 + place as u128));
     }
     let (pointer, next) = byte_at(segment, end, next)?;
     let (count, next) = byte_at(segment, end, next)?;
@@ -70,9 +70,9 @@ fn encodings_refusal(segment: &Segment, place: usize, encodings: Encodings) -> O
 {
     let file_at = segment.file_at as u128;
     let place = place as u128;
-    let pointer = unless(encodings.pointer == 0x1b, 3, file_at + (place + 1));
-    let count = unless(encodings.is_count_known(), 3, file_at + (place + 2));
-    let table = unless(encodings.is_table_known(), 3, file_at + (place + 3));
+    let pointer = unless(encodings.pointer == 0x1b, Reason::Encoding, file_at + (place + 1));
+    let count = unless(encodings.is_count_known(), Reason::Encoding, file_at + (place + 2));
+    let table = unless(encodings.is_table_known(), Reason::Encoding, file_at + (place + 3));
     joined(joined(pointer, count), table)
 }
 

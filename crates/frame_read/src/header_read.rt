@@ -1,6 +1,6 @@
 // What a header says.
 use eh_bytes::HdrRow;
-use table_refusals::Refusal;
+use table_forms::Refusal;
 
 /// The encodings of the pointer to the frames, of the count and of the table.
 #[derive(Clone, Copy, Drop)]

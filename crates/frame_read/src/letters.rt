@@ -9,7 +9,7 @@ ghost use Rattle.frame_read.specs.SeenCie.{letters_seen, lettered_seen};
 use crate::augmentation::{Letters, NO_LETTERS};
 use crate::field::{byte_at, encoded_at, uleb_at};
 use eh_bytes::Segment;
-use table_refusals::{Refusal, refused};
+use table_forms::{Reason, Refusal, refused};
 
 // Whether it is an encoding.
 fn is_encoding(encoding: u8) -> bool
@@ -34,7 +34,7 @@ fn direct_of(segment: &Segment, stop: usize, place: usize) -> Result<(u8, usize)
 {
     let (encoding, next) = byte_at(segment, stop, place)?;
     if !is_direct(encoding) {
-        return Err(refused(3, segment.file_at as u128 + place as u128));
+        return Err(refused(Reason::Encoding, segment.file_at as u128 + place as u128));
     }
     Ok((encoding, next))
 }
@@ -49,7 +49,7 @@ fn behind_personality(segment: &Segment, stop: usize, place: usize) -> Result<us
 {
     let (encoding, next) = byte_at(segment, stop, place)?;
     if !is_encoding(encoding) {
-        return Err(refused(3, segment.file_at as u128 + place as u128));
+        return Err(refused(Reason::Encoding, segment.file_at as u128 + place as u128));
     }
     let (_, next) = encoded_at(encoding, segment, stop, next)?;
     Ok(next)
@@ -142,7 +142,7 @@ pub fn sized_of(segment: &Segment, stop: usize, place: usize) -> Result<(usize, 
 {
     let (size, next) = uleb_at(segment, stop, place)?;
     if size > (stop - next) as u64 {
-        return Err(refused(50, segment.file_at as u128 + place as u128));
+        return Err(refused(Reason::FrameTruncated, segment.file_at as u128 + place as u128));
     }
     Ok((next, next + size as usize))
 }

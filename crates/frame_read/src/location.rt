@@ -10,7 +10,7 @@ ghost use Rattle.frame_read.specs.Fits.{Fits};
 use crate::field::{encoded_at, u8_at, u16_at, u32_at};
 use crate::instruction::{Coding, Instruction};
 use eh_bytes::Segment;
-use table_refusals::Refusal;
+use table_forms::Refusal;
 
 /// To a location.
 pub fn goes_to(

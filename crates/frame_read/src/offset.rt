@@ -6,7 +6,7 @@ ghost use Rattle.frame_read.specs.Reads.{Reads};
 
 use crate::field::{sleb_at, uleb_at};
 use eh_bytes::Segment;
-use table_refusals::{Refusal, refused};
+use table_forms::{Reason, Refusal, refused};
 
 /// A register of 0 to 63.
 #[tactic(auto, unfolding(table_forms::specs::Instruction::register_at))]
@@ -20,7 +20,7 @@ pub fn register_of(segment: &Segment, stop: usize, place: usize) -> Result<(u8, 
 {
     let (register, next) = uleb_at(segment, stop, place)?;
     if register >= 64 {
-        return Err(refused(58, segment.file_at as u128 + place as u128));
+        return Err(refused(Reason::RegisterRange, segment.file_at as u128 + place as u128));
     }
     Ok((register as u8, next))
 }
@@ -36,7 +36,7 @@ fn in_range(
     ensures next { IfOk result (λ x. x.1 ≡ next) }
 {
     if value < i64::MIN as i128 || value > i64::MAX as i128 {
-        return Err(refused(2, segment.file_at as u128 + place as u128));
+        return Err(refused(Reason::LebRange, segment.file_at as u128 + place as u128));
     }
     Ok((value as i64, next))
 }

@@ -5,13 +5,13 @@ ghost use Rattle.table_forms.specs.Frames.{differs, sorted, disagreement};
 ghost use Rattle.frame_read.specs.Listed.{fde_listed};
 ghost use Rattle.std.specs.List.Sorted.{IsPermutation, IsNonDecreasingBy, IsStableByKey};
 ghost use Rattle.std.specs.Ordering.{nat_cmp};
-ghost use Rattle.table_refusals.specs.Seen.{fault_of};
+ghost use Rattle.table_forms.specs.Seen.{fault_of};
 ghost use Rattle.frame_read.specs.Order.{disagrees, PlacesRise};
 
 use crate::listed::Fde;
 use eh_bytes::HdrRow;
 use std::alloc::{AllocError, Global};
-use table_refusals::Refusal;
+use table_forms::{Reason, Refusal};
 
 // The FDEs by location; those of one location stay as they are.
 fn in_order(alloc: Global, fdes: &[Fde]) -> Result<Vec<Fde>, AllocError>
@@ -29,7 +29,7 @@ fn differs(place: u128, location: u64, other: u64) -> Refusal
     ensures { fault_of result ≡ differs place location other }
 {
     Refusal {
-        number: 59,
+        reason: Reason::HeaderDisagrees,
         place,
         location,
         other,

@@ -2,7 +2,7 @@
 ghost use Rattle.std.specs.Prelude.{ℕ, ◌≡◌, ◌+◌, ◌<◌, ◌≤◌, ◌^◌, [], ◌∷◌, All, IfOk, OnOk, length, option_map};
 ghost use Rattle.eh_bytes.specs.Memory.{Part, part_of};
 ghost use Rattle.table_forms.specs.Parts.{cies_of, parts_at};
-ghost use Rattle.table_refusals.specs.Seen.{fault_of};
+ghost use Rattle.table_forms.specs.Seen.{fault_of};
 ghost use Rattle.frame_read.specs.Sweep.{meets_at};
 ghost use Rattle.frame_read.specs.Whole.{whole, whole_seen};
 ghost use Rattle.frame_read.specs.SeenCie.{cie_seen};
@@ -25,7 +25,7 @@ use crate::span::Span;
 use crate::spans::spans_of;
 use eh_bytes::{Region64, Segment};
 use std::alloc::{AllocError, Global};
-use table_refusals::{Refusal, joined, refused};
+use table_forms::{Reason, Refusal, joined, refused};
 
 // A CIE as it is listed.
 fn listed_cie(alloc: Global, segment: &Segment, cie: &CiePart<'_>) -> Result<Cie, AllocError>
@@ -175,7 +175,7 @@ fn overlap_refusal(file_at: u64, place: Option<usize>) -> Option<Refusal>
     ensures { (part : Part) → part.file_at ≡ file_at → option_map fault_of result ≡ option_map (meets_at part) place }
 {
     let at = place?;
-    Some(refused(57, file_at as u128 + at as u128))
+    Some(refused(Reason::Overlap, file_at as u128 + at as u128))
 }
 
 /// What all parts from a place on say.

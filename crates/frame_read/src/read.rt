@@ -6,7 +6,7 @@ ghost use Rattle.table_forms.specs.Fde as forms;
 ghost use Rattle.table_forms.specs.Parts.{Parts};
 ghost use Rattle.table_forms.specs.Header.{Header};
 ghost use Rattle.table_forms.specs.Frames.{parts_behind, table_disagreement, frames_in, frames};
-ghost use Rattle.table_refusals.specs.Seen.{fault_of};
+ghost use Rattle.table_forms.specs.Seen.{fault_of};
 ghost use Rattle.frame_read.specs.Listed.{fde_listed};
 ghost use Rattle.frame_read.specs.Order.{PlacesRise};
 ghost use Rattle.frame_read.specs.SeenHeader.{summary, header_seen};
@@ -23,7 +23,7 @@ use crate::listed::Fde;
 use crate::order;
 use eh_bytes::{HdrRow, Segment, Segments};
 use std::alloc::{AllocError, Global};
-use table_refusals::{Refusal, joined, refused};
+use table_forms::{Reason, Refusal, joined, refused};
 
 // What the parts say to which the pointer at a place leads.
 #[tactic(auto, unfolding(table_forms::specs::Fault::least))]
@@ -40,7 +40,7 @@ fn parts_behind(
     };
     match read_parts(alloc, memory, address)? {
         Some(parts) => Ok(parts),
-        None => Ok(PartsRead::refused(alloc, refused(50, pointer_place))),
+        None => Ok(PartsRead::refused(alloc, refused(Reason::FrameTruncated, pointer_place))),
     }
 }
 
@@ -96,12 +96,20 @@ fn read_in(
 /// The frames whose header stands at an address, or the first of all their refusals: 2, 3 and 50 to
 /// 59 of docs/TABLES.md (LSB Core, "Exception Frames"), or memory ran out. Reading grows as
 /// n log n in the number of CIEs and FDEs.
+///
+/// ```rust
+/// let frames = read_frames(alloc, &memory, 0x2000)?;
+/// if let Some(fde) = frames.fde_for(pc) {
+///     let row = frames.row_at(&memory, &fde, pc);
+///     println!(rt; "CFA: x{}{:+}", row.cfa_register, row.cfa_offset)?;
+/// }
+/// ```
 #[tactic(auto, unfolding(table_forms::specs::Frames::frames))]
 pub fn read_frames(alloc: Global, memory: &Segments, header: u64) -> Result<Frames, FrameError>
     ensures { ReadsFrames result (frames (memory_of memory.now) header) }
 {
     match memory.segment_with(header) {
-        None => Err(refused(50, 0).into()),
+        None => Err(refused(Reason::FrameTruncated, 0).into()),
         Some(segment) => {
             let place = (header - segment.address) as usize;
             read_in(alloc, memory, segment, header, place)

@@ -1,20 +1,20 @@
 // A refused field, and how a refusal is reported.
 ghost use Rattle.std.specs.Prelude.{◌≡◌};
-ghost use Rattle.table_forms.specs.Fault.{fault, frame_number};
-ghost use Rattle.table_refusals.specs.Seen.{fault_of};
+ghost use Rattle.table_forms.specs.Fault.{fault, frame_reason};
+ghost use Rattle.table_forms.specs.Seen.{fault_of};
 
 use crate::error::FrameError;
 use eh_bytes::ByteError;
-use table_refusals::{Refusal, refused};
+use table_forms::{Reason, Refusal, refused};
 
 /// The refusal of a field.
 pub fn field_refusal(cause: ByteError, place: u128) -> Refusal
-    ensures { fault_of result ≡ fault (frame_number cause) place }
+    ensures { fault_of result ≡ fault (frame_reason cause) place }
 {
     match cause {
-        ByteError::Truncated => refused(50, place),
-        ByteError::LebRange => refused(2, place),
-        ByteError::Encoding => refused(3, place),
+        ByteError::Truncated => refused(Reason::FrameTruncated, place),
+        ByteError::LebRange => refused(Reason::LebRange, place),
+        ByteError::Encoding => refused(Reason::Encoding, place),
     }
 }
 
@@ -30,7 +30,7 @@ impl From<Refusal> for FrameError {
             refusal.place as u64
         };
         FrameError::Refused {
-            number: refusal.number,
+            reason: refusal.reason,
             place,
             location: refusal.location,
             other: refusal.other,

@@ -11,7 +11,7 @@ use crate::instruction::Instruction;
 use crate::offset::{register_of, signed_of, unsigned_of};
 use eh_bytes::Segment;
 use table_forms::Rule;
-use table_refusals::Refusal;
+use table_forms::Refusal;
 
 /// A register gets this rule.
 pub fn sets(

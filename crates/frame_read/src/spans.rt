@@ -8,7 +8,7 @@ use crate::field::u32_at;
 use crate::span::Span;
 use eh_bytes::Segment;
 use std::alloc::{AllocError, Global};
-use table_refusals::{Refusal, refused};
+use table_forms::{Reason, Refusal, refused};
 
 /// Where the parts stand from a place on, up to the end or to the first that leaves its segment,
 /// and the refusal of that one.
@@ -32,7 +32,7 @@ pub fn spans_of(
                     return Ok((spans, None));
                 }
                 if length as usize > end - next {
-                    let cut = refused(50, segment.file_at as u128 + place as u128);
+                    let cut = refused(Reason::FrameTruncated, segment.file_at as u128 + place as u128);
                     return Ok((spans, Some(cut)));
                 }
                 let stop = next + length as usize;

@@ -9,7 +9,7 @@ ghost use Rattle.frame_read.specs.States.{states_of, with_list};
 use crate::instruction::{Coding, Instruction};
 use crate::step::instruction_of;
 use eh_bytes::Segment;
-use table_refusals::{Refusal, refused};
+use table_forms::{Reason, Refusal, refused};
 
 // How many states are remembered after an instruction, if it may stand there.
 fn states_after(instruction: Instruction, states: u8) -> Option<u8>
@@ -45,7 +45,7 @@ fn states_behind(
             Err(e) => return Err(e),
             Ok((instruction, next)) => {
                 let Some(kept) = states_after(instruction, states) else {
-                    return Err(refused(56, segment.file_at as u128 + place as u128));
+                    return Err(refused(Reason::StateStack, segment.file_at as u128 + place as u128));
                 };
                 states = kept;
                 place = next;

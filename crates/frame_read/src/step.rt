@@ -16,8 +16,7 @@ use crate::rule::{
     computes, computes_signed, moves, restores, saves, saves_far, saves_signed, sets,
 };
 use eh_bytes::Segment;
-use table_forms::Rule;
-use table_refusals::{Refusal, refused};
+use table_forms::{Reason, Refusal, Rule, refused};
 
 // The size of the arguments, which changes no row.
 fn passes_over_size(
@@ -77,8 +76,8 @@ fn extended(
         0x15 => computes_signed(coding.data_factor, segment, stop, place),
         0x2e => passes_over_size(segment, stop, place),
         // Expressions.
-        0x0f | 0x10 | 0x16 => Err(refused(55, refused_at)),
-        _ => Err(refused(54, refused_at)),
+        0x0f | 0x10 | 0x16 => Err(refused(Reason::Expression, refused_at)),
+        _ => Err(refused(Reason::UnknownInstruction, refused_at)),
     }
 }
 

@@ -9,7 +9,7 @@ ghost use Rattle.frame_read.specs.Texts.{zero_in, not_letter_in};
 
 use crate::refusal::field_refusal;
 use eh_bytes::{ByteError, Segment};
-use table_refusals::Refusal;
+use table_forms::Refusal;
 
 // The bytes from a place up to a stop.
 fn bytes_between(segment: &Segment, stop: usize, place: usize) -> &[u8]

@@ -10,7 +10,7 @@ use Rattle.eh_bytes.specs.declared.frames.Region64.{Region64}
 use Rattle.eh_bytes.specs.Memory.{Part}
 use Rattle.eh_bytes.specs.Field.{fixed, behind}
 use Rattle.eh_bytes.specs.Listed.{ListedFrame}
-use Rattle.table_forms.specs.Fault.{Fault, ◌>>=◌, frame_number, numbered}
+use Rattle.table_forms.specs.Fault.{Fault, ◌>>=◌, frame_reason, with_reason}
 use Rattle.table_forms.specs.Instruction.{in_frames}
 use Rattle.table_forms.specs.Instructions.{Instructions, instructions_at}
 use Rattle.table_forms.specs.Spans.{Span, no_spans, and_spans, spans_after, spans_from, spans_within, distance_at}
@@ -28,7 +28,7 @@ length_at : (part : Part) (stop p : ℕ) (bytes : List ℕ) → drop p (take sto
     in_frames (fixed w32) part stop p ≡ Ok (from_le_bytes w32 (take 4 bytes), p + 4)
 length_at part stop p bytes here four =
     let enough : nat_lt (length bytes) 4 ≡ false = grind (arith, nat_tests, four) in
-    ap (λ xs. numbered frame_number (part.file_at + p) (behind p (fixed w32 xs))) here ∙
+    ap (λ xs. with_reason frame_reason (part.file_at + p) (behind p (fixed w32 xs))) here ∙
     rw enough refl
 
 -- up to the end of a part all its bytes count

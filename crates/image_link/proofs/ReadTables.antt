@@ -8,6 +8,7 @@ use Rattle.std.proofs.lemmas.Bool.Decides.{nat_tests}
 use Rattle.eh_bytes.specs.declared.frames.Region64.{Region64}
 use Rattle.eh_bytes.specs.declared.table.ListSite.{ListSite}
 use Rattle.eh_bytes.specs.Memory.{Memory, is_code}
+use Rattle.table_forms.specs.declared.reason.Reason.TheVariants.{TableWritable}
 use Rattle.table_forms.specs.Fault.{Fault, ◌>>=◌, unless}
 use Rattle.table_forms.specs.Fde.{Fde}
 use Rattle.table_forms.specs.Lsda.{Table, lsda}
@@ -29,7 +30,7 @@ use Rattle.image_link.proofs.ReadMemory.{Holds, has_bytes}
 pub kept : (memory : Memory) (first n : ℕ) (bytes : List ℕ) → Holds memory first bytes → n < length bytes → written_at memory (first + n) ≡ []
 kept memory first n bytes holds inside =
     let at = holds n inside in
-    ap (λ o. written_in o (first + n)) at.found ∙ ap (λ b. unless (not b) 69 (at.part.file_at + (first + n - at.part.address))) at.held.kept
+    ap (λ o. written_in o (first + n)) at.found ∙ ap (λ b. unless (not b) TableWritable (at.part.file_at + (first + n - at.part.address))) at.held.kept
 
 -- code from an address up to another
 abbrev pub HasCode : Memory → (from end : ℕ) → Type 0

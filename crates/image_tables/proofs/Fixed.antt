@@ -8,7 +8,8 @@ use Rattle.eh_bytes.specs.Encoded.{raw, encoding_format, is_relative, applied, a
 use Rattle.eh_bytes.specs.Field.{Reading, byte, behind}
 use Rattle.eh_bytes.specs.Leb128.{uleb}
 use Rattle.eh_bytes.specs.Memory.{Part, Memory, part_with}
-use Rattle.table_forms.specs.Fault.{Fault, ◌>>=◌, demand, numbered, table_number, least, answer}
+use Rattle.table_forms.specs.declared.reason.Reason.TheVariants.{Encoding, FilterOutside}
+use Rattle.table_forms.specs.Fault.{Fault, ◌>>=◌, demand, with_reason, table_reason, least, answer}
 use Rattle.table_forms.specs.LsdaHead.{Head, Types, in_table, pads_start, type_table, head_at}
 use Rattle.table_forms.specs.LsdaTypes.{followed, entry_at}
 use Rattle.table_forms.specs.Lsda.{Table, value_of, entry_value, table_faults, table_of, lsda_in, lsda_from, lsda}
@@ -30,7 +31,7 @@ ok_same x y r e f = cc
 
 -- ---- the head
 byte_read : (part : Part) (p b : ℕ) (rest : List ℕ) → drop p part.bytes ≡ b ∷ rest → in_table byte part p ≡ Ok (b, p + 1)
-byte_read part p b rest here = ap (λ bytes. numbered table_number (part.file_at + p) (behind p (byte bytes))) here
+byte_read part p b rest here = ap (λ bytes. with_reason table_reason (part.file_at + p) (behind p (byte bytes))) here
 
 -- type entries that are relative to themselves
 abbrev pub AreNear : Option Types → Type 0
@@ -45,7 +46,7 @@ sized_near part p x e =
 
 -- a head from the encoding of its sites on
 abbrev rest_of_head : Part → ℕ → Option Types × ℕ → Result Head Fault
-rest_of_head part pads table = in_table byte part table.1 >>= λ sites. demand (nat_lt sites.0 16 && is_some (encoding_format sites.0)) 3 (part.file_at + table.1) >>= λ plain.
+rest_of_head part pads table = in_table byte part table.1 >>= λ sites. demand (nat_lt sites.0 16 && is_some (encoding_format sites.0)) Encoding (part.file_at + table.1) >>= λ plain.
     in_table uleb part sites.1 >>= λ size. Ok (record { pads_from = pads; types = table.0; site_encoding = sites.0; sites_at = size.1; actions_at = size.1 + size.0 })
 
 -- from the encoding of its types on
@@ -71,10 +72,10 @@ rest_types part pads table h e = by_sites (in_table byte part table.1) e
     by_plain sites (Err f) e = absurd cc
     by_plain sites (Ok b) e = by_size sites (in_table uleb part sites.1) e
 
-    by_sites : (r : Result (ℕ × ℕ) Fault) → (r >>= λ sites. demand (nat_lt sites.0 16 && is_some (encoding_format sites.0)) 3 (part.file_at + table.1) >>= λ plain.
+    by_sites : (r : Result (ℕ × ℕ) Fault) → (r >>= λ sites. demand (nat_lt sites.0 16 && is_some (encoding_format sites.0)) Encoding (part.file_at + table.1) >>= λ plain.
         in_table uleb part sites.1 >>= λ size. Ok (record { pads_from = pads; types = table.0; site_encoding = sites.0; sites_at = size.1; actions_at = size.1 + size.0 })) ≡ Ok h → table.0 ≡ h.types
     by_sites (Err f) e = absurd cc
-    by_sites (Ok sites) e = by_plain sites (demand (nat_lt sites.0 16 && is_some (encoding_format sites.0)) 3 (part.file_at + table.1)) e
+    by_sites (Ok sites) e = by_plain sites (demand (nat_lt sites.0 16 && is_some (encoding_format sites.0)) Encoding (part.file_at + table.1)) e
 
 near_types : (part : Part) (region : Region64) (p : ℕ) (rest : List ℕ) (h : Head) → drop p part.bytes ≡ 255 ∷ 0x1b ∷ rest → head_at part region p ≡ Ok h → AreNear h.types
 unfolding head_at pads_start
@@ -102,14 +103,14 @@ entry_direct : (address : ℕ) (part : Part) (p : ℕ) → IfOk (in_table (encod
 unfolding encoded
 entry_direct address part p = by (raw (encoding_format 0x1b) (drop p part.bytes))
   where
-    by : (r : Reading ℕ) → IfOk (numbered table_number (part.file_at + p) (behind p (applies 0x1b address r))) (λ e. e.0.indirect ≡ false)
+    by : (r : Reading ℕ) → IfOk (with_reason table_reason (part.file_at + p) (behind p (applies 0x1b address r))) (λ e. e.0.indirect ≡ false)
     by (Ok (n, taken)) = number_direct address n (n == 0) refl
     by (Err cause) = tt
 
 same_entry : (ms ns : Memory) (part : Part) (h : Head) (types : Option Types) (i : ℕ) → AreNear types → entry_value ms part h types i ≡ entry_value ns part h types i
 unfolding entry_at
 same_entry ms ns part h None i near = refl
-same_entry ms ns part h (Some types) i near = by_demand (demand (nat_le (h.actions_at + i * types.size) types.base) 9 (part.file_at + 0))
+same_entry ms ns part h (Some types) i near = by_demand (demand (nat_le (h.actions_at + i * types.size) types.base) FilterOutside (part.file_at + 0))
   where
     place : ℕ
     place = types.base - i * types.size

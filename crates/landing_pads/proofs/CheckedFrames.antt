@@ -14,6 +14,7 @@ use Rattle.meaning_forms.specs.Class.{class_at, no_class}
 use Rattle.region_forms.specs.Form.{RegionFunction}
 use Rattle.region_forms.specs.Layout.{Layout, layout_of}
 use Rattle.region_forms.specs.LowerProgram.{declared_function, own_functions, functions_of_class, functions_of_classes, regions_of}
+use Rattle.linear_forms.specs.Linear.{FunctionCode}
 use Rattle.linear_forms.specs.Unit.{function_code, unit_of}
 use Rattle.landing_pads.specs.Numbered.{VariablesAreNumbered}
 use Rattle.landing_pads.specs.Frames.{VariablesAreSmall, laid_bytes, AllCheckedFramesFit}
@@ -76,7 +77,7 @@ checked_numbered p h = subst ProgramNumbered (sym h.resolved) (program_numbered 
 -- frames
 
 abbrev Small : RegionFunction → Type 0
-Small f = (function_code f).frame ≤ 2032
+Small f = (function_code f).frame ≤ 1600
 
 both_small : (a b : List RegionFunction) → AllByRecursion Small a → AllByRecursion Small b → AllByRecursion Small (a ++ b)
 both_small [] b h k = k
@@ -116,11 +117,16 @@ module _ (p : Checked) (l : Layout) where
       (class_small k (at_or (λ c. Numbered c.functions) p.classes k no_class h tt) (at_or (λ c. Within c.functions) p.classes k no_class b tt))
       (classes_small (k + 1) n h b)
 
-coded : (fs : List RegionFunction) → AllByRecursion Small fs → AllByRecursion (λ g. g.frame ≤ 2032) (map function_code fs)
+coded : (fs : List RegionFunction) → AllByRecursion Small fs → AllByRecursion (λ g. g.frame ≤ 1600) (map function_code fs)
 coded [] h = tt
 coded (f ∷ fs) h = (h.0, coded fs h.1)
 
-checked_small : (p : Checked) (l : Layout) → IsChecked p → VariablesAreSmall p l → AllByRecursion (λ g. g.frame ≤ 2032) (unit_of (regions_of p l)).functions
+-- what 1,600 bytes hold 2,032 do
+nameable : (gs : List FunctionCode) → AllByRecursion (λ g. g.frame ≤ 1600) gs → AllByRecursion (λ g. g.frame ≤ 2032) gs
+nameable [] h = tt
+nameable (g ∷ gs) h = (omega (arith, h.0), nameable gs h.1)
+
+checked_small : (p : Checked) (l : Layout) → IsChecked p → VariablesAreSmall p l → AllByRecursion (λ g. g.frame ≤ 1600) (unit_of (regions_of p l)).functions
 checked_small p l h small =
     let numbered = checked_numbered p h in
     coded (regions_of p l).functions
@@ -130,4 +136,5 @@ checked_small p l h small =
 pub checked_frames_fit : AllCheckedFramesFit
 checked_frames_fit p h =
     let within = checked_within p h in
-    record { variables = within; frames = checked_small p (layout_of p) h within }
+    let small = checked_small p (layout_of p) h within in
+    record { variables = within; small = small; frames = nameable _ small }

@@ -60,9 +60,11 @@ pub record VariablesAreSmall (p : Checked) (l : Layout) : Type 0 where
   pub functions : AllByRecursion (λ f. laid_bytes l f ≤ 1536) p.functions
   pub methods : AllByRecursion (λ c. AllByRecursion (λ f. laid_bytes l f ≤ 1536) c.functions) p.classes
 
--- By its layout the variables of a checked program have no more bytes than the limit allows, so its frames have at most 2,032 bytes.
+-- By its layout the variables of a checked program have no more bytes than the limit allows, so its frames have at most 1,600 bytes, and
+-- 12 bits with a sign name each place in them.
 pub record CheckedFramesFit (p : Checked) : Type 0 where
   pub variables : VariablesAreSmall p (layout_of p)
+  pub small : AllByRecursion (λ g. g.frame ≤ 1600) (unit_of (regions_of p (layout_of p))).functions
   pub frames : AllByRecursion (λ g. g.frame ≤ 2032) (unit_of (regions_of p (layout_of p))).functions
 
 -- so of every checked program

@@ -22,7 +22,7 @@ pub fn frames_of_sources_fit()
     ensures { AllSourceFramesFit }
 {}
 
-/// The frames of a checked program have at most 2,032 bytes: by its layout the variables of a function have no more than the limit allows.
+/// The frames of a checked program have at most 1,600 bytes: by its layout the variables of a function have no more than the limit allows.
 pub fn frames_of_checked_fit()
     ensures { AllCheckedFramesFit }
 {}

@@ -5,6 +5,7 @@ use Rattle.eh_bytes.specs.Memory.{Part, Memory}
 use Rattle.table_forms.specs.declared.found.Next.{Next}
 use Rattle.table_forms.specs.declared.found.Next.TheVariants.{Ends, Leaves, Goes}
 use Rattle.table_forms.specs.declared.found.Action.TheVariants.{Record, Outside, Ranged}
+use Rattle.table_forms.specs.declared.reason.Reason.TheVariants.{LebRange, ActionOutside, ActionLoop}
 use Rattle.table_forms.specs.Fault.{fault, joined, least}
 use Rattle.table_forms.specs.LsdaHead.{Head}
 use Rattle.table_forms.specs.LsdaChain.{action_at, links_from, next_links, links_within, ending_faults, first_record}
@@ -22,12 +23,12 @@ chain_record memory part h site a p n filter next read =
     least-append (filter_faults memory part h h.types p filter) (faults_in memory part h site a rest)
 
 pub chain_outside : (memory : Memory) (part : Part) (h : Head) (site a p n : ℕ) → action_at part h p ≡ Outside →
-    chain_rest memory part h site a (suc n) p ≡ Some (fault 7 (part.file_at + site))
+    chain_rest memory part h site a (suc n) p ≡ Some (fault ActionOutside (part.file_at + site))
 unfolding links_within least
 chain_outside memory part h site a p n read = ap (λ r. least (faults_in memory part h site a (links_from p r (links_within n part h)))) read
 
 pub chain_ranged : (memory : Memory) (part : Part) (h : Head) (site a p n q : ℕ) → action_at part h p ≡ Ranged q →
-    chain_rest memory part h site a (suc n) p ≡ Some (fault 2 (part.file_at + q))
+    chain_rest memory part h site a (suc n) p ≡ Some (fault LebRange (part.file_at + q))
 unfolding links_within least
 chain_ranged memory part h site a p n q read = ap (λ r. least (faults_in memory part h site a (links_from p r (links_within n part h)))) read
 
@@ -37,11 +38,11 @@ unfolding least
 chain_ends memory part h site a p n filter read = chain_record memory part h site a p n filter Ends read
 
 pub chain_leaves : (memory : Memory) (part : Part) (h : Head) (site a p n : ℕ) (filter : ℤ) → action_at part h p ≡ Record filter Leaves →
-    chain_rest memory part h site a (suc n) p ≡ joined (least (filter_faults memory part h h.types p filter)) (Some (fault 7 (part.file_at + site)))
+    chain_rest memory part h site a (suc n) p ≡ joined (least (filter_faults memory part h h.types p filter)) (Some (fault ActionOutside (part.file_at + site)))
 unfolding least
 chain_leaves memory part h site a p n filter read = chain_record memory part h site a p n filter Leaves read
 
-pub chain_loops : (memory : Memory) (part : Part) (h : Head) (site a p : ℕ) → chain_rest memory part h site a 0 p ≡ Some (fault 8 (part.file_at + first_record h a))
+pub chain_loops : (memory : Memory) (part : Part) (h : Head) (site a p : ℕ) → chain_rest memory part h site a 0 p ≡ Some (fault ActionLoop (part.file_at + first_record h a))
 unfolding links_within least
 chain_loops memory part h site a p = refl
 

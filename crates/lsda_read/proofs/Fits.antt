@@ -6,6 +6,7 @@ use Rattle.eh_bytes.specs.declared.frames.Region64.{Region64}
 use Rattle.eh_bytes.specs.declared.segment.Segment.{Segment}
 use Rattle.eh_bytes.specs.Extent.{AreInRange, extents_of, extent_of}
 use Rattle.eh_bytes.specs.Memory.{Part, part_of, covers, is_code}
+use Rattle.table_forms.specs.declared.reason.Reason.TheVariants.{SiteOrder, SiteOutside, PadOutside}
 use Rattle.table_forms.specs.Fault.{least, unless}
 use Rattle.table_forms.specs.LsdaHead.{Head}
 use Rattle.table_forms.specs.LsdaSites.{SiteRecord, site_of, site_faults, site_records}
@@ -41,11 +42,11 @@ site_is_fit : (parts : List Segment) (place before : ℕ) (region : Region64) (s
     region.start + region.length < 2 ^ 64 → least (site_faults (map part_of parts) place region before s) ≡ None → site_fits s ≡ true
 site_is_fit parts place before region s range short clean =
     let memory = map part_of parts in
-    let order = unless (nat_le before s.start) 4 place in
-    let inside = unless (nat_le s.end (region.start + region.length)) 5 place in
-    let code = unless (s.pad == 0 || is_code memory s.pad) 6 place in
-    let e = holds (nat_le s.end (region.start + region.length)) 5 place (none_second order inside (none_first (order ++ inside) code clean)) in
-    let pad : s.pad < 2 ^ 64 = pad_below (s.pad == 0) refl (holds (s.pad == 0 || is_code memory s.pad) 6 place (none_second (order ++ inside) code clean)) in
+    let order = unless (nat_le before s.start) SiteOrder place in
+    let inside = unless (nat_le s.end (region.start + region.length)) SiteOutside place in
+    let code = unless (s.pad == 0 || is_code memory s.pad) PadOutside place in
+    let e = holds (nat_le s.end (region.start + region.length)) SiteOutside place (none_second order inside (none_first (order ++ inside) code clean)) in
+    let pad : s.pad < 2 ^ 64 = pad_below (s.pad == 0) refl (holds (s.pad == 0 || is_code memory s.pad) PadOutside place (none_second (order ++ inside) code clean)) in
     grind (arith, nat_tests, e, pad, short)
   where
     pad_below : (b : Bool) → (s.pad == 0) ≡ b → (b || is_code (map part_of parts) s.pad) ≡ true → s.pad < 2 ^ 64

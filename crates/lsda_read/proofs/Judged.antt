@@ -3,6 +3,7 @@ use Rattle.std.proofs.Common.{◌≡◌, ◌≤◌, ◌+◌, ◌==◌, ℕ, Bool
 use Rattle.std.specs.Prelude.{flat_map}
 use Rattle.std.proofs.lemmas.Bool.Decides.{nat_tests}
 use Rattle.eh_bytes.specs.Memory.{Part, Memory}
+use Rattle.table_forms.specs.declared.reason.Reason.TheVariants.{ActionOutside}
 use Rattle.table_forms.specs.Fault.{Fault, fault, is_before, lesser, least, joined}
 use Rattle.table_forms.specs.LsdaHead.{Head}
 use Rattle.table_forms.specs.LsdaChain.{Ending, ended, outside, repeated, ranged, ending_faults, chain_of}
@@ -22,9 +23,9 @@ before_turned : (f g : Fault) → is_before f g ≡ false → is_before g f ≡ 
 unfolding is_before
 before_turned f g fg = grind (arith, nat_tests, fg)
 
-seven_before : (m n : ℕ) → m ≤ n → is_before (fault 7 m) (fault 7 n) ≡ true
+outside_before : (m n : ℕ) → m ≤ n → is_before (fault ActionOutside m) (fault ActionOutside n) ≡ true
 unfolding is_before
-seven_before m n order = grind (arith, nat_tests, order)
+outside_before m n order = grind (arith, nat_tests, order)
 
 -- a refusal with itself
 twice : (o : Option Fault) → joined o o ≡ o
@@ -56,9 +57,9 @@ by_ending part h xs site later a ended order = twice (least (xs ++ []))
 by_ending part h xs site later a repeated order = twice (least (xs ++ ending_faults part h site a repeated))
 by_ending part h xs site later a (ranged p) order = twice (least (xs ++ ending_faults part h site a (ranged p)))
 by_ending part h xs site later a outside order =
-    let f = fault 7 (part.file_at + site) in let g = fault 7 (part.file_at + later) in
+    let f = fault ActionOutside (part.file_at + site) in let g = fault ActionOutside (part.file_at + later) in
     ap (λ o. joined o (least (xs ++ g ∷ []))) (least-append xs (f ∷ [])) ∙ ap (joined (joined (least xs) (Some f))) (least-append xs (g ∷ [])) ∙
-    added (least xs) f g (seven_before (part.file_at + site) (part.file_at + later) (omega (arith, order))) ∙ sym (least-append xs (f ∷ []))
+    added (least xs) f g (outside_before (part.file_at + site) (part.file_at + later) (omega (arith, order))) ∙ sym (least-append xs (f ∷ []))
 
 pub judged_again : (memory : Memory) (part : Part) (h : Head) (site later a : ℕ) → site ≤ later →
     joined (at_action memory part h site a) (at_action memory part h later a) ≡ at_action memory part h site a

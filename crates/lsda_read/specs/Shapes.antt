@@ -3,6 +3,7 @@ use Rattle.std.specs.Prelude.{◌≡◌, ℕ, ◌+◌, ◌-◌, Option, Some, No
 use Rattle.eh_bytes.specs.declared.frames.Region64.{Region64}
 use Rattle.eh_bytes.specs.Memory.{Part, Memory, part_with}
 use Rattle.eh_bytes.specs.Field.{byte}
+use Rattle.table_forms.specs.declared.reason.Reason.TheVariants.{TableTruncated}
 use Rattle.table_forms.specs.Fault.{Fault, fault, ◌>>=◌}
 use Rattle.table_forms.specs.LsdaHead.{Head, Types, head_at, in_table}
 use Rattle.lsda_read.specs.declared.error.TableError.{TableError}
@@ -28,7 +29,7 @@ shape_at part region p = do
   Ok (shape_of part h lp_start.0)
 
 abbrev pub shape_in : Region64 → ℕ → Option Part → Result Shape Fault
-shape_in region address None = Err (fault 1 0)
+shape_in region address None = Err (fault TableTruncated 0)
 shape_in region address (Some part) = shape_at part region (address - part.address)
 
 -- of the table at an address

@@ -5,7 +5,7 @@ ghost use Rattle.table_forms.specs.LsdaChain.{first_record};
 ghost use Rattle.table_forms.specs.Fault.{least};
 ghost use Rattle.table_forms.specs.Lsda.{filters_of};
 ghost use Rattle.lsda_read.specs.Rests.{chain_rest};
-ghost use Rattle.table_refusals.specs.Seen.{fault_of};
+ghost use Rattle.table_forms.specs.Seen.{fault_of};
 ghost use Rattle.lsda_read.specs.Heads.{head_seen};
 ghost use Rattle.lsda_read.specs.Left.{filters_left, next_place, and_filters};
 
@@ -14,8 +14,7 @@ use crate::filter::filter_refusal;
 use crate::head::Head;
 use eh_bytes::{Segment, Segments};
 use std::marker::Model;
-use table_forms::{Action, Next};
-use table_refusals::{Refusal, joined, refused};
+use table_forms::{Action, Next, Reason, Refusal, joined, refused};
 
 /// What is refused in the chain of an action that a site at this place names.
 pub fn chain_refusal(
@@ -34,21 +33,30 @@ pub fn chain_refusal(
     let mut place = first;
     for _ in 0..segment.bytes.len() as u128 + 1 {
         match action_here(segment, head, place) {
-            Action::Outside => return joined(least, Some(refused(7, file_at + site as u128))),
-            Action::Ranged(at) => return joined(least, Some(refused(2, file_at + at))),
+            Action::Outside => return joined(
+                least,
+                Some(refused(Reason::ActionOutside, file_at + site as u128)),
+            ),
+            Action::Ranged(at) => return joined(
+                least,
+                Some(refused(Reason::LebRange, file_at + at)),
+            ),
             Action::Record(filter, next) => {
                 least = joined(least, filter_refusal(memory, segment, head, place, filter));
                 match next {
                     Next::Ends => return least,
                     Next::Leaves => {
-                        return joined(least, Some(refused(7, file_at + site as u128)));
+                        return joined(
+                            least,
+                            Some(refused(Reason::ActionOutside, file_at + site as u128)),
+                        );
                     }
                     Next::Goes(next) => place = next,
                 }
             }
         }
     }
-    joined(least, Some(refused(8, file_at + first)))
+    joined(least, Some(refused(Reason::ActionLoop, file_at + first)))
 }
 
 // Where a chain goes on, if it does.

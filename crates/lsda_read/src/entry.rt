@@ -4,14 +4,14 @@ ghost use Rattle.eh_bytes.specs.Memory.{part_of, memory_of};
 ghost use Rattle.table_forms.specs.LsdaTypes.{entry_at, followed};
 ghost use Rattle.table_forms.specs.Lsda.{entry_value};
 ghost use Rattle.table_forms.specs.Fault.{least, refusal_of};
-ghost use Rattle.table_refusals.specs.Seen.{fault_of};
+ghost use Rattle.table_forms.specs.Seen.{fault_of};
 ghost use Rattle.lsda_read.specs.Reads.{Reads};
 ghost use Rattle.lsda_read.specs.Heads.{head_seen, types_of};
 
 use crate::field::encoded_at;
 use crate::head::{Head, Types};
 use eh_bytes::{Pointer, Segment, Segments};
-use table_refusals::{Refusal, refused};
+use table_forms::{Reason, Refusal, refused};
 
 // An address, or the word that is stored there.
 fn followed(memory: &Segments, place: u128, pointer: Pointer) -> Result<u64, Refusal>
@@ -20,7 +20,7 @@ fn followed(memory: &Segments, place: u128, pointer: Pointer) -> Result<u64, Ref
     if pointer.indirect {
         match memory.word_at(pointer.value) {
             Some(word) => Ok(word),
-            None => Err(refused(1, place)),
+            None => Err(refused(Reason::TableTruncated, place)),
         }
     } else {
         Ok(pointer.value)
@@ -42,13 +42,13 @@ pub fn entry_of(
 {
     let down = i as u128 * types.size as u128;
     if head.actions_at + down > types.base {
-        return Err(refused(9, segment.file_at as u128 + named_at));
+        return Err(refused(Reason::FilterOutside, segment.file_at as u128 + named_at));
     }
     let at = types.base - down;
     let bytes = segment.bytes.as_slice();
     let place = segment.file_at as u128 + at;
     if at > bytes.len() as u128 {
-        return Err(refused(1, place));
+        return Err(refused(Reason::TableTruncated, place));
     }
     let (pointer, _) = encoded_at(
         types.encoding,

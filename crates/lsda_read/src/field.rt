@@ -3,17 +3,17 @@ ghost use Rattle.std.specs.Prelude.{◌≡◌, ◌+◌, ◌<◌, ◌≤◌, leng
 ghost use Rattle.eh_bytes.specs.Field.{at, byte};
 ghost use Rattle.eh_bytes.specs.Leb128.{uleb};
 ghost use Rattle.eh_bytes.specs.Encoded.{encoded};
-ghost use Rattle.table_forms.specs.Fault.{numbered, table_number};
+ghost use Rattle.table_forms.specs.Fault.{with_reason, table_reason};
 ghost use Rattle.lsda_read.specs.Reads.{Reads};
 
 use crate::refusal::field_refusal;
 use eh_bytes::{Pointer, RawCursor};
-use table_refusals::Refusal;
+use table_forms::Refusal;
 
 /// The byte at a place, and the place behind it.
 pub fn byte_at(bytes: &[u8], file_at: u64, place: usize) -> Result<(u8, usize), Refusal>
     requires { place ≤ length bytes.now }
-    ensures reads { Reads (λ x. x) result (numbered table_number (file_at + place) (at byte bytes.now place)) }
+    ensures reads { Reads (λ x. x) result (with_reason table_reason (file_at + place) (at byte bytes.now place)) }
     ensures next { IfOk result (λ x. x.1 ≡ place + 1) }
     ensures inside { IfOk result (λ x. x.1 ≤ length bytes.now) }
     ensures on { IfOk result (λ x. place < x.1) }
@@ -28,7 +28,7 @@ pub fn byte_at(bytes: &[u8], file_at: u64, place: usize) -> Result<(u8, usize), 
 /// The ULEB128 number at a place, and the place behind it.
 pub fn uleb_at(bytes: &[u8], file_at: u64, place: usize) -> Result<(u64, usize), Refusal>
     requires { place ≤ length bytes.now }
-    ensures reads { Reads (λ x. x) result (numbered table_number (file_at + place) (at uleb bytes.now place)) }
+    ensures reads { Reads (λ x. x) result (with_reason table_reason (file_at + place) (at uleb bytes.now place)) }
     ensures inside { IfOk result (λ x. x.1 ≤ length bytes.now) }
     ensures on { IfOk result (λ x. place < x.1) }
 {
@@ -48,7 +48,7 @@ pub fn encoded_at(
     place: usize,
 ) -> Result<(Pointer, usize), Refusal>
     requires { place ≤ length bytes.now }
-    ensures reads { Reads (λ x. x) result (numbered table_number (file_at + place) (at (encoded encoding (address + place)) bytes.now place)) }
+    ensures reads { Reads (λ x. x) result (with_reason table_reason (file_at + place) (at (encoded encoding (address + place)) bytes.now place)) }
     ensures inside { IfOk result (λ x. x.1 ≤ length bytes.now) }
     ensures on { IfOk result (λ x. place < x.1) }
 {

@@ -3,7 +3,7 @@ ghost use Rattle.std.specs.Prelude.{◌≡◌, ◌+◌, ◌<◌, ◌^◌, option
 ghost use Rattle.eh_bytes.specs.Memory.{part_of, memory_of};
 ghost use Rattle.table_forms.specs.LsdaTypes.{filter_faults, list_at, list_faults};
 ghost use Rattle.table_forms.specs.Fault.{least};
-ghost use Rattle.table_refusals.specs.Seen.{fault_of};
+ghost use Rattle.table_forms.specs.Seen.{fault_of};
 ghost use Rattle.lsda_read.specs.Heads.{head_seen, types_of};
 ghost use Rattle.lsda_read.specs.Filters.{filter_of, IsInRange};
 
@@ -11,7 +11,7 @@ use crate::entry::entry_refusal;
 use crate::head::{Head, Types};
 use crate::list::list_refusal;
 use eh_bytes::{Segment, Segments};
-use table_refusals::{Refusal, refused};
+use table_forms::{Reason, Refusal, refused};
 
 /// Nothing, an entry of the types, or the list that begins so many bytes behind their base.
 #[derive(Clone, Copy, Drop)]
@@ -51,7 +51,7 @@ fn list_named(
 {
     let first = types.base + behind as u128;
     if first > segment.bytes.len() as u128 {
-        return Some(refused(14, segment.file_at as u128 + first));
+        return Some(refused(Reason::SpecificationOpen, segment.file_at as u128 + first));
     }
     list_refusal(memory, segment, head, types, named_at, first as usize)
 }
@@ -72,11 +72,11 @@ fn named_refusal(
     match named {
         Named::Cleanup => None,
         Named::Entry(i) => match head.types {
-            None => Some(refused(15, segment.file_at as u128 + named_at)),
+            None => Some(refused(Reason::NoTypes, segment.file_at as u128 + named_at)),
             Some(types) => entry_refusal(memory, segment, head, &types, named_at, i),
         },
         Named::List(n) => match head.types {
-            None => Some(refused(15, segment.file_at as u128 + named_at)),
+            None => Some(refused(Reason::NoTypes, segment.file_at as u128 + named_at)),
             Some(types) => list_named(memory, segment, head, &types, named_at, n),
         },
     }

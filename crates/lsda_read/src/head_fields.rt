@@ -9,7 +9,7 @@ ghost use Rattle.lsda_read.specs.Heads.{head_seen, types_seen};
 use crate::field::{byte_at, encoded_at, uleb_at};
 use crate::head::{Head, Types};
 use eh_bytes::{Region64, Segment};
-use table_refusals::{Refusal, refused};
+use table_forms::{Reason, Refusal, refused};
 
 // Whether it is an encoding.
 fn is_encoding(encoding: u8) -> bool
@@ -50,7 +50,7 @@ fn pads_from(
         return Ok((region.start, place + 1));
     }
     if encoding >= 128 || !is_encoding(encoding) {
-        return Err(refused(3, segment.file_at as u128 + place as u128));
+        return Err(refused(Reason::Encoding, segment.file_at as u128 + place as u128));
     }
     let bytes = segment.bytes.as_slice();
     let (pointer, next) = encoded_at(encoding, segment.address, bytes, segment.file_at, place + 1)?;
@@ -72,7 +72,7 @@ fn types_of(
         return Ok((None, place + 1));
     }
     let Some(size) = size_of(encoding) else {
-        return Err(refused(3, segment.file_at as u128 + place as u128));
+        return Err(refused(Reason::Encoding, segment.file_at as u128 + place as u128));
     };
     let (offset, next) = uleb_at(segment.bytes.as_slice(), segment.file_at, place + 1)?;
     Ok((
@@ -99,7 +99,7 @@ pub fn head_of(segment: &Segment, region: Region64, place: usize) -> Result<Head
     let (types, next) = types_of(segment, type_encoding, next)?;
     let (site_encoding, behind) = byte_at(bytes, segment.file_at, next)?;
     if site_encoding >= 16 || !is_encoding(site_encoding) {
-        return Err(refused(3, segment.file_at as u128 + next as u128));
+        return Err(refused(Reason::Encoding, segment.file_at as u128 + next as u128));
     }
     let (size, sites_at) = uleb_at(bytes, segment.file_at, behind)?;
     let actions_at = sites_at as u128 + size as u128;

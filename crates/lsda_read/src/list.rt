@@ -4,7 +4,7 @@ ghost use Rattle.eh_bytes.specs.Memory.{part_of, memory_of};
 ghost use Rattle.table_forms.specs.LsdaTypes.{index_at, indices_within, list_faults};
 ghost use Rattle.table_forms.specs.Lsda.{list_value};
 ghost use Rattle.table_forms.specs.Fault.{least};
-ghost use Rattle.table_refusals.specs.Seen.{fault_of};
+ghost use Rattle.table_forms.specs.Seen.{fault_of};
 ghost use Rattle.lsda_read.specs.Reads.{Reads};
 ghost use Rattle.lsda_read.specs.Heads.{head_seen, types_of};
 ghost use Rattle.lsda_read.specs.Left.{indices_left, and_indices};
@@ -13,7 +13,7 @@ use crate::entry::entry_refusal;
 use crate::head::{Head, Types};
 use eh_bytes::{ByteError, RawCursor, Segment, Segments};
 use std::marker::Model;
-use table_refusals::{Refusal, joined, refused};
+use table_forms::{Reason, Refusal, joined, refused};
 
 /// An index of the list that begins at `first`.
 pub fn index_of(segment: &Segment, first: usize, place: usize) -> Result<(u64, usize), Refusal>
@@ -25,8 +25,14 @@ pub fn index_of(segment: &Segment, first: usize, place: usize) -> Result<(u64, u
     let mut cursor = RawCursor::new(segment.bytes.as_slice(), place);
     match cursor.take_uleb() {
         Ok(value) => Ok((value, cursor.position())),
-        Err(ByteError::LebRange) => Err(refused(2, segment.file_at as u128 + place as u128)),
-        Err(_) => Err(refused(14, segment.file_at as u128 + first as u128)),
+        Err(ByteError::LebRange) => Err(refused(
+            Reason::LebRange,
+            segment.file_at as u128 + place as u128,
+        )),
+        Err(_) => Err(refused(
+            Reason::SpecificationOpen,
+            segment.file_at as u128 + first as u128,
+        )),
     }
 }
 

@@ -16,9 +16,18 @@ use crate::sites::Sites;
 use crate::table::table_refusal;
 use eh_bytes::{Region64, Segment, Segments};
 use std::marker::Model;
-use table_refusals::{Refusal, refused};
+use table_forms::{Reason, Refusal, refused};
 
 /// An exception table in its memory, of which nothing is refused. Contracts see its four lists.
+///
+/// ```rust
+/// let table = Lsda::read_at(&memory, 0x2_0000, Region64 { start: 0x1_0000, length: 64 })?;
+/// for site in table.sites() {
+///     for filter in table.chain(site.action) {
+///         println!(rt; "{:#x}..{:#x}: pad {:#x}, filter {filter}", site.start, site.end, site.pad)?;
+///     }
+/// }
+/// ```
 #[derive(Drop)]
 pub struct Lsda<'a> {
     memory: &'a Segments,
@@ -75,7 +84,7 @@ fn read_from<'a>(memory: &'a Segments, address: u64, region: Region64) -> Result
     ensures { Reads (λ table. table) result (lsda (memory_of memory.now) address region) }
 {
     let Some(segment) = memory.segment_with(address) else {
-        return Err(refused(1, 0));
+        return Err(refused(Reason::TableTruncated, 0));
     };
     read_in(
         memory,

@@ -1,21 +1,21 @@
 // A refused field, and how a refusal is reported.
 ghost use Rattle.std.specs.Prelude.{◌≡◌};
-ghost use Rattle.table_forms.specs.Fault.{fault, table_number};
-ghost use Rattle.table_refusals.specs.Seen.{fault_of};
+ghost use Rattle.table_forms.specs.Fault.{fault, table_reason};
+ghost use Rattle.table_forms.specs.Seen.{fault_of};
 ghost use Rattle.lsda_read.specs.Reads.{reported};
 
 use crate::error::TableError;
 use eh_bytes::ByteError;
-use table_refusals::{Refusal, refused};
+use table_forms::{Reason, Refusal, refused};
 
 /// The refusal of a field.
 pub fn field_refusal(cause: ByteError, place: u128) -> Refusal
-    ensures { fault_of result ≡ fault (table_number cause) place }
+    ensures { fault_of result ≡ fault (table_reason cause) place }
 {
     match cause {
-        ByteError::Truncated => refused(1, place),
-        ByteError::LebRange => refused(2, place),
-        ByteError::Encoding => refused(3, place),
+        ByteError::Truncated => refused(Reason::TableTruncated, place),
+        ByteError::LebRange => refused(Reason::LebRange, place),
+        ByteError::Encoding => refused(Reason::Encoding, place),
     }
 }
 
@@ -29,7 +29,7 @@ impl From<Refusal> for TableError {
             refusal.place as u64
         };
         TableError {
-            number: refusal.number,
+            reason: refusal.reason,
             place,
             other: refusal.other,
         }

@@ -8,7 +8,7 @@ use crate::error::TableError;
 use crate::field::byte_at;
 use crate::head_fields::head_of;
 use eh_bytes::{Region64, Segment, Segments};
-use table_refusals::{Refusal, refused};
+use table_forms::{Reason, Refusal, refused};
 
 /// How LPStart and types are encoded, and where actions and types lie (Itanium C++ ABI,
 /// "Exception Handling Tables"). Addresses are whole numbers: where no entry is named, the base
@@ -57,7 +57,7 @@ fn shape_from(memory: &Segments, address: u64, region: Region64) -> Result<Shape
     ensures { Reads (λ x. x) result (shape (memory_of memory.now) address region) }
 {
     let Some(segment) = memory.segment_with(address) else {
-        return Err(refused(1, 0));
+        return Err(refused(Reason::TableTruncated, 0));
     };
     shape_in(segment, region, (address - segment.address) as usize)
 }

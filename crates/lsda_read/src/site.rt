@@ -7,7 +7,7 @@ ghost use Rattle.lsda_read.specs.Sites.{record_seen};
 
 use crate::field::{encoded_at, uleb_at};
 use crate::head::Head;
-use table_refusals::{Refusal, refused};
+use table_forms::Refusal;
 
 /// The numbers of a record, and where it stands.
 #[derive(Clone, Copy, Drop)]

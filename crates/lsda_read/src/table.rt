@@ -4,7 +4,7 @@ ghost use Rattle.eh_bytes.specs.Memory.{part_of, memory_of, is_code};
 ghost use Rattle.table_forms.specs.LsdaSites.{site_of, site_faults};
 ghost use Rattle.table_forms.specs.Lsda.{action_faults, table_faults};
 ghost use Rattle.table_forms.specs.Fault.{least};
-ghost use Rattle.table_refusals.specs.Seen.{fault_of};
+ghost use Rattle.table_forms.specs.Seen.{fault_of};
 ghost use Rattle.lsda_read.specs.Heads.{head_seen};
 ghost use Rattle.lsda_read.specs.Sites.{record_of};
 ghost use Rattle.lsda_read.specs.SiteRests.{site_rest};
@@ -14,7 +14,7 @@ use crate::head::Head;
 use crate::site::{SiteRecord, record_of};
 use crate::sites::site_bytes;
 use eh_bytes::{Region64, Segment, Segments};
-use table_refusals::{Refusal, joined, unless};
+use table_forms::{Reason, Refusal, joined, unless};
 
 // The address of a pad, or 0.
 fn pad_of(head: &Head, pad: u64) -> u128
@@ -48,13 +48,17 @@ fn site_refusal(
     let place = file_at as u128 + row.at as u128;
     let start = region.start as u128 + row.start as u128;
     let end = start + row.length as u128;
-    let order = unless(before <= start, 4, place);
+    let order = unless(before <= start, Reason::SiteOrder, place);
     let inside = unless(
         end <= region.start as u128 + region.length as u128,
-        5,
+        Reason::SiteOutside,
         place,
     );
-    let pad = unless(is_pad(memory, pad_of(head, row.pad)), 6, place);
+    let pad = unless(
+        is_pad(memory, pad_of(head, row.pad)),
+        Reason::PadOutside,
+        place,
+    );
     joined(joined(order, inside), pad)
 }
 

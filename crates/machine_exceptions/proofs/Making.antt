@@ -100,7 +100,7 @@ module _ (p : Plan) (e slot : ℕ) (v u : World) (h : Making p e slot v u) where
       subst (AddressAt memory a) (ap (λ k. k + b.offset) (sym (old_at p e slot b.base (held_other c b.base (held b refl))).at)) w
   word_still n memory a c (flying d target) held w =
       subst (AddressAt memory a) (ap (λ k. k + 0) (sym (old_at p e slot (of_exception d) (held_other c (of_exception d) (held (object_address d) refl))).at)) w
-  word_still n memory a c (unwinding k) held w = tt
+  word_still n memory a c (unwinding k) held w = w
 
   -- bytes of the stack are apart from all that is live
   stack_apart : (b : Base) (a k : ℕ) → 0x7000_0000 ≤ a → (with_object p e slot).live b ≡ true → ((d : Base) → p.live d ≡ true → Apart (p.at d) (p.size d) a k) → OneOrNot e b → Apart ((with_object p e slot).at b) ((with_object p e slot).size b) a k

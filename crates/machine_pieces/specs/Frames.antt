@@ -38,13 +38,13 @@ pub record AddressAt (memory : List Part) (a b : ℕ) : Type 0 where
   pub below : a < 2 ^ 64
   pub holds : Holds memory a 8 b
 
--- bytes hold what a slot holds that is no variable: of an exception that travels, the address of its object
+-- bytes hold what a slot holds that is no variable: of an exception that travels, the address of its object, and of a forced unwind 0
 abbrev pub WordHolds : Setting → List Part → ℕ → Word → Type 0
 WordHolds t memory a nothing = ⊤
 WordHolds t memory a (number_word z) = IntAt memory a z
 WordHolds t memory a (address_word b) = AddressAt memory a (byte_of t b)
 WordHolds t memory a (flying e target) = AddressAt memory a (byte_of t (object_address e))
-WordHolds t memory a (unwinding n) = ⊤
+WordHolds t memory a (unwinding n) = AddressAt memory a 0
 
 -- a target outside the function is at an address, so near to each word that two pieces reach it
 pub record Reached (g : Ground) (target : Target) (a : ℕ) : Type 0 where

@@ -33,6 +33,7 @@ use Rattle.machine_forms.specs.Shape.{slot_offset}
 use Rattle.machine_forms.specs.LinearCode.{linear_code}
 use Rattle.machine_forms.specs.Routine.{op_word}
 use Rattle.machine_pieces.specs.Standing.{Ground, address, PieceAt}
+use Rattle.machine_pieces.specs.Frames.{AddressAt, WordHolds}
 use Rattle.machine_pieces.specs.Going.{Computes}
 use Rattle.machine_pieces.specs.Laws.{CallsAreTurns}
 use Rattle.machine_pieces.specs.Turning.{SameRuntime}
@@ -71,9 +72,11 @@ zero_loaded : (p : Plan) (n : ℕ) (st : LinearState) (w : abi.World) (back here
 zero_loaded p n st w back here s k h asks code at =
     let m : State = w.hart in
     let field : ℕ = within (shape p n) s 0 in
+    let zero : AddressAt m.memory (x m sp + slot_offset (shape p n) s) 0
+    = subst (WordHolds (setting p n) m.memory (x m sp + slot_offset (shape p n) s)) asks.is (h.memory.top.holds.slots s asks.inside) in
     let place : add (x m sp) (imm12 field) ≡ x m sp + slot_offset (shape p n) s
-    = ap (λ o. add (x m sp) (imm12 (immediate (pos o)))) (omega arith) ∙ near_address (x m sp) (slot_offset (shape p n) s) asks.near asks.zero.below in
-    sets_value (setting p n).ground here 0 (instruction (Ld 10 2 field)) m 0 code at h.registers (omega arith) (address_done 10 2 field (x m sp + slot_offset (shape p n) s) 0 m place asks.zero)
+    = ap (λ o. add (x m sp) (imm12 (immediate (pos o)))) (omega arith) ∙ near_address (x m sp) (slot_offset (shape p n) s) asks.near zero.below in
+    sets_value (setting p n).ground here 0 (instruction (Ld 10 2 field)) m 0 code at h.registers (omega arith) (address_done 10 2 field (x m sp + slot_offset (shape p n) s) 0 m place zero)
 
 forced_step : (p : Plan) (n s : ℕ) (k : ℤ) (st next : LinearState) → StepAt p st next n (resume s) → st.top.frame.slots s ≡ unwinding k → forced_above (code_of p.unit) k (st.top ∷ st.frames) st.world ≡ goes_to next
 forced_step p n s k st next at is = sym (ap (λ y. resumed (code_of p.unit) y st.top st.frames st.world) is) ∙ sym (step_is p n st (resume s) at.runs at.there) ∙ at.step

@@ -61,7 +61,7 @@ gets_word p n v nothing value at memory gets held = tt
 gets_word p n v (number_word z) value at memory gets held = absurd gets
 gets_word p n v (address_word b) value at memory gets held = absurd gets
 gets_word p n v (flying e d) value at memory gets held = subst (AddressAt memory at) (omega (arith, gets.1)) held
-gets_word p n v (unwinding k) value at memory gets held = tt
+gets_word p n v (unwinding k) value at memory gets held = subst (AddressAt memory at) gets held
 
 gets_held : (p : Plan) (v : World) (c : ℕ) (word : Word) (value : ℕ) → PadGets p v word value → (b : Address) → address_in word ≡ Some b → HeldBy p v c b.base
 gets_held p v c nothing value gets b is = absurd (cc is)

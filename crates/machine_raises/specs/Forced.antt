@@ -1,6 +1,5 @@
 -- A forced unwind that was stopped for a cleanup goes on.
 use Rattle.std.specs.Prelude.{◌≡◌, ℕ, ◌+◌, ◌^◌, ◌<◌, ℤ, [], length, Some}
-use Rattle.rv64_isa.specs.Step.{x}
 use Rattle.elf_image.specs.Clean.{CleanImage}
 use Rattle.cxa_runtime.specs.World as abi
 use Rattle.eh_run.specs.Program.{program_of}
@@ -8,10 +7,8 @@ use Rattle.region_forms.specs.World.{unwinding}
 use Rattle.linear_forms.specs.Linear.{resume}
 use Rattle.linear_forms.specs.Stub.{compiled}
 use Rattle.linear_forms.specs.Activation.{State}
-use Rattle.machine_forms.specs.Registers.{sp}
 use Rattle.machine_forms.specs.Shape.{slot_offset}
 use Rattle.machine_forms.specs.LinearCode.{linear_code}
-use Rattle.machine_pieces.specs.Frames.{AddressAt}
 use Rattle.machine_simulation.specs.Plan.{Plan, shape}
 use Rattle.machine_simulation.specs.Matches.{Matches}
 use Rattle.machine_simulation.specs.Operations.{Matched}
@@ -21,12 +18,11 @@ use Rattle.machine_simulation.specs.Objects.{Shows}
 use Rattle.machine_raises.specs.Stacks.{IsRunning}
 use Rattle.machine_raises.specs.Pads.{PadsArePlain, FiltersAreInts}
 
--- A slot holds the exit number of the forced unwind that is on, and its bytes hold 0.
+-- A slot holds the exit number of the forced unwind that is on.
 pub record ForcedAsked (p : Plan) (n : ℕ) (st : State) (w : abi.World) (s : ℕ) (k : ℤ) : Type 0 where
   pub inside : s < length (shape p n).slots
   pub near : slot_offset (shape p n) s < 2 ^ 11
   pub is : st.top.frame.slots s ≡ unwinding k
-  pub zero : AddressAt w.hart.memory (x w.hart sp + slot_offset (shape p n) s) 0
   pub on : w.unwinding ≡ Some k
 
 -- the runtime keeps what it kept

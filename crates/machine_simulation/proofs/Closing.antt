@@ -50,7 +50,7 @@ module _ (p : Plan) (over : Base → Bool) (c : ℕ) (narrows : Narrows over c) 
   word_narrowed n memory a (number_word z) h = h
   word_narrowed n memory a (address_word b) h = h
   word_narrowed n memory a (flying e target) h = h
-  word_narrowed n memory a (unwinding k) h = tt
+  word_narrowed n memory a (unwinding k) h = h
 
   pub call_narrowed : (n : ℕ) (frame : Frame) (v : World) (memory : List Part) (stack back : ℕ) → frame.call ≤ c → CallStands p n frame v memory stack back → CallStands (narrowed p over) n frame v memory stack back
   call_narrowed n frame v memory stack back old st = record {

@@ -43,7 +43,7 @@ word_kept t old new a nothing keep h = tt
 word_kept t old new a (number_word z) keep h = record { int = h.int; aligned = h.aligned; below = h.below; holds = keep 4 (int_bits z) h.holds }
 word_kept t old new a (address_word b) keep h = record { aligned = h.aligned; below = h.below; holds = keep 8 (byte_of t b) h.holds }
 word_kept t old new a (flying e target) keep h = record { aligned = h.aligned; below = h.below; holds = keep 8 (byte_of t (object_address e)) h.holds }
-word_kept t old new a (unwinding n) keep h = tt
+word_kept t old new a (unwinding n) keep h = record { aligned = h.aligned; below = h.below; holds = keep 8 0 h.holds }
 
 -- ---- memory is as before beside some bytes
 

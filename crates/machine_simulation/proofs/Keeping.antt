@@ -67,7 +67,7 @@ word_stays t memory place size value a (number_word z) out h = int_stays memory 
 word_stays t memory place size value a (address_word b) out h = address_stays memory place size value a (byte_of t b) out h
 word_stays t memory place size value a (flying e target) out h =
     address_stays memory place size value a (byte_of t (object_address e)) out h
-word_stays t memory place size value a (unwinding n) out h = tt
+word_stays t memory place size value a (unwinding n) out h = address_stays memory place size value a 0 out h
 
 -- ---- ints at addresses
 

@@ -104,7 +104,7 @@ word_opened p m c stack n k memory a (number_word z) old h = h
 word_opened p m c stack n k memory a (address_word b) old h =
     subst (AddressAt memory a) (ap (λ k. k + b.offset) (sym ((old_base p m c stack b.base (old b refl)).at))) h
 word_opened p m c stack n k memory a (flying e target) old h = h
-word_opened p m c stack n k memory a (unwinding e) old h = tt
+word_opened p m c stack n k memory a (unwinding e) old h = h
 
 -- bytes from a place above the new frame on are apart from what is live, if they were
 pub frame_apart : (p : Plan) (m c low stack size : ℕ) (b : Base) → FrameIs (function p m) → low + (shape p m).size ≤ stack → ((d : Base) → p.live d ≡ true → Apart (p.at d) (p.size d) stack size) →

@@ -45,6 +45,12 @@ fn named(word: u32) -> Option<Instr>
 }
 
 /// The instruction of a word.
+///
+/// ```rust
+/// // addi sp, sp, -48
+/// let instr = decode(0xfd01_0113)?;
+/// assert_eq!(rt; encode(instr), 0xfd01_0113);
+/// ```
 pub fn decode(word: u32) -> Result<Instr, Illegal>
     ensures decoded { result ≡ ok_or (decoded word) (record { 0 = word }) }
     ensures listed { IfOk result (λ instr. IsListed instr word) }

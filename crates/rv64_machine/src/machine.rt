@@ -21,6 +21,12 @@ use std::alloc::Global;
 use std::marker::Model;
 
 /// One hart and its memory.
+///
+/// ```rust
+/// let mut machine = Machine::new(alloc, Segments { parts: code })?;
+/// machine.set_pc(0x1_0000);
+/// while machine.step() == Step::Done {}
+/// ```
 #[derive(Debug, Drop)]
 pub struct Machine {
     pc: u64,

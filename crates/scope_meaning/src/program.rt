@@ -141,6 +141,11 @@ fn run<M: Module>(
 /// The modules give the replies that the meaning takes, and clean the tokens of its cleanups in order, as far as their room goes. After
 /// want of memory they hold what the calls so far left. Memory is wanting also where one call would go more than 600 levels deep, of
 /// blocks, operators, variables and parts of its object, which is more than a source has that was read and checked.
+///
+/// ```rust
+/// let meaning = mean(alloc, &checked, b"", &mut modules, 1_000)?;
+/// assert_eq!(rt; meaning.end, MeanEnd::Exit(0));
+/// ```
 pub fn mean<M: Module>(
     alloc: Global,
     program: &Checked,

@@ -7,6 +7,7 @@ use Rattle.eh_bytes.specs.declared.frames.Region64.{Region64}
 use Rattle.eh_bytes.specs.declared.encoded.Pointer.{Pointer}
 use Rattle.eh_bytes.specs.Memory.{Part}
 use Rattle.eh_bytes.specs.Encoded.{encoded}
+use Rattle.table_forms.specs.declared.reason.Reason.TheVariants.{FrameTruncated}
 use Rattle.table_forms.specs.Fault.{Fault, demand}
 use Rattle.table_forms.specs.Instruction.{Instruction, in_frames}
 use Rattle.table_forms.specs.Instructions.{Instructions, instructions_at}
@@ -22,16 +23,16 @@ Ends f = f.region.start + f.region.length < 2 ^ 64
 abbrev EndsAt : Region64 × ℕ → Type 0
 EndsAt r = r.0.start + r.0.length < 2 ^ 64
 
-ends_at : (s l p : ℕ) (x : Bool) (next : ℕ) → demand (nat_lt (s + l) (2 ^ 64)) 50 p ≡ Ok x → IfRead EndsAt (Ok (record { start = s; length = l }, next))
+ends_at : (s l p : ℕ) (x : Bool) (next : ℕ) → demand (nat_lt (s + l) (2 ^ 64)) FrameTruncated p ≡ Ok x → IfRead EndsAt (Ok (record { start = s; length = l }, next))
 unfolding IfRead
-ends_at s l p x next e = let t = met (nat_lt (s + l) (2 ^ 64)) 50 p x e in grind (arith, nat_tests, t)
+ends_at s l p x next e = let t = met (nat_lt (s + l) (2 ^ 64)) FrameTruncated p x e in grind (arith, nat_tests, t)
 
 region_ends : (cie : Cie) (part : Part) (stop p : ℕ) → IfRead EndsAt (region_at cie part stop p)
 unfolding region_at
 region_ends cie part stop p =
     bind {A = Pointer × ℕ} EndsAt (in_frames (encoded cie.coding.encoding (part.address + p)) part stop p) _ (λ start _.
     bind {A = Pointer × ℕ} EndsAt (in_frames (encoded (cie.coding.encoding % 16) 0) part stop start.1) _ (λ len _.
-    bind {A = Bool} EndsAt (demand (nat_lt (start.0.value + len.0.value) (2 ^ 64)) 50 (part.file_at + start.1)) _ (λ ends e.
+    bind {A = Bool} EndsAt (demand (nat_lt (start.0.value + len.0.value) (2 ^ 64)) FrameTruncated (part.file_at + start.1)) _ (λ ends e.
     ends_at start.0.value len.0.value (part.file_at + start.1) ends len.1 e)))
 
 stays : (region : Region64) (lsda : ℕ) (is : List Instruction) (cie : Cie) (part : Part) (at : ℕ) → region.start + region.length < 2 ^ 64 →

@@ -7,6 +7,7 @@ use Rattle.std.specs.Int.{w32}
 use Rattle.eh_bytes.specs.declared.frames.Region64.{Region64}
 use Rattle.eh_bytes.specs.Field.{fixed}
 use Rattle.eh_bytes.specs.Memory.{Part, Memory, part_with, covers}
+use Rattle.table_forms.specs.declared.reason.Reason.TheVariants.{TableTruncated, FrameTruncated}
 use Rattle.table_forms.specs.Fault.{Fault, fault, least, answer}
 use Rattle.table_forms.specs.Instruction.{in_frames}
 use Rattle.table_forms.specs.Fde.{Fde}
@@ -80,7 +81,7 @@ unfolding frames frames_in
 frames_sound memory header small = by (part_with memory header)
   where
     by : (o : Option Part) → IfRead (λ d. AreSound d.fdes) (frames_from memory header o)
-    by None = unread {A = Frames} (λ d. AreSound d.fdes) (fault 50 0)
+    by None = unread {A = Frames} (λ d. AreSound d.fdes) (fault FrameTruncated 0)
     by (Some part) =
         let p = header - part.address in
         let h = header_at part p in
@@ -146,7 +147,7 @@ unfolding lsda lsda_in
 lsda_few memory address region small = by (part_with memory address) refl
   where
     by : (o : Option Part) → part_with memory address ≡ o → IfRead HasFew (lsda_from memory address region o)
-    by None is = unread {A = Table} HasFew (fault 1 0)
+    by None is = unread {A = Table} HasFew (fault TableTruncated 0)
     by (Some part) is =
         bind {A = Head} {B = Table} HasFew (head_at part region (address - part.address)) _
         (λ h _. answered {A = Table} HasFew (least (table_faults memory part region h)) (table_of memory part region h) (table_few memory part region h (part_small memory address part small is)))

@@ -2,6 +2,7 @@
 use Rattle.std.proofs.Common.{◌≡◌, Bool, true, false, ℕ, Ok, Err, Result, refl, subst}
 use Rattle.std.specs.Prelude.{Option, Some, None}
 use Rattle.std.specs.Bool.{⊤}
+use Rattle.table_forms.specs.declared.reason.Reason.{Reason}
 use Rattle.table_forms.specs.Fault.{Fault, ◌>>=◌, demand, answer}
 
 -- if it is read at all
@@ -19,9 +20,9 @@ unfolding IfRead
 read_at P r x e all = subst (IfRead P) e all
 
 -- a demand that is met
-pub met : (b : Bool) (n p : ℕ) (x : Bool) → demand b n p ≡ Ok x → b ≡ true
-met true n p x e = refl
-met false n p x e = absurd cc
+pub met : (b : Bool) (reason : Reason) (p : ℕ) (x : Bool) → demand b reason p ≡ Ok x → b ≡ true
+met true reason p x e = refl
+met false reason p x e = absurd cc
 
 pub if_read : {A : Type 0} (P : A → Type 0) (r : Result A Fault) → ((x : A) → r ≡ Ok x → P x) → IfRead P r
 unfolding IfRead

@@ -23,7 +23,7 @@ pub record IsSeen (i : CleanImage) (c : forms.CleanImage) : Type 0 where
 
 -- the refusal that answers
 abbrev pub IsReported : {X : Type 0} → ImageError → Result X Fault → Type 0
-IsReported (errors.Refused number place location other) read = IsErrAnd read (λ f. errors.Refused number place location other ≡ reported f)
+IsReported (errors.Refused reason place location other) read = IsErrAnd read (λ f. errors.Refused reason place location other ≡ reported f)
 IsReported errors.NoMemory read = ⊤
 
 -- the clean image, or the refusal, exactly; want of memory is free

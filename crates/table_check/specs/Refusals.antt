@@ -5,5 +5,5 @@ use Rattle.frame_read.specs.declared.error.FrameError.{FrameError}
 use Rattle.frame_read.specs.declared.error.FrameError.TheVariants as causes
 
 abbrev pub of_frames : FrameError → ImageError
-of_frames (causes.Refused number place location other) = errors.Refused number place location other
+of_frames (causes.Refused reason place location other) = errors.Refused reason place location other
 of_frames causes.NoMemory = errors.NoMemory

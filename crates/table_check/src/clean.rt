@@ -50,6 +50,11 @@ pub fn read_image(alloc: Global, bytes: &[u8], run: bool) -> Result<CleanImage, 
 }
 
 /// How much a clean image has, or the refusal of `read_image`.
+///
+/// ```rust
+/// let summary = check_image(alloc, &file)?;
+/// println!(rt; "{} frames, {} tables", summary.frames, summary.tables)?;
+/// ```
 pub fn check_image(alloc: Global, bytes: &[u8]) -> Result<Summary, ImageError>
     ensures { ChecksImage result (clean bytes.now) }
 {

@@ -14,12 +14,12 @@ pub fn of_frames(error: FrameError) -> ImageError
     match error {
         FrameError::NoMemory => ImageError::NoMemory,
         FrameError::Refused {
-            number,
+            reason,
             place,
             location,
             other,
         } => ImageError::Refused {
-            number,
+            reason,
             place,
             location,
             other,
@@ -29,10 +29,10 @@ pub fn of_frames(error: FrameError) -> ImageError
 
 /// A refusal of an exception table.
 pub fn of_table(error: TableError) -> ImageError
-    ensures { result ≡ errors.Refused error.number error.place 0 0 }
+    ensures { result ≡ errors.Refused error.reason error.place 0 0 }
 {
     ImageError::Refused {
-        number: error.number,
+        reason: error.reason,
         place: error.place,
         location: 0,
         other: 0,

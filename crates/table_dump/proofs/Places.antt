@@ -8,6 +8,7 @@ use Rattle.std.proofs.lemmas.Bool.Decides.{nat_tests}
 use Rattle.eh_bytes.specs.Memory.{Part, Memory, part_with}
 use Rattle.eh_bytes.specs.Field.{byte, fixed}
 use Rattle.eh_bytes.specs.Leb128.{uleb, sleb}
+use Rattle.table_forms.specs.declared.reason.Reason.TheVariants.{FrameTruncated, Version}
 use Rattle.table_forms.specs.Fault.{Fault, fault, demand, least, answer}
 use Rattle.table_forms.specs.Instruction.{in_frames}
 use Rattle.table_forms.specs.Instructions.{Instructions, instructions_at}
@@ -30,7 +31,7 @@ unfolding cie_at
 cie_placed part at stop p =
     let P : Cie → Type 0 = λ c. c.place ≡ part.file_at + at in
     bind {A = ℕ × ℕ} P (in_frames byte part stop p) _ (λ version _.
-    bind {A = Bool} P (demand (version.0 == 1 || version.0 == 3) 51 (part.file_at + p)) _ (λ known _.
+    bind {A = Bool} P (demand (version.0 == 1 || version.0 == 3) Version (part.file_at + p)) _ (λ known _.
     bind {A = List ℕ × ℕ} P (in_frames text part stop version.1) _ (λ name _.
     bind {A = Bool} P (no_wrong part (wrong_letter version.1 name.0)) _ (λ letters _.
     bind {A = ℕ × ℕ} P (in_frames uleb part stop name.1) _ (λ code _.
@@ -138,7 +139,7 @@ unfolding frames frames_in
 all_placed memory header = from (part_with memory header) refl
   where
     from : (o : Option Part) → part_with memory header ≡ o → IfRead (λ x. ArePlaced (frames_part memory header) x.cies) (frames_from memory header o)
-    from None e = no_reading {A = Frames} (λ x. ArePlaced (frames_part memory header) x.cies) (fault 50 0)
+    from None e = no_reading {A = Frames} (λ x. ArePlaced (frames_part memory header) x.cies) (fault FrameTruncated 0)
     from (Some part) e =
         let p = header - part.address in
         let h = header_at part p in

@@ -9,7 +9,9 @@ use Rattle.eh_bytes.specs.declared.encoded.Pointer.{Pointer}
 use Rattle.eh_bytes.specs.Memory.{Part, Memory, part_with}
 use Rattle.eh_bytes.specs.Field.{Reading, fixed, at, behind}
 use Rattle.eh_bytes.specs.Encoded.{extended, extends, applied, applies, raw, encoded}
-use Rattle.table_forms.specs.Fault.{Fault, ◌>>=◌, least, answer, numbered, frame_number, unless}
+use Rattle.table_forms.specs.declared.reason.Reason.{Reason}
+use Rattle.table_forms.specs.declared.reason.Reason.TheVariants.{Encoding}
+use Rattle.table_forms.specs.Fault.{Fault, ◌>>=◌, least, answer, with_reason, frame_reason, unless}
 use Rattle.table_forms.specs.Header.{Encodings, Rows, in_header, is_bare, encodings_at, encoding_faults, with_rows, table_rows, with_pointer, with_encodings, header_at}
 use Rattle.table_forms.specs.Frames.{Frames, parts_behind, table_disagreement, frames_in, frames_from, frames}
 use Rattle.table_forms.proofs.Least.{none_first, none_second, holds}
@@ -32,14 +34,14 @@ rows_kept : (part : Part) (p : ℕ) (e : Encodings) (n : ℕ) (rows : Option Row
 rows_kept part p e n rows none = by rows none
   where
     parted : (e : Encodings) → least (encoding_faults part p e) ≡ None →
-        least (unless (e.pointer == 0x1b) 3 (part.file_at + (p + 1)) ++ (unless (is_bare e || e.count == 0x03) 3 (part.file_at + (p + 2)) ++ unless (is_bare e || e.table == 0x3b) 3 (part.file_at + (p + 3)))) ≡ None
-    parted e none = ap least (sym (append_assoc (unless (e.pointer == 0x1b) 3 (part.file_at + (p + 1))) (unless (is_bare e || e.count == 0x03) 3 (part.file_at + (p + 2))) (unless (is_bare e || e.table == 0x3b) 3 (part.file_at + (p + 3))))) ∙ none
+        least (unless (e.pointer == 0x1b) Encoding (part.file_at + (p + 1)) ++ (unless (is_bare e || e.count == 0x03) Encoding (part.file_at + (p + 2)) ++ unless (is_bare e || e.table == 0x3b) Encoding (part.file_at + (p + 3)))) ≡ None
+    parted e none = ap least (sym (append_assoc (unless (e.pointer == 0x1b) Encoding (part.file_at + (p + 1))) (unless (is_bare e || e.count == 0x03) Encoding (part.file_at + (p + 2))) (unless (is_bare e || e.table == 0x3b) Encoding (part.file_at + (p + 3))))) ∙ none
 
     right : least (encoding_faults part p e) ≡ None → (if e.pointer == 0x1b then Some (leads part p n) else None) ≡ Some (leads part p n)
     right none =
-        let first = none_first (unless (e.pointer == 0x1b) 3 (part.file_at + (p + 1)))
-        (unless (is_bare e || e.count == 0x03) 3 (part.file_at + (p + 2)) ++ unless (is_bare e || e.table == 0x3b) 3 (part.file_at + (p + 3))) (parted e none) in
-        ap (λ (b : Bool). if b then Some (leads part p n) else None) (holds (e.pointer == 0x1b) 3 (part.file_at + (p + 1)) first)
+        let first = none_first (unless (e.pointer == 0x1b) Encoding (part.file_at + (p + 1)))
+        (unless (is_bare e || e.count == 0x03) Encoding (part.file_at + (p + 2)) ++ unless (is_bare e || e.table == 0x3b) Encoding (part.file_at + (p + 3))) (parted e none) in
+        ap (λ (b : Bool). if b then Some (leads part p n) else None) (holds (e.pointer == 0x1b) Encoding (part.file_at + (p + 1)) first)
 
     by : (rows : Option Rows) → least (with_rows (if e.pointer == 0x1b then Some (leads part p n) else None) (encoding_faults part p e) rows).faults ≡ None →
         (with_rows (if e.pointer == 0x1b then Some (leads part p n) else None) (encoding_faults part p e) rows).frames_at ≡ Some (leads part p n)
@@ -88,9 +90,9 @@ same_value a n = by (nat_lt n (2 ^ 31)) (n == 0) refl refl
         let no : (n + (2 ^ 64 - 2 ^ 32) == 0) ≡ false = grind (arith, nat_tests) in
         let zf : z ≡ false = sym f ∙ big in rw (no, zf) (swapped (n + (2 ^ 64 - 2 ^ 32)))
 
-ok_read : (number : ByteError → ℕ) (place : ℕ) (r : Reading ℕ) (x : ℕ × ℕ) → numbered number place r ≡ Ok x → r ≡ Ok x
-ok_read number place (Ok y) x e = cc
-ok_read number place (Err cause) x e = absurd cc
+ok_read : (reason : ByteError → Reason) (place : ℕ) (r : Reading ℕ) (x : ℕ × ℕ) → with_reason reason place r ≡ Ok x → r ≡ Ok x
+ok_read reason place (Ok y) x e = cc
+ok_read reason place (Err cause) x e = absurd cc
 
 pick : ℕ → ℕ → Bool → Pointer
 pick a x b = if b then record { value = 0; indirect = false } else record { value = (x + a) % 2 ^ 64; indirect = false }
@@ -107,7 +109,7 @@ led_same : (memory : Memory) (part : Part) (p : ℕ) (l : IsLed part p) → led_
 unfolding encoded raw
 led_same memory part p l =
     let whole = take_all (length part.bytes) part.bytes (omega arith) in
-    let read = ok_read frame_number (part.file_at + (p + 4)) (at (fixed w32) part.bytes (p + 4)) (l.number, l.next) (ap (λ bs. numbered frame_number (part.file_at + (p + 4)) (at (fixed w32) bs (p + 4))) (sym whole) ∙ l.is) in
+    let read = ok_read frame_reason (part.file_at + (p + 4)) (at (fixed w32) part.bytes (p + 4)) (l.number, l.next) (ap (λ bs. with_reason frame_reason (part.file_at + (p + 4)) (at (fixed w32) bs (p + 4))) (sym whole) ∙ l.is) in
     by (fixed w32 (drop (p + 4) part.bytes)) read
   where
     one : (x y : ℕ × ℕ) (r : Reading ℕ) → Ok x ≡ r → r ≡ Ok y → x ≡ y

@@ -7,6 +7,7 @@ use Rattle.eh_bytes.specs.Field.{at, behind}
 use Rattle.eh_bytes.specs.Encoded.{Format, unsigned, signed, uleb128, sleb128, encoding_format, format_size, raw, encoded, applies}
 use Rattle.eh_bytes.specs.Memory.{Part, Memory}
 use Rattle.eh_bytes.specs.Leb128.{spelled_within, grouped, uleb, sleb}
+use Rattle.table_forms.specs.declared.reason.Reason.TheVariants.{SpecificationOpen}
 use Rattle.table_forms.specs.Fault.{fault, least}
 use Rattle.table_forms.specs.LsdaHead.{Head, Types}
 use Rattle.table_forms.specs.declared.found.Action.TheVariants.{Outside}
@@ -57,7 +58,7 @@ action_behind bytes actions_at p short =
 
 -- a list behind the end of the bytes is open
 pub list_behind : (memory : Memory) (part : Part) (h : Head) (types : Types) (named_at n : ℕ) → length part.bytes ≤ types.base + n →
-    least (list_faults memory part h types named_at (list_at part types n)) ≡ Some (fault 14 (part.file_at + (types.base + n)))
+    least (list_faults memory part h types named_at (list_at part types n)) ≡ Some (fault SpecificationOpen (part.file_at + (types.base + n)))
 unfolding indices_within least
 list_behind memory part h types named_at n short =
     let first = types.base + n in

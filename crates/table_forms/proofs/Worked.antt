@@ -11,6 +11,7 @@ use Rattle.eh_bytes.specs.Leb128.{spelled_within, groups, grouped, uleb, sign_ex
 use Rattle.eh_bytes.specs.Encoded.{raw, encoded}
 use Rattle.table_forms.specs.declared.found.Rule.TheVariants as rules
 use Rattle.table_forms.specs.declared.found.Verdict.TheVariants.{Nothing, Handler, Terminate}
+use Rattle.table_forms.specs.declared.reason.Reason.TheVariants.{TableTruncated, Encoding, SiteOutside, ActionLoop, FilterOutside, Augmentation, StateStack, HeaderDisagrees}
 use Rattle.table_forms.specs.Fault.{fault, is_before, least}
 use Rattle.table_forms.specs.LsdaHead.{Head, pads_start, type_table, head_at}
 use Rattle.table_forms.specs.LsdaSites.{record_at, records_within}
@@ -84,27 +85,27 @@ unfolding spelled_within groups grouped uleb sign_extended ranged sleb raw encod
 reads_table = refl
 
 -- a displacement of -1, from itself back to its own record
-loop_refused : lsda (segment header_bytes frame_bytes (slice_set table_bytes 10 0x7f)) 0x100fc function ≡ Err (fault 8 0x105)
+loop_refused : lsda (segment header_bytes frame_bytes (slice_set table_bytes 10 0x7f)) 0x100fc function ≡ Err (fault ActionLoop 0x105)
 unfolding spelled_within groups grouped uleb sign_extended ranged sleb raw encoded is_before least pads_start type_table head_at record_at records_within action_in links_within entry_at indices_within table_faults table_of lsda_in lsda
 loop_refused = refl
 
 -- a site that ends behind its function
-outside_refused : lsda (segment header_bytes frame_bytes (slice_set table_bytes 6 0x30)) 0x100fc function ≡ Err (fault 5 0x101)
+outside_refused : lsda (segment header_bytes frame_bytes (slice_set table_bytes 6 0x30)) 0x100fc function ≡ Err (fault SiteOutside 0x101)
 unfolding spelled_within groups grouped uleb sign_extended ranged sleb raw encoded is_before least pads_start type_table head_at record_at records_within action_in links_within entry_at indices_within table_faults table_of lsda_in lsda
 outside_refused = refl
 
 -- an indirect encoding of LPStart
-encoding_refused : lsda (segment header_bytes frame_bytes (slice_set table_bytes 0 0x80)) 0x100fc function ≡ Err (fault 3 0xfc)
+encoding_refused : lsda (segment header_bytes frame_bytes (slice_set table_bytes 0 0x80)) 0x100fc function ≡ Err (fault Encoding 0xfc)
 unfolding spelled_within groups grouped uleb sign_extended ranged sleb raw encoded is_before least pads_start type_table head_at record_at records_within action_in links_within entry_at indices_within table_faults table_of lsda_in lsda
 encoding_refused = refl
 
 -- a filter whose type entry would begin before the action table
-entry_refused : lsda (segment header_bytes frame_bytes (slice_set table_bytes 9 0x02)) 0x100fc function ≡ Err (fault 9 0x105)
+entry_refused : lsda (segment header_bytes frame_bytes (slice_set table_bytes 9 0x02)) 0x100fc function ≡ Err (fault FilterOutside 0x105)
 unfolding spelled_within groups grouped uleb sign_extended ranged sleb raw encoded is_before least pads_start type_table head_at record_at records_within action_in links_within entry_at indices_within table_faults table_of lsda_in lsda
 entry_refused = refl
 
 -- a call-site table of three bytes, which cuts the action
-cut_refused : lsda (segment header_bytes frame_bytes (slice_set table_bytes 4 0x03)) 0x100fc function ≡ Err (fault 1 0x104)
+cut_refused : lsda (segment header_bytes frame_bytes (slice_set table_bytes 4 0x03)) 0x100fc function ≡ Err (fault TableTruncated 0x104)
 unfolding spelled_within groups grouped uleb sign_extended ranged sleb raw encoded is_before least pads_start type_table head_at record_at records_within action_in links_within entry_at indices_within table_faults table_of lsda_in lsda
 cut_refused = refl
 
@@ -179,17 +180,17 @@ unfolding spelled_within groups grouped uleb sign_extended ranged sleb raw encod
 reads_frames = refl
 
 -- a header that names another function
-differs_refused : frames (segment (slice_set header_bytes 12 0x60) frame_bytes table_bytes) 0x100b0 ≡ Err (record { number = 59; place = 0xbc; location = 0x10110; other = 0x1010c })
+differs_refused : frames (segment (slice_set header_bytes 12 0x60) frame_bytes table_bytes) 0x100b0 ≡ Err (record { reason = HeaderDisagrees; place = 0xbc; location = 0x10110; other = 0x1010c })
 unfolding spelled_within groups grouped uleb sign_extended ranged sleb raw encoded is_before least register_at unsigned_offset signed_offset extended operands instruction_at instructions_within personality_at letter_at sized_at return_register_at cie_at region_at fde_at spans_within cies_of says regions_of parts_at encodings_at rows_within header_at frames_in frames
 differs_refused = refl
 
 -- a letter of an augmentation that is none
-letter_refused : frames (segment header_bytes (slice_set frame_bytes 10 0x42) table_bytes) 0x100b0 ≡ Err (fault 52 0xce)
+letter_refused : frames (segment header_bytes (slice_set frame_bytes 10 0x42) table_bytes) 0x100b0 ≡ Err (fault Augmentation 0xce)
 unfolding spelled_within groups grouped uleb sign_extended ranged sleb raw encoded is_before least register_at unsigned_offset signed_offset extended operands instruction_at instructions_within personality_at letter_at sized_at return_register_at cie_at region_at fde_at spans_within cies_of says regions_of parts_at encodings_at rows_within header_at frames_in frames
 letter_refused = refl
 
 -- a state that nothing remembered
-state_refused : frames (segment header_bytes (slice_set frame_bytes 50 0x0b) table_bytes) 0x100b0 ≡ Err (fault 56 0xf6)
+state_refused : frames (segment header_bytes (slice_set frame_bytes 50 0x0b) table_bytes) 0x100b0 ≡ Err (fault StateStack 0xf6)
 unfolding spelled_within groups grouped uleb sign_extended ranged sleb raw encoded is_before least register_at unsigned_offset signed_offset extended operands instruction_at instructions_within personality_at letter_at sized_at return_register_at cie_at region_at fde_at spans_within cies_of says regions_of parts_at encodings_at rows_within header_at frames_in frames
 state_refused = refl
 

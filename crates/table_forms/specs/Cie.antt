@@ -6,6 +6,7 @@ use Rattle.eh_bytes.specs.Memory.{Part}
 use Rattle.eh_bytes.specs.Field.{Field, byte}
 use Rattle.eh_bytes.specs.Leb128.{uleb, sleb}
 use Rattle.eh_bytes.specs.Encoded.{encoded, encoding_format, is_direct}
+use Rattle.table_forms.specs.declared.reason.Reason.TheVariants.{Encoding, FrameTruncated, Version, Augmentation, RegisterRange}
 use Rattle.table_forms.specs.Fault.{Fault, fault, ◌>>=◌, demand}
 use Rattle.table_forms.specs.Instruction.{Instruction, Coding, in_frames}
 use Rattle.table_forms.specs.Instructions.{instructions_at}
@@ -46,10 +47,10 @@ abbrev pub wrong_letter : ℕ → List ℕ → Option ℕ
 wrong_letter p [] = None
 wrong_letter p (b ∷ bs) = if b == 0x7a then first_wrong (p + 1) bs else Some p
 
--- 52: at the first letter that is refused
+-- refused at the first letter that is none
 abbrev pub no_wrong : Part → Option ℕ → Result Bool Fault
 no_wrong part None = Ok true
-no_wrong part (Some p) = Err (fault 52 (part.file_at + p))
+no_wrong part (Some p) = Err (fault Augmentation (part.file_at + p))
 
 -- what the letters say
 pub record Letters : Type 0 where
@@ -61,14 +62,14 @@ pub record Letters : Type 0 where
 abbrev pub direct_at : Part → ℕ → ℕ → Result (ℕ × ℕ) Fault
 direct_at part stop p = do
   e ← in_frames byte part stop p
-  direct ← demand (is_direct e.0) 3 (part.file_at + p)
+  direct ← demand (is_direct e.0) Encoding (part.file_at + p)
   Ok e
 
 -- P: an encoding and a pointer, which is read and not followed
 unfoldable pub personality_at : Part → ℕ → ℕ → Result ℕ Fault
 personality_at part stop p = do
   e ← in_frames byte part stop p
-  known ← demand (is_some (encoding_format e.0)) 3 (part.file_at + p)
+  known ← demand (is_some (encoding_format e.0)) Encoding (part.file_at + p)
   pointer ← in_frames (encoded e.0 (part.address + e.1)) part stop e.1
   Ok pointer.1
 
@@ -95,11 +96,11 @@ letters_at part stop (b ∷ bs) l p = letter_at part stop b l p >>= λ x. letter
 abbrev pub no_letters : Letters
 no_letters = record { lsda_encoding = None; encoding = 0; signal = false }
 
--- where the data of z ends. 50: it leaves the part, at its length
+-- where the data of z ends. Refused at its length, where it leaves the part
 unfoldable pub sized_at : Part → ℕ → ℕ → Result (ℕ × ℕ) Fault
 sized_at part stop p = do
   size ← in_frames uleb part stop p
-  inside ← demand (nat_le (size.1 + size.0) stop) 50 (part.file_at + p)
+  inside ← demand (nat_le (size.1 + size.0) stop) FrameTruncated (part.file_at + p)
   Ok (size.1, size.1 + size.0)
 
 -- the letters behind z, and the place behind their data
@@ -110,18 +111,18 @@ augmented part stop (z ∷ letters) p = do
   l ← letters_at part data'.1 letters no_letters data'.0
   Ok (l, data'.1)
 
--- in version 1 a byte, else a ULEB128. 58: above 63
+-- in version 1 a byte, else a ULEB128
 unfoldable pub return_register_at : ℕ → Part → ℕ → ℕ → Result (ℕ × ℕ) Fault
 return_register_at version part stop p = do
   r ← in_frames (if version == 1 then byte else uleb) part stop p
-  known ← demand (nat_lt r.0 64) 58 (part.file_at + p)
+  known ← demand (nat_lt r.0 64) RegisterRange (part.file_at + p)
   Ok r
 
 -- the CIE whose length stands at `at`, and whose version at p
 unfoldable pub cie_at : Part → ℕ → ℕ → ℕ → Result Cie Fault
 cie_at part at stop p = do
   version ← in_frames byte part stop p
-  known ← demand (version.0 == 1 || version.0 == 3) 51 (part.file_at + p)
+  known ← demand (version.0 == 1 || version.0 == 3) Version (part.file_at + p)
   name ← in_frames text part stop version.1
   letters ← no_wrong part (wrong_letter version.1 name.0)
   code ← in_frames uleb part stop name.1

@@ -4,6 +4,7 @@ use Rattle.eh_bytes.specs.declared.frames.Region64.{Region64}
 use Rattle.eh_bytes.specs.Memory.{Part}
 use Rattle.eh_bytes.specs.Encoded.{encoded}
 use Rattle.table_forms.specs.declared.found.Row.{Row}
+use Rattle.table_forms.specs.declared.reason.Reason.TheVariants.{FrameTruncated}
 use Rattle.table_forms.specs.Fault.{Fault, ◌>>=◌, demand}
 use Rattle.table_forms.specs.Instruction.{Instruction, in_frames}
 use Rattle.table_forms.specs.Instructions.{instructions_at}
@@ -19,12 +20,12 @@ pub record Fde : Type 0 where
   pub cie : Cie
   pub instructions : List Instruction
 
--- the first location in the CIE's encoding, and the length in its format alone. 50: the region ends above 2^64 - 1, at the length
+-- the first location in the CIE's encoding, and the length in its format alone. Refused at the length, where the region ends above 2^64 - 1
 unfoldable pub region_at : Cie → Part → ℕ → ℕ → Result (Region64 × ℕ) Fault
 region_at cie part stop p = do
   start ← in_frames (encoded cie.coding.encoding (part.address + p)) part stop p
   len ← in_frames (encoded (cie.coding.encoding % 16) 0) part stop start.1
-  ends ← demand (nat_lt (start.0.value + len.0.value) (2 ^ 64)) 50 (part.file_at + start.1)
+  ends ← demand (nat_lt (start.0.value + len.0.value) (2 ^ 64)) FrameTruncated (part.file_at + start.1)
   Ok (record { start = start.0.value; length = len.0.value }, len.1)
 
 abbrev pub lsda_pointer : Option ℕ → Part → ℕ → ℕ → Result ℕ Fault

@@ -2,6 +2,7 @@
 use Rattle.std.specs.Prelude.{ℕ, ◌+◌, ◌-◌, ◌==◌, ◌&&◌, ◌||◌, nat_lt, nat_le, Bool, true, List, [], ◌∷◌, ◌++◌, Option, Some, None, Result, Err, if◌then◌else◌}
 use Rattle.eh_bytes.specs.declared.frames.HdrRow.{HdrRow}
 use Rattle.eh_bytes.specs.Memory.{Part, Memory, part_with}
+use Rattle.table_forms.specs.declared.reason.Reason.TheVariants.{FrameTruncated, HeaderDisagrees}
 use Rattle.table_forms.specs.Fault.{Fault, fault, ◌>>=◌, least, answer}
 use Rattle.table_forms.specs.Cie.{Cie}
 use Rattle.table_forms.specs.Fde.{Fde}
@@ -28,9 +29,9 @@ sorted [] = []
 sorted (f ∷ fs) = put_in f (sorted fs)
 
 abbrev pub differs : ℕ → ℕ → ℕ → Fault
-differs place location other = record { number = 59; place = place; location = location; other = other }
+differs place location other = record { reason = HeaderDisagrees; place = place; location = location; other = other }
 
--- 59: the table is not the list of the sorted FDEs, at the first row that differs or at the table's end; 0 is the location of the one that is missing
+-- the table is not the list of the sorted FDEs: refused at the first row that differs or at the table's end; 0 is the location of the one that is missing
 abbrev pub disagreement : ℕ → List HdrRow → List Fde → Option Fault
 disagreement place [] [] = None
 disagreement place [] (f ∷ fs) = Some (differs place 0 f.region.start)
@@ -43,9 +44,9 @@ abbrev pub table_disagreement : ℕ → Option (List HdrRow) → List Fde → Op
 table_disagreement place None fdes = None
 table_disagreement place (Some rows) fdes = disagreement place rows (sorted fdes)
 
--- 50: the pointer leads to no segment, at the pointer
+-- refused at the pointer, where it leads to no segment
 abbrev pub parts_in : ℕ → Option Part → ℕ → Parts
-parts_in pointer_place None a = record { cies = []; fdes = []; faults = fault 50 pointer_place ∷ [] }
+parts_in pointer_place None a = record { cies = []; fdes = []; faults = fault FrameTruncated pointer_place ∷ [] }
 parts_in pointer_place (Some part) a = parts_at part (a - part.address)
 
 abbrev pub parts_behind : Memory → ℕ → Option ℕ → Parts
@@ -62,9 +63,9 @@ frames_in memory p part =
       answer (table_disagreement (part.file_at + (p + 12)) header.rows parts.fdes) (record { cies = parts.cies; fdes = parts.fdes })
 
 abbrev pub frames_from : Memory → ℕ → Option Part → Result Frames Fault
-frames_from memory header None = Err (fault 50 0)
+frames_from memory header None = Err (fault FrameTruncated 0)
 frames_from memory header (Some part) = frames_in memory (header - part.address) part
 
--- the frames whose header stands at an address. 50 at 0: no part holds the address
+-- the frames whose header stands at an address. Refused at 0 where no part holds the address
 unfoldable pub frames : Memory → ℕ → Result Frames Fault
 frames memory header = frames_from memory header (part_with memory header)

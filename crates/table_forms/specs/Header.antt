@@ -5,6 +5,7 @@ use Rattle.eh_bytes.specs.declared.frames.HdrRow.{HdrRow}
 use Rattle.eh_bytes.specs.Memory.{Part}
 use Rattle.eh_bytes.specs.Field.{Field, byte, fixed}
 use Rattle.eh_bytes.specs.Encoded.{extended}
+use Rattle.table_forms.specs.declared.reason.Reason.TheVariants.{Encoding, Version}
 use Rattle.table_forms.specs.Fault.{Fault, ◌>>=◌, demand, unless}
 use Rattle.table_forms.specs.Instruction.{in_frames}
 
@@ -17,7 +18,7 @@ pub record Header : Type 0 where
 abbrev pub unread_header : List Fault → Header
 unread_header faults = record { frames_at = None; rows = None; faults = faults }
 
--- the three encodings behind the version. 51: the version is not 1
+-- the three encodings behind the version. The version is 1
 pub record Encodings : Type 0 where
   pub pointer : ℕ
   pub count : ℕ
@@ -29,7 +30,7 @@ in_header field part p = in_frames field part (length part.bytes) p
 unfoldable pub encodings_at : Part → ℕ → Result Encodings Fault
 encodings_at part p = do
   version ← in_header byte part p
-  known ← demand (version.0 == 1) 51 (part.file_at + p)
+  known ← demand (version.0 == 1) Version (part.file_at + p)
   pointer ← in_header byte part (p + 1)
   count ← in_header byte part (p + 2)
   table ← in_header byte part (p + 3)
@@ -39,11 +40,11 @@ encodings_at part p = do
 abbrev pub is_bare : Encodings → Bool
 is_bare e = e.count == 0xff && e.table == 0xff
 
--- 3: the pointer is 0x1b, and count and table are 0x03 and 0x3b, or both 0xff
+-- the pointer is 0x1b, and count and table are 0x03 and 0x3b, or both 0xff
 abbrev pub encoding_faults : Part → ℕ → Encodings → List Fault
 encoding_faults part p e =
-    unless (e.pointer == 0x1b) 3 (part.file_at + (p + 1)) ++ unless (is_bare e || e.count == 0x03) 3 (part.file_at + (p + 2)) ++
-    unless (is_bare e || e.table == 0x3b) 3 (part.file_at + (p + 3))
+    unless (e.pointer == 0x1b) Encoding (part.file_at + (p + 1)) ++ unless (is_bare e || e.count == 0x03) Encoding (part.file_at + (p + 2)) ++
+    unless (is_bare e || e.table == 0x3b) Encoding (part.file_at + (p + 3))
 
 -- a row's two numbers count from the header's start, modulo 2^64
 abbrev pub from_start : ℕ → ℕ → ℕ

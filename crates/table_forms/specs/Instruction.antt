@@ -7,7 +7,9 @@ use Rattle.eh_bytes.specs.Leb128.{uleb, sleb, is_i64}
 use Rattle.eh_bytes.specs.Encoded.{encoded}
 use Rattle.table_forms.specs.declared.found.Rule.{Rule}
 use Rattle.table_forms.specs.declared.found.Rule.TheVariants as rules
-use Rattle.table_forms.specs.Fault.{Fault, fault, ◌>>=◌, demand, field_of, frame_number}
+use Rattle.table_forms.specs.declared.reason.Reason.{Reason}
+use Rattle.table_forms.specs.declared.reason.Reason.TheVariants.{LebRange, UnknownInstruction, Expression, RegisterRange}
+use Rattle.table_forms.specs.Fault.{Fault, fault, ◌>>=◌, demand, field_of, frame_reason}
 
 pub data Instruction : Type 0 where
   nop : Instruction
@@ -29,19 +31,19 @@ pub record Coding : Type 0 where
 
 -- a field of a part of the frames, which ends at a stop
 abbrev pub in_frames : {A : Type 0} → Field A → Part → ℕ → ℕ → Result (A × ℕ) Fault
-in_frames field part stop p = field_of frame_number field part stop p
+in_frames field part stop p = field_of frame_reason field part stop p
 
--- 58: a register above 63
+-- a register is at most 63
 unfoldable pub register_at : Part → ℕ → ℕ → Result (ℕ × ℕ) Fault
 register_at part stop p = do
   n ← in_frames uleb part stop p
-  known ← demand (nat_lt n.0 64) 58 (part.file_at + p)
+  known ← demand (nat_lt n.0 64) RegisterRange (part.file_at + p)
   Ok n
 
--- an offset with its factor. 2: it is outside i64, at the operand
+-- an offset with its factor. Refused at the operand, where it is outside i64
 abbrev pub in_range : Part → ℕ → ℤ → ℕ → Result (ℤ × ℕ) Fault
 in_range part p value next = do
-  fits ← demand (is_i64 value) 2 (part.file_at + p)
+  fits ← demand (is_i64 value) LebRange (part.file_at + p)
   Ok (value, next)
 
 unfoldable pub unsigned_offset : ℤ → Part → ℕ → ℕ → Result (ℤ × ℕ) Fault
@@ -100,9 +102,9 @@ of_size part stop p = do
   n ← in_frames uleb part stop p
   Ok (nop, n.1)
 
--- 54: no instruction. 55: an expression. Both at the opcode
-abbrev pub refused : ℕ → ℕ → Operands
-refused number opcode_at part stop p = Err (fault number (part.file_at + opcode_at))
+-- refused at the opcode
+abbrev pub refused : Reason → ℕ → Operands
+refused reason opcode_at part stop p = Err (fault reason (part.file_at + opcode_at))
 
 -- DW_CFA_nop 00, set_loc 01, advance_loc1, 2 and 4 at 02 to 04, offset_extended 05, restore_extended 06, undefined 07, same_value 08,
 -- register 09, remember_state 0a, restore_state 0b, def_cfa 0c, def_cfa_register 0d, def_cfa_offset 0e, offset_extended_sf 11,
@@ -131,8 +133,8 @@ extended c opcode opcode_at =
     else if opcode == 0x14 then of_both (λ r n. set_rule r (rules.ValOffset n)) (unsigned_offset c.data_factor)
     else if opcode == 0x15 then of_both (λ r n. set_rule r (rules.ValOffset n)) (signed_offset c.data_factor)
     else if opcode == 0x2e then of_size
-    else if opcode == 0x0f || opcode == 0x10 || opcode == 0x16 then refused 55 opcode_at
-    else refused 54 opcode_at
+    else if opcode == 0x0f || opcode == 0x10 || opcode == 0x16 then refused Expression opcode_at
+    else refused UnknownInstruction opcode_at
 
 -- the two high bits of an opcode may say all: advance_loc 1, offset 2, restore 3, with six bits of operand
 unfoldable pub operands : Coding → ℕ → ℕ → Operands

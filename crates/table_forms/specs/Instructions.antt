@@ -1,6 +1,7 @@
 -- Lists of call frame instructions, and the states that they remember (DWARF 5, 6.4.2.4).
 use Rattle.std.specs.Prelude.{ℕ, zero, suc, ◌+◌, nat_lt, Bool, true, false, List, [], ◌∷◌, Option, Some, None, Result, Ok, Err, if◌then◌else◌}
 use Rattle.eh_bytes.specs.Memory.{Part}
+use Rattle.table_forms.specs.declared.reason.Reason.TheVariants.{StateStack}
 use Rattle.table_forms.specs.Fault.{Fault, fault}
 use Rattle.table_forms.specs.Instruction.{Instruction, remember_state, restore_state, Coding, instruction_at}
 
@@ -23,9 +24,9 @@ abbrev pub and_instructions : Instruction → Result Instructions Fault → Resu
 and_instructions i (Ok rest) = Ok (record { list = i ∷ rest.list; states = rest.states })
 and_instructions i (Err f) = Err f
 
--- 56: no state to restore, or one too many to remember, at the instruction
+-- refused at the instruction, where there is no state to restore, or one too many to remember
 abbrev pub instructions_after : ℕ → Instruction → Option ℕ → (ℕ → Result Instructions Fault) → Result Instructions Fault
-instructions_after place i None more = Err (fault 56 place)
+instructions_after place i None more = Err (fault StateStack place)
 instructions_after place i (Some states) more = and_instructions i (more states)
 
 abbrev pub instructions_from : Bool → ℕ → ℕ → Result (Instruction × ℕ) Fault → (ℕ → ℕ → Result Instructions Fault) → Result Instructions Fault

@@ -1,4 +1,6 @@
+pub mod Numbered
 pub mod Fault
+pub mod Seen
 pub mod Keys
 pub mod LsdaHead
 pub mod LsdaSites

@@ -3,6 +3,7 @@ use Rattle.std.specs.Prelude.{ℕ, zero, suc, ℤ, pos, negsuc, ◌+◌, ◌-◌
 use Rattle.eh_bytes.specs.declared.frames.Region64.{Region64}
 use Rattle.eh_bytes.specs.Memory.{Part, Memory, part_with}
 use Rattle.table_forms.specs.declared.found.Site.{Site}
+use Rattle.table_forms.specs.declared.reason.Reason.TheVariants.{TableTruncated}
 use Rattle.table_forms.specs.Fault.{Fault, fault, ◌>>=◌, least, answer}
 use Rattle.table_forms.specs.Keys.{keys}
 use Rattle.table_forms.specs.LsdaHead.{Head, Types, head_at}
@@ -84,9 +85,9 @@ lsda_in memory region p part = do
   answer (least (table_faults memory part region h)) (table_of memory part region h)
 
 abbrev pub lsda_from : Memory → ℕ → Region64 → Option Part → Result Table Fault
-lsda_from memory address region None = Err (fault 1 0)
+lsda_from memory address region None = Err (fault TableTruncated 0)
 lsda_from memory address region (Some part) = lsda_in memory region (address - part.address) part
 
--- the table at an address for the function of a region. 1 at 0: no part holds the address
+-- the table at an address for the function of a region. Refused at 0 where no part holds the address
 unfoldable pub lsda : Memory → ℕ → Region64 → Result Table Fault
 lsda memory address region = lsda_from memory address region (part_with memory address)

@@ -1,7 +1,7 @@
 -- Action records and their chains (Itanium C++ ABI, "Exception Handling Tables": a filter, and the displacement of the next record).
 use Rattle.std.specs.Prelude.{ℕ, zero, suc, ℤ, pos, negsuc, ◌+◌, ◌-◌, nat_lt, List, [], ◌∷◌, length, take, Option, Some, None, Result, Ok, Err, if◌then◌else◌}
 use Rattle.eh_bytes.specs.declared.error.ByteError.{ByteError}
-use Rattle.eh_bytes.specs.declared.error.ByteError.TheVariants.{LebRange}
+use Rattle.eh_bytes.specs.declared.error.ByteError.TheVariants as causes
 use Rattle.eh_bytes.specs.Memory.{Part}
 use Rattle.eh_bytes.specs.Field.{at}
 use Rattle.eh_bytes.specs.Leb128.{sleb}
@@ -9,6 +9,7 @@ use Rattle.table_forms.specs.declared.found.Next.{Next}
 use Rattle.table_forms.specs.declared.found.Next.TheVariants.{Ends, Leaves, Goes}
 use Rattle.table_forms.specs.declared.found.Action.{Action}
 use Rattle.table_forms.specs.declared.found.Action.TheVariants.{Record, Outside, Ranged}
+use Rattle.table_forms.specs.declared.reason.Reason.TheVariants.{LebRange, ActionOutside, ActionLoop}
 use Rattle.table_forms.specs.Fault.{Fault, fault}
 use Rattle.table_forms.specs.LsdaHead.{Head, Types}
 use Rattle.table_forms.specs.Walk.{Returns}
@@ -42,7 +43,7 @@ next_of p (negsuc n) = if nat_lt n p then Goes (p - 1 - n) else Leaves
 
 -- a record that its end cuts lies outside; a number out of range is refused where it stands
 abbrev pub fails_at : ℕ → ByteError → Action
-fails_at p LebRange = Ranged p
+fails_at p causes.LebRange = Ranged p
 fails_at p _ = Outside
 
 abbrev pub with_displacement : ℤ → ℕ → Result (ℤ × ℕ) ByteError → Action
@@ -89,12 +90,12 @@ first_record h a = h.actions_at + a - 1
 abbrev pub chain_of : Part → Head → ℕ → Chain
 chain_of part h a = links_within (1 + length part.bytes) part h (first_record h a)
 
--- 7: a record lies outside, at the site. 8: a record comes again, at the first record. 2: a number is out of range, at it
+-- a record that lies outside is refused at the site, one that comes again at the first record, a number out of range at it
 abbrev pub ending_faults : Part → Head → ℕ → ℕ → Ending → List Fault
 ending_faults part h site a ended = []
-ending_faults part h site a outside = fault 7 (part.file_at + site) ∷ []
-ending_faults part h site a repeated = fault 8 (part.file_at + first_record h a) ∷ []
-ending_faults part h site a (ranged p) = fault 2 (part.file_at + p) ∷ []
+ending_faults part h site a outside = fault ActionOutside (part.file_at + site) ∷ []
+ending_faults part h site a repeated = fault ActionLoop (part.file_at + first_record h a) ∷ []
+ending_faults part h site a (ranged p) = fault LebRange (part.file_at + p) ∷ []
 
 -- the place of the record behind the one at a place, where that is a record and not the last one
 abbrev pub goes_to : Action → Option ℕ

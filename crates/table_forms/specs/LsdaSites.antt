@@ -6,7 +6,8 @@ use Rattle.eh_bytes.specs.Field.{at}
 use Rattle.eh_bytes.specs.Leb128.{uleb}
 use Rattle.eh_bytes.specs.Encoded.{encoded}
 use Rattle.table_forms.specs.declared.found.Site.{Site}
-use Rattle.table_forms.specs.Fault.{Fault, ◌>>=◌, unless, numbered, table_number}
+use Rattle.table_forms.specs.declared.reason.Reason.TheVariants.{SiteOrder, SiteOutside, PadOutside}
+use Rattle.table_forms.specs.Fault.{Fault, ◌>>=◌, unless, with_reason, table_reason}
 use Rattle.table_forms.specs.LsdaHead.{Head}
 
 -- the numbers of a record, and where it stands
@@ -20,7 +21,7 @@ pub record SiteRecord : Type 0 where
 -- a start, a length or a pad; their encodings apply in no way, so that no address counts
 abbrev pub number_at : List ℕ → ℕ → ℕ → ℕ → Result (ℕ × ℕ) Fault
 number_at bytes file_at encoding p = do
-  n ← numbered table_number (file_at + p) (at (encoded encoding (0 + p)) bytes p)
+  n ← with_reason table_reason (file_at + p) (at (encoded encoding (0 + p)) bytes p)
   Ok (n.0.value, n.1)
 
 -- the record at a place of bytes that end with the call-site table, and with the part
@@ -29,7 +30,7 @@ record_at bytes file_at h p = do
   start ← number_at bytes file_at h.site_encoding p
   len ← number_at bytes file_at h.site_encoding start.1
   pad ← number_at bytes file_at h.site_encoding len.1
-  action ← numbered table_number (file_at + pad.1) (at uleb bytes pad.1)
+  action ← with_reason table_reason (file_at + pad.1) (at uleb bytes pad.1)
   Ok (record { at = p; start = start.0; length = len.0; pad = pad.0; action = action.0 }, action.1)
 
 -- the records up to the table's end or the first that can't be read, and its refusal
@@ -64,8 +65,8 @@ site_of h region r = record {
   action = r.action;
 }
 
--- 4: it begins before the end of the one before. 5: it ends behind its region. 6: its pad is no code
+-- it begins before the end of the one before, it ends behind its region, or its pad is no code
 abbrev pub site_faults : Memory → ℕ → Region64 → ℕ → Site → List Fault
 site_faults memory place region before s =
-    unless (nat_le before s.start) 4 place ++ unless (nat_le s.end (region.start + region.length)) 5 place ++
-    unless (s.pad == 0 || is_code memory s.pad) 6 place
+    unless (nat_le before s.start) SiteOrder place ++ unless (nat_le s.end (region.start + region.length)) SiteOutside place ++
+    unless (s.pad == 0 || is_code memory s.pad) PadOutside place

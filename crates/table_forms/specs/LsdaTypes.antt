@@ -1,16 +1,17 @@
 -- Type entries, and the lists of a specification (Itanium C++ ABI, "Exception Handling Tables": the types table).
 use Rattle.std.specs.Prelude.{ℕ, zero, suc, ℤ, pos, negsuc, ◌+◌, ◌-◌, ◌*◌, nat_le, Bool, true, false, List, [], ◌∷◌, ◌++◌, length, flat_map, Option, Some, None, Result, Ok, Err}
 use Rattle.eh_bytes.specs.declared.error.ByteError.{ByteError}
-use Rattle.eh_bytes.specs.declared.error.ByteError.TheVariants.{LebRange}
+use Rattle.eh_bytes.specs.declared.error.ByteError.TheVariants as causes
 use Rattle.eh_bytes.specs.Memory.{Part, Memory, word_at}
 use Rattle.eh_bytes.specs.Field.{at}
 use Rattle.eh_bytes.specs.Leb128.{uleb}
 use Rattle.eh_bytes.specs.Encoded.{encoded}
+use Rattle.table_forms.specs.declared.reason.Reason.TheVariants.{TableTruncated, LebRange, FilterOutside, SpecificationOpen, NoTypes}
 use Rattle.table_forms.specs.Fault.{Fault, fault, ◌>>=◌, demand, refusal_of}
 use Rattle.table_forms.specs.LsdaHead.{Head, Types, in_table}
 
 abbrev pub stored : ℕ → Option ℕ → Result ℕ Fault
-stored place None = Err (fault 1 place)
+stored place None = Err (fault TableTruncated place)
 stored place (Some word) = Ok word
 
 -- an address, or the word that is stored there
@@ -18,10 +19,10 @@ abbrev pub followed : Memory → ℕ → Bool → ℕ → Result ℕ Fault
 followed memory place false value = Ok value
 followed memory place true value = stored place (word_at memory value)
 
--- entry i ends i - 1 entries before the base. 9: it would begin before the action table, at the record that names it
+-- entry i ends i - 1 entries before the base. Refused at the record that names it, where it would begin before the action table
 unfoldable pub entry_at : Memory → Part → Head → Types → ℕ → ℕ → Result ℕ Fault
 entry_at memory part h types named_at i = do
-  inside ← demand (nat_le (h.actions_at + i * types.size) types.base) 9 (part.file_at + named_at)
+  inside ← demand (nat_le (h.actions_at + i * types.size) types.base) FilterOutside (part.file_at + named_at)
   entry ← in_table (encoded types.encoding (part.address + (types.base - i * types.size))) part (types.base - i * types.size)
   followed memory (part.file_at + (types.base - i * types.size)) entry.0.indirect entry.0.value
 
@@ -36,10 +37,10 @@ no_indices cut = record { indices = []; cut = cut }
 abbrev pub and_indices : ℕ → Indices → Indices
 and_indices k rest = record { indices = k ∷ rest.indices; cut = rest.cut }
 
--- 14: the part ends before a 0, at the list. 2: a number is out of range, at it
+-- refused at the list, where the part ends before a 0; a number out of range at it
 abbrev pub list_cut : Part → ℕ → ℕ → ByteError → Fault
-list_cut part first p LebRange = fault 2 (part.file_at + p)
-list_cut part first p _ = fault 14 (part.file_at + first)
+list_cut part first p causes.LebRange = fault LebRange (part.file_at + p)
+list_cut part first p _ = fault SpecificationOpen (part.file_at + first)
 
 abbrev pub cut_by : Part → ℕ → ℕ → Result (ℕ × ℕ) ByteError → Result (ℕ × ℕ) Fault
 cut_by part first p (Ok x) = Ok x
@@ -67,9 +68,9 @@ abbrev pub list_faults : Memory → Part → Head → Types → ℕ → Indices 
 list_faults memory part h types named_at list =
     flat_map (λ i. refusal_of (entry_at memory part h types named_at i)) list.indices ++ list.cut
 
--- 15: a filter without types, at its record
+-- a filter without types is refused at its record
 abbrev pub filter_faults : Memory → Part → Head → Option Types → ℕ → ℤ → List Fault
 filter_faults memory part h types named_at (pos zero) = []
-filter_faults memory part h None named_at _ = fault 15 (part.file_at + named_at) ∷ []
+filter_faults memory part h None named_at _ = fault NoTypes (part.file_at + named_at) ∷ []
 filter_faults memory part h (Some types) named_at (pos (suc i)) = refusal_of (entry_at memory part h types named_at (suc i))
 filter_faults memory part h (Some types) named_at (negsuc n) = list_faults memory part h types named_at (list_at part types n)

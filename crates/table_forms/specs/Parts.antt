@@ -3,6 +3,7 @@ use Rattle.std.specs.Prelude.{ℕ, zero, suc, ◌+◌, ◌==◌, List, [], ◌�
 use Rattle.std.specs.List.{list_any}
 use Rattle.eh_bytes.specs.declared.frames.Region64.{Region64}
 use Rattle.eh_bytes.specs.Memory.{Part}
+use Rattle.table_forms.specs.declared.reason.Reason.TheVariants.{CieLink, Overlap}
 use Rattle.table_forms.specs.Fault.{Fault, fault}
 use Rattle.table_forms.specs.Cie.{Cie, cie_at}
 use Rattle.table_forms.specs.Fde.{Fde, fde_at, region_at, overlap}
@@ -36,9 +37,9 @@ abbrev pub fde_said : Result Fde Fault → Said
 fde_said (Ok f) = said_fde f
 fde_said (Err f) = refused f
 
--- 53: the distance leads to no CIE, at the distance. The FDEs of a refused CIE stay unread
+-- refused at the distance, where it leads to no CIE. The FDEs of a refused CIE stay unread
 abbrev pub said_behind : Part → Span → ℕ → Option (Result Cie Fault) → Said
-said_behind part s next None = refused (fault 53 (part.file_at + s.at + 4))
+said_behind part s next None = refused (fault CieLink (part.file_at + s.at + 4))
 said_behind part s next (Some (Err f)) = unread
 said_behind part s next (Some (Ok cie)) = fde_said (fde_at cie part s.at s.stop next)
 
@@ -66,11 +67,11 @@ region_of part cies s _ = None
 unfoldable pub regions_of : Part → List (ℕ × Result Cie Fault) → List Span → List (ℕ × Region64)
 regions_of part cies spans = filter_map (λ s. region_of part cies s (distance_at part s)) spans
 
--- 57: a region overlaps an earlier one, at the later part
+-- a region that overlaps an earlier one is refused at the later part
 abbrev pub overlaps : Part → List Region64 → List (ℕ × Region64) → List Fault
 overlaps part earlier [] = []
 overlaps part earlier ((at, region) ∷ rest) =
-    (if list_any (overlap region) earlier then fault 57 (part.file_at + at) ∷ [] else []) ++
+    (if list_any (overlap region) earlier then fault Overlap (part.file_at + at) ∷ [] else []) ++
     overlaps part (region ∷ earlier) rest
 
 abbrev pub refusal_said : Said → List Fault

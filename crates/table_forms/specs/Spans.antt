@@ -3,6 +3,7 @@ use Rattle.std.specs.Prelude.{ℕ, zero, suc, ◌+◌, nat_lt, nat_le, Bool, tru
 use Rattle.std.specs.Int.{w32}
 use Rattle.eh_bytes.specs.Memory.{Part}
 use Rattle.eh_bytes.specs.Field.{fixed}
+use Rattle.table_forms.specs.declared.reason.Reason.TheVariants.{FrameTruncated}
 use Rattle.table_forms.specs.Fault.{Fault, fault}
 use Rattle.table_forms.specs.Instruction.{in_frames}
 
@@ -22,10 +23,10 @@ no_spans cut = record { list = []; cut = cut }
 abbrev pub and_spans : Span → Spans → Spans
 and_spans s rest = record { list = s ∷ rest.list; cut = rest.cut }
 
--- 50: it leaves the segment, at its length
+-- refused at its length, where it leaves the segment
 abbrev pub spans_after : Part → ℕ → Bool → Span → (ℕ → Spans) → Spans
 spans_after part p true s more = and_spans s (more s.stop)
-spans_after part p false s more = no_spans (fault 50 (part.file_at + p) ∷ [])
+spans_after part p false s more = no_spans (fault FrameTruncated (part.file_at + p) ∷ [])
 
 abbrev pub spans_from : Part → ℕ → Bool → Result (ℕ × ℕ) Fault → (ℕ → Spans) → Spans
 spans_from part p false read more = no_spans []

@@ -152,12 +152,12 @@ fn refusal(alloc: Global, image: &[u8]) -> (u8, u64, u64, u64) {
         Ok(_) => (0, 0, 0, 0),
         Err(
             ImageError::Refused {
-                number,
+                reason,
                 place,
                 location,
                 other,
             },
-        ) => (number, place, location, other),
+        ) => (reason.number(), place, location, other),
         Err(ImageError::NoMemory) => (255, 0, 0, 0),
     }
 }

@@ -3,6 +3,7 @@
 use crate::clean_images::WORKED;
 use std::alloc::Global;
 use std::test::Fail;
+use table_forms::Reason;
 use table_dump::{ImageError, dump_image};
 
 static TEXT: &str = "image entry 0x1010c
@@ -243,7 +244,7 @@ fn a_refused_image(rt: HostRuntime) -> Result<(), Fail> {
     let alloc = rt.alloc();
     let text = dump_image(alloc, &image(alloc, 0x106, b"\x7f".as_slice())?);
     let refused = ImageError::Refused {
-        number: 8,
+        reason: Reason::ActionLoop,
         place: 261,
         location: 0,
         other: 0,

@@ -82,12 +82,12 @@ fn refusal(frames: &Result<Frames, FrameError>) -> Option<(u8, u64, u64, u64)> {
     match frames {
         Err(
             FrameError::Refused {
-                number,
+                reason,
                 place,
                 location,
                 other,
             },
-        ) => Some((*number, *place, *location, *other)),
+        ) => Some((reason.number(), *place, *location, *other)),
         _ => None,
     }
 }

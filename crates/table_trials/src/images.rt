@@ -101,7 +101,7 @@ fn refusal(
     let file = image(alloc, programs, changes)?;
     Ok(match read_elf(alloc, &file, run) {
         Ok(_) => (0, 0),
-        Err(ImageError::Refused { number, place, .. }) => (number, place),
+        Err(ImageError::Refused { reason, place, .. }) => (reason.number(), place),
         Err(ImageError::NoMemory) => (255, 0),
     })
 }

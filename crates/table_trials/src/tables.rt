@@ -55,7 +55,7 @@ fn list_of(alloc: Global, table: &Lsda<'_>, j: u64) -> Result<Vec<u64>, Fail> {
 fn refusal_of(memory: &Segments, address: u64) -> Option<(u8, u64)> {
     match Lsda::read_at(memory, address, REGION) {
         Ok(_) => None,
-        Err(TableError { number, place, .. }) => Some((number, place)),
+        Err(TableError { reason, place, .. }) => Some((reason.number(), place)),
     }
 }
 

@@ -1,6 +1,6 @@
 use Rattle.std.proofs.Common.{rules, ◌∙◌, sym, ap}
 use Rattle.std.specs.Prelude.{option_map}
-use Rattle.table_refusals.specs.Seen.{fault_of}
+use Rattle.table_forms.specs.Seen.{fault_of}
 use Rattle.rv64_isa.specs.State.{State}
 use Rattle.eh_run.proofs.Runnable.{refused_before, refused_written, written_seen, has_places, below, is_loaded, loaded_lasts, ready, program_is}
 use Rattle.eh_run.proofs.loading.load.Goals as goal

@@ -2,7 +2,7 @@ use Rattle.std.proofs.Common.{◌≡◌, ◌∙◌, [], ◌∷◌, List, sym, ap
 use Rattle.std.specs.Prelude.{option_map}
 use Rattle.eh_bytes.specs.Memory.{memory_of}
 use Rattle.table_forms.specs.Fault.{least, joined}
-use Rattle.table_refusals.specs.Seen.{fault_of}
+use Rattle.table_forms.specs.Seen.{fault_of}
 use Rattle.frame_read.specs.declared.listed.Fde.{Fde}
 use Rattle.eh_run.specs.Written.{tables_written}
 use Rattle.eh_run.proofs.Writable.{one_more, no_more, empty}

@@ -1,7 +1,7 @@
 use Rattle.std.proofs.Common.{◌≡◌, option_map, length}
 use Rattle.eh_bytes.specs.Memory.{memory_of}
 use Rattle.table_forms.specs.Fault.{least, joined}
-use Rattle.table_refusals.specs.Seen.{fault_of}
+use Rattle.table_forms.specs.Seen.{fault_of}
 use Rattle.eh_run.specs.Written.{tables_written}
 use Rattle.eh_run.proofs.written.tables_written.Given as goal
 

@@ -1,7 +1,7 @@
 use Rattle.std.proofs.Common.{rules, ◌≡◌, ◌++◌, [], subst, sym, length}
 use Rattle.std.specs.Prelude.{None, Some}
 use Rattle.table_forms.specs.Fault.{least}
-use Rattle.table_refusals.specs.Seen.{fault_of}
+use Rattle.table_forms.specs.Seen.{fault_of}
 use Rattle.elf_image.specs.Header.{header_faults}
 use Rattle.elf_image.specs.Programs.{headers_of, loaded}
 use Rattle.elf_image.specs.Loads.{AreSound}

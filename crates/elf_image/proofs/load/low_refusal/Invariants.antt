@@ -1,7 +1,7 @@
 use Rattle.std.proofs.Common.{◌≡◌, ◌+◌, ◌*◌, ◌≤◌, ◌^◌, length}
 use Rattle.std.specs.Prelude.{option_map}
 use Rattle.table_forms.specs.Fault.{least, joined}
-use Rattle.table_refusals.specs.Seen.{fault_of}
+use Rattle.table_forms.specs.Seen.{fault_of}
 use Rattle.elf_image.specs.Loads.{low_faults}
 use Rattle.elf_image.proofs.load.low_refusal.Given as goal
 

@@ -1,6 +1,6 @@
 use Rattle.std.proofs.Common.{◌≡◌, ◌-◌, suc, ◌++◌, ◌∷◌, [], ap, sym, ◌∙◌, arith}
 use Rattle.eh_bytes.specs.Memory.{part_of}
-use Rattle.table_refusals.specs.Seen.{fault_of}
+use Rattle.table_forms.specs.Seen.{fault_of}
 use Rattle.frame_read.specs.SeenHeader.{row_rest}
 use Rattle.frame_read.proofs.Rows.{row_cut, row_more, row_none}
 use Rattle.frame_read.proofs.header.rows_of.Goals as goal

@@ -4,7 +4,7 @@ use Rattle.eh_bytes.specs.Memory.{part_of}
 use Rattle.table_forms.specs.Fault.{least, joined}
 use Rattle.table_forms.specs.Spans.{Spans}
 use Rattle.table_forms.specs.Parts.{cies_of}
-use Rattle.table_refusals.specs.Seen.{fault_of}
+use Rattle.table_forms.specs.Seen.{fault_of}
 use Rattle.frame_read.specs.SeenSpan.{spans_seen, cut_of}
 use Rattle.frame_read.specs.SeenPart.{entries_seen}
 use Rattle.frame_read.specs.SeenParts.{parts_seen, placed_seen}

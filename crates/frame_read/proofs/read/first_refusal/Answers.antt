@@ -1,6 +1,6 @@
 use Rattle.std.proofs.Common.{ap, sym, ◌∙◌, option_map}
 use Rattle.table_forms.specs.Fault.{least, joined}
-use Rattle.table_refusals.specs.Seen.{fault_of}
+use Rattle.table_forms.specs.Seen.{fault_of}
 use Rattle.table_forms.proofs.Least.{least-append}
 use Rattle.frame_read.proofs.read.first_refusal.Goals as goal
 

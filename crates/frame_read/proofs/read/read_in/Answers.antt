@@ -2,7 +2,7 @@ use Rattle.std.proofs.Common.{rules, ◌≡◌, ◌+◌, None, option_map, ap, s
 use Rattle.eh_bytes.specs.Memory.{memory_of, part_of}
 use Rattle.table_forms.specs.Header.{header_at}
 use Rattle.table_forms.specs.Frames.{parts_behind, table_disagreement}
-use Rattle.table_refusals.specs.Seen.{fault_of}
+use Rattle.table_forms.specs.Seen.{fault_of}
 use Rattle.frame_read.specs.Whole.{whole}
 use Rattle.frame_read.specs.Order.{PlacesRise}
 use Rattle.frame_read.proofs.FdesRise.{behind_rise}

@@ -2,7 +2,7 @@ use Rattle.std.proofs.Common.{◌≡◌, List, Option, ap, sym, subst, ◌∙◌
 use Rattle.eh_bytes.specs.declared.frames.HdrRow.{HdrRow}
 use Rattle.table_forms.specs.Fault.{Fault}
 use Rattle.table_forms.specs.Frames.{sorted, disagreement, table_disagreement}
-use Rattle.table_refusals.specs.Seen.{fault_of}
+use Rattle.table_forms.specs.Seen.{fault_of}
 use Rattle.frame_read.proofs.read.table_refusal.Goals as goal
 
 pub returns-in-Some : goal.returns-in-Some

@@ -3,7 +3,7 @@ use Rattle.std.proofs.lemmas.Bool.Decides.{nat_tests}
 use Rattle.eh_bytes.specs.Memory.{part_of}
 use Rattle.table_forms.specs.Instructions.{instructions_at}
 use Rattle.arrayvec.specs.ArrayVec.{array_vec_len}
-use Rattle.table_refusals.specs.Seen.{fault_of}
+use Rattle.table_forms.specs.Seen.{fault_of}
 use Rattle.frame_read.specs.Seen.{coding_seen, instruction_seen}
 use Rattle.frame_read.proofs.Folds.{whole_counts, goes_some, goes_whole, goes_on, goes_off, goes_out}
 use Rattle.frame_read.proofs.row_fold.goes_over.Goals as goal

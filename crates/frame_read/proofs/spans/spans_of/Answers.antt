@@ -6,9 +6,10 @@ use Rattle.std.proofs.lemmas.List.Elements.{All-push}
 use Rattle.eh_bytes.specs.Field.{fixed}
 use Rattle.table_forms.specs.Instruction.{in_frames}
 use Rattle.eh_bytes.specs.Memory.{part_of}
+use Rattle.table_forms.specs.declared.reason.Reason.TheVariants.{FrameTruncated}
 use Rattle.table_forms.specs.Fault.{fault}
 use Rattle.frame_read.specs.declared.span.Span.{Span}
-use Rattle.table_refusals.specs.Seen.{fault_of}
+use Rattle.table_forms.specs.Seen.{fault_of}
 use Rattle.frame_read.specs.SeenSpan.{span_seen, spans_seen, IsInside}
 use Rattle.frame_read.specs.SpanRest.{span_rest}
 use Rattle.frame_read.proofs.OnWay.{goes_on, ends, is_done}
@@ -42,7 +43,7 @@ returns-then-length-end-clause-spans c =
     let k = c.in-Ok.length - 1 in
     let some : c.in-Ok.length ≡ suc k = omega (arith, c.if-length-eq0.false) in
     let out : nat_le (c.in-Ok.next + suc k) len ≡ false = grind (arith, nat_tests, some, c.if-length-end.true, c.in-Ok.ensures.inside, c.len-end.ensures, whole) in
-    ends (span_rest s xs) len (span_rest s [] len c.args.first) (ends_with xs (fault 50 (s.file_at + p) ∷ [])) p below
+    ends (span_rest s xs) len (span_rest s [] len c.args.first) (ends_with xs (fault FrameTruncated (s.file_at + p) ∷ [])) p below
     (λ n. span_out s xs p n k c.in-Ok.next inside (at_end ∙ c.in-Ok.ensures.reads ∙ ap (λ k. Ok (k, c.in-Ok.next)) some) out) c.spans.invariant.1 ∙
     ap (λ f. ends_with xs (f ∷ [])) (sym c.refused-cut.ensures)
 

@@ -1,8 +1,9 @@
 use Rattle.std.proofs.Common.{rules, ◌≡◌, ◌+◌, nat_lt, true, false, None, Ok, Err, ap, sym, ◌∙◌, arith}
 use Rattle.std.proofs.lemmas.Bool.Decides.{nat_tests}
 use Rattle.eh_bytes.specs.Memory.{part_of}
+use Rattle.table_forms.specs.declared.reason.Reason.TheVariants.{StateStack}
 use Rattle.table_forms.specs.Fault.{fault}
-use Rattle.table_refusals.specs.Seen.{fault_of}
+use Rattle.table_forms.specs.Seen.{fault_of}
 use Rattle.frame_read.specs.Seen.{coding_seen, instruction_seen}
 use Rattle.frame_read.specs.States.{states_rest}
 use Rattle.frame_read.proofs.OnWay.{goes_on, ends, is_done}
@@ -21,7 +22,7 @@ returns-in_default-clause-reads c =
     let co = coding_seen c.args.coding in let s = part_of c.args.segment.now in let stop = c.args.stop in let p = c.instructions.place in
     let inside : nat_lt p stop ≡ true = grind (arith, nat_tests, c.instructions-test.true) in
     let none : c.states_after.result ≡ None = search rules in
-    ends (states_rest co s stop c.instructions.states) stop (states_rest co s stop c.args.remembered stop c.args.first) (Err (fault 56 (s.file_at + p))) p c.instructions-test.true
+    ends (states_rest co s stop c.instructions.states) stop (states_rest co s stop c.args.remembered stop c.args.first) (Err (fault StateStack (s.file_at + p))) p c.instructions-test.true
     (λ n. states_refused co s stop c.instructions.states p n (instruction_seen c.in-Ok.instruction) c.in-Ok.next inside c.in-Ok.ensures.reads
     (sym c.states_after.ensures.after ∙ none)) c.instructions.invariant.2 ∙
     ap Err (sym c.refused.ensures)

@@ -4,10 +4,11 @@ use Rattle.std.proofs.Common.{rules, w64, ◌≡◌, ◌+◌, ◌-◌, ◌<◌, 
 use Rattle.eh_bytes.specs.Memory.{part_of, memory_of}
 use Rattle.table_forms.specs.declared.found.Next.{Next}
 use Rattle.table_forms.specs.declared.found.Action.TheVariants.{Record}
+use Rattle.table_forms.specs.declared.reason.Reason.TheVariants.{ActionOutside}
 use Rattle.table_forms.specs.Fault.{fault, least, joined}
 use Rattle.table_forms.specs.LsdaTypes.{filter_faults}
 use Rattle.table_forms.proofs.Least.{joined_joined, joined_none}
-use Rattle.table_refusals.specs.Seen.{fault_of}
+use Rattle.table_forms.specs.Seen.{fault_of}
 use Rattle.lsda_read.specs.Heads.{head_seen}
 use Rattle.lsda_read.specs.Filters.{IsNear}
 use Rattle.lsda_read.specs.Rests.{chain_rest}
@@ -60,10 +61,10 @@ returns-in-Leaves c =
     let fits : SFits w64 c.in-Record.filter = search rules in
     let so_far = c.joined-least.ensures ∙ ap (joined L) (c.filter_refusal.ensures ∙ ap (λ z. least (filter_faults m s h h.types p z)) (to_z-of_z w64 c.in-Record.filter fits)) in
     let read = sym c.in-Record.ensures.action ∙ ap (Record c.in-Record.filter) c.in-Leaves.is in
-    let seven = Some (fault 7 (s.file_at + site)) in
+    let outside = Some (fault ActionOutside (s.file_at + site)) in
     c.joined-in-Leaves.ensures ∙ ap (λ o. joined o (Some (fault_of c.refused-in-Leaves.result))) so_far ∙
     ap (λ f. joined (joined L ff) (Some f)) c.refused-in-Leaves.ensures ∙
-    sym (joined_joined L ff seven) ∙ ap (joined L) (sym (chain_leaves m s h site a p n c.in-Record.filter read)) ∙ sym inv
+    sym (joined_joined L ff outside) ∙ ap (joined L) (sym (chain_leaves m s h site a p n c.in-Record.filter read)) ∙ sym inv
 
 pub loop-preserved : goal.loop-preserved
 loop-preserved c =

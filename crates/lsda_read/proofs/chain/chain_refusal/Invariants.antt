@@ -2,7 +2,7 @@ use Rattle.std.proofs.Common.{◌≡◌, ◌+◌, ◌-◌, ◌<◌, ◌^◌, opt
 use Rattle.eh_bytes.specs.Memory.{part_of, memory_of}
 use Rattle.table_forms.specs.LsdaChain.{first_record}
 use Rattle.table_forms.specs.Fault.{joined}
-use Rattle.table_refusals.specs.Seen.{fault_of}
+use Rattle.table_forms.specs.Seen.{fault_of}
 use Rattle.lsda_read.specs.Heads.{head_seen}
 use Rattle.lsda_read.specs.Rests.{chain_rest}
 use Rattle.lsda_read.proofs.chain.chain_refusal.Given as goal

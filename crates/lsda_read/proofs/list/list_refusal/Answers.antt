@@ -3,7 +3,7 @@ use Rattle.table_forms.proofs.Least.{joined_none}
 use Rattle.eh_bytes.specs.Memory.{part_of, memory_of}
 use Rattle.table_forms.specs.LsdaTypes.{entry_at}
 use Rattle.table_forms.specs.Fault.{Fault, least, joined, refusal_of}
-use Rattle.table_refusals.specs.Seen.{fault_of}
+use Rattle.table_forms.specs.Seen.{fault_of}
 use Rattle.lsda_read.specs.Heads.{head_seen, types_of}
 use Rattle.lsda_read.proofs.OnWay.{OnWay, is_done, goes_on}
 use Rattle.lsda_read.proofs.Indices.{list_rest, list_fails, list_ends, list_goes}

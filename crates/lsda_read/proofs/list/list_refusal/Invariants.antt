@@ -1,6 +1,6 @@
 use Rattle.std.proofs.Common.{◌+◌, ◌-◌, ◌≤◌, option_map, vec_len}
 use Rattle.eh_bytes.specs.Memory.{part_of, memory_of}
-use Rattle.table_refusals.specs.Seen.{fault_of}
+use Rattle.table_forms.specs.Seen.{fault_of}
 use Rattle.lsda_read.specs.Heads.{head_seen, types_of}
 use Rattle.lsda_read.proofs.OnWay.{OnWay}
 use Rattle.lsda_read.proofs.Indices.{list_rest}

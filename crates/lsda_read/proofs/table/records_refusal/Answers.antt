@@ -5,7 +5,7 @@ use Rattle.table_forms.specs.Fault.{Fault, least, joined}
 use Rattle.table_forms.specs.LsdaSites.{site_of, site_faults}
 use Rattle.table_forms.specs.Lsda.{action_faults}
 use Rattle.table_forms.proofs.Least.{joined_none}
-use Rattle.table_refusals.specs.Seen.{fault_of}
+use Rattle.table_forms.specs.Seen.{fault_of}
 use Rattle.lsda_read.specs.Heads.{head_seen}
 use Rattle.lsda_read.specs.Sites.{record_of}
 use Rattle.lsda_read.specs.SiteRests.{site_rest}

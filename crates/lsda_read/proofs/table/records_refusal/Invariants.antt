@@ -1,6 +1,6 @@
 use Rattle.std.proofs.Common.{◌≡◌, ◌+◌, ◌-◌, ◌≤◌, ◌<◌, ◌^◌, option_map, length, vec_len, ℕ}
 use Rattle.eh_bytes.specs.Memory.{part_of, memory_of}
-use Rattle.table_refusals.specs.Seen.{fault_of}
+use Rattle.table_forms.specs.Seen.{fault_of}
 use Rattle.lsda_read.specs.Heads.{head_seen}
 use Rattle.lsda_read.specs.SiteRests.{site_rest}
 use Rattle.table_forms.specs.Fault.{joined}

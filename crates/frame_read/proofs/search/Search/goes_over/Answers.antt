@@ -1,7 +1,7 @@
 use Rattle.std.proofs.Common.{◌≡◌, nat_lt, true, false, refl, sym, ◌∙◌, arith}
 use Rattle.std.proofs.lemmas.Bool.Decides.{nat_tests}
 use Rattle.eh_bytes.specs.Memory.{part_of}
-use Rattle.table_refusals.specs.Seen.{fault_of}
+use Rattle.table_forms.specs.Seen.{fault_of}
 use Rattle.frame_read.specs.Seen.{coding_seen, instruction_seen}
 use Rattle.frame_read.proofs.Searched.{begins_way, way_on, way_whole, way_out}
 use Rattle.frame_read.proofs.search.Search.goes_over.Goals as goal
