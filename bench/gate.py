@@ -2,7 +2,7 @@
 """What the gate costs, by crate: `gate.py [NAME..]` runs `rt ci NAME..` at the top and adds up the processor time of each proof, test and edit.
 
 What this machine has kept is not proved again and costs nothing, so a figure of the whole needs a machine that has kept nothing. The prover's
-processes are looked at twice a second; what ends between two looks is counted up to the last of them.
+processes are looked at every two seconds; what ends between two looks is counted up to the last of them.
 """
 import collections
 import os
@@ -48,7 +48,7 @@ class Watch(threading.Thread):
         self.stopped = threading.Event()
 
     def run(self):
-        while not self.stopped.wait(0.5):
+        while not self.stopped.wait(2):
             for number, command, seconds, folder in processes():
                 crate = command[command.index("--crate-name") + 1]
                 key = (number, crate)

@@ -1,5 +1,4 @@
 // What `mean` prints of worked programs, with each event and without.
-ghost use Rattle.std.specs.Prelude.{[], option_to_list};
 
 use crate::mean_rows::{
     Row, modules, objects, specifications, terminates, throws, undefined, values,
@@ -7,7 +6,7 @@ use crate::mean_rows::{
 use crate::outside::{Outside, Seen, answer, answer_with, holding};
 use command_line::scripts;
 use eh_driver::Status;
-use eh_outer::{Module, Reply, Runs};
+use eh_outer::{Module, Once, Reply, Runs};
 use std::alloc::Global;
 use std::cell::Cell;
 use std::rc::Rc;
@@ -187,7 +186,7 @@ fn both_limits(rt: HostRuntime) -> Result<(), Fail> {
 
 // A module that raises the token 7 once. It notes a digit for each call, cleanup and drop: 1, 2 and 3.
 struct Noted {
-    reply: Option<Reply>,
+    script: Once,
     notes: Rc<Cell<u32>>,
 }
 
@@ -197,21 +196,25 @@ fn note(notes: &Cell<u32>, digit: u32) {
 
 impl Drop for Noted {
     fn drop(self) {
-        let Noted { reply: _, notes } = self;
+        let Noted { script, notes } = self;
+        drop(script);
         note(&notes, 3);
     }
 }
 
 impl Module for Noted {
-    ghost view = { λ it. record { rest = option_to_list it.reply; cleaned = []; room = 0 } };
+    ghost view = { λ it. it.script.seen };
 
-    fn call(&mut self, _arg: i32) -> Reply {
+    ghost ints = { λ it. it.script.ints };
+
+    fn call(&mut self, arg: i32) -> Reply {
         note(&self.notes, 1);
-        self.reply.take().unwrap_or(Reply::Value(0))
+        self.script.call(arg)
     }
 
-    fn cleanup(&mut self, _token: u32) {
+    fn cleanup(&mut self, token: u32) {
         note(&self.notes, 2);
+        self.script.cleanup(token);
     }
 }
 
@@ -221,7 +224,7 @@ fn cleanups(rt: HostRuntime) -> Result<(), Fail> {
     let alloc = rt.alloc();
     let notes = Rc::new(alloc, Cell::new(0))?;
     let noted = Noted {
-        reply: Some(Reply::Raise(7)),
+        script: Once::new(alloc, vec![in alloc; Reply::Raise(7)]?)?,
         notes: notes.clone()?,
     };
     let mut modules: Vec<Box<dyn Module>> = Vec::new(alloc);

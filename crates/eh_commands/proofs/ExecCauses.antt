@@ -183,7 +183,7 @@ refuses (Ok i) e h = absurd h
 refuses (Err fault) e h = ap status_of h
 
 pub refused_runs : (a : Asked) (file input : List ℕ) (old : SinkView) (e : ImageError) → IsReported e (runnable file) → ImageRuns a file input old old (status_of e)
-refused_runs a file input old (errors.Refused number place location other) h = (refuses (runnable file) (errors.Refused number place location other) h, refl)
+refused_runs a file input old (errors.Refused reason place location other) h = (refuses (runnable file) (errors.Refused reason place location other) h, refl)
 refused_runs a file input old errors.NoMemory h = refl
 
 -- an image with the input that was read

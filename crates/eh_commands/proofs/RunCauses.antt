@@ -13,6 +13,7 @@ use Rattle.cxx_front.specs.declared.error.SourceError.TheVariants as errors
 use Rattle.cxx_image.specs.Image.{image_for}
 use Rattle.source_bounds.specs.Compiled.{emitted_for}
 use Rattle.eh_bytes.specs.Listed.{ListedUnit}
+use Rattle.table_forms.specs.declared.reason.Reason.{Reason}
 use Rattle.table_forms.specs.Fault.{Fault}
 use Rattle.elf_image.specs.declared.error.ImageError.TheVariants as image_errors
 use Rattle.elf_image.specs.Clean.{CleanImage}
@@ -45,10 +46,10 @@ no_run_refusal (ends.Fault kind at) number place e = cc
 no_run_refusal ends.WriteFault number place e = cc
 
 -- an image that can be run is not refused
-pub not_refused : (u : ListedUnit) (image : List ℕ) (number place location other : ℕ) → RunsUnit u image → IsReported (image_errors.Refused number place location other) (runnable image) → ⊥
-not_refused u image number place location other runs is = go (runnable image) runs is
+pub not_refused : (u : ListedUnit) (image : List ℕ) (reason : Reason) (place location other : ℕ) → RunsUnit u image → IsReported (image_errors.Refused reason place location other) (runnable image) → ⊥
+not_refused u image reason place location other runs is = go (runnable image) runs is
   where
-    go : (read : Result CleanImage Fault) → IsOkAnd read (UnitStands u) → IsErrAnd read (λ fault. image_errors.Refused number place location other ≡ reported fault) → ⊥
+    go : (read : Result CleanImage Fault) → IsOkAnd read (UnitStands u) → IsErrAnd read (λ fault. image_errors.Refused reason place location other ≡ reported fault) → ⊥
     go (Ok i) stands never = never
     go (Err fault) never is = never
 

@@ -5,6 +5,7 @@ use Rattle.std.specs.Fmt.{decimal}
 use Rattle.eh_outer.specs.Store.{Files, StoreView, Rose}
 use Rattle.eh_outer.specs.Sink.{SinkView, Gains}
 use Rattle.table_forms.specs.Fault.{Fault}
+use Rattle.table_forms.specs.Numbered.{number_of}
 use Rattle.elf_image.specs.declared.error.ImageError.{ImageError}
 use Rattle.elf_image.specs.declared.error.ImageError.TheVariants as errors
 use Rattle.elf_image.specs.Reports.{reported}
@@ -41,7 +42,7 @@ dump_lines image = lines_of (dump image)
 
 -- the status of a refusal
 abbrev pub status_of : ImageError → Status
-status_of (errors.Refused number place location other) = ImageRefused number place location other
+status_of (errors.Refused reason place location other) = ImageRefused (number_of reason) place location other
 status_of errors.NoMemory = NoMemory
 
 -- when a command that prints such lines of a clean image gives each status for the bytes of a file, and what it leaves of the sink

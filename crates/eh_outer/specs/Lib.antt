@@ -5,3 +5,4 @@ pub mod Schedule
 pub mod MemStore
 pub mod MemSink
 pub mod Replies
+pub mod Domain

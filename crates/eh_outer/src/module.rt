@@ -1,5 +1,6 @@
 // A module of another language, which answers calls and may raise.
 ghost use Rattle.std.specs.Prelude.{◌≡◌};
+ghost use Rattle.eh_outer.specs.Domain.{RepliesAreInts, ReplyIsInt};
 ghost use Rattle.eh_outer.specs.Module.{ModuleView, cleaned, replied, reply_of};
 ghost use Rattle.eh_outer.specs.Replies.{raises};
 
@@ -15,9 +16,13 @@ pub enum Reply {
 impl Reply {
     /// Whether it raises an exception.
     pub fn raises(&self) -> bool
-        ensures { result ≡ raises self.now }
+        ensures value { result ≡ raises self.now }
+        ensures int { ReplyIsInt self.now }
     {
-        matches!(self, Reply::Raise(_))
+        match *self {
+            Reply::Value(_int) => false,
+            Reply::Raise(_token) => true,
+        }
     }
 }
 
@@ -27,6 +32,9 @@ impl Reply {
 pub trait Module: Drop {
     /// The replies still to come, the tokens cleaned in order, and how many of these it can keep.
     ghost view: { Self → ModuleView };
+
+    /// Each reply still to come is one that a call can give: an int, or a token, of 32 bits.
+    ghost ints: { (m : Self) → RepliesAreInts (view m).rest };
 
     /// The next reply, or the value 0 where none is left.
     fn call(&mut self, arg: i32) -> Reply
@@ -41,6 +49,8 @@ pub trait Module: Drop {
 // A call goes to the module in the box.
 impl Module for Box<dyn Module> {
     ghost view = { λ b. (Module-box b).view b.value };
+
+    ghost ints = { λ b. (Module-box b).ints b.value };
 
     fn call(&mut self, arg: i32) -> Reply {
         (**self).call(arg)

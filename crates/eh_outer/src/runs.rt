@@ -1,5 +1,6 @@
 // A module in memory that gives each of its replies many times.
 ghost use Rattle.std.specs.Prelude.{◌≡◌, [], IfOk};
+ghost use Rattle.eh_outer.specs.Domain.{ReplyIsInt, ReplyIsInt-prop, RunsAreInts, RunsAreInts-prop};
 ghost use Rattle.eh_outer.specs.Module.{cleaned, replied, reply_of};
 ghost use Rattle.eh_outer.specs.Replies.{replies_of, room_of};
 
@@ -20,25 +21,35 @@ pub struct Runs {
     reply: Reply,
     left: u32,
     tokens: Tokens,
+    ghost reply_int: { ReplyIsInt reply } by { ReplyIsInt-prop reply },
+    ghost run_ints: { RunsAreInts runs.items } by { RunsAreInts-prop runs.items },
 }
 
 impl Model for Runs {
     ghost use Rattle.std.specs.Prelude.{◌++◌, drop, replicate};
-    ghost use Rattle.eh_outer.specs.Module.{ModuleView};
+    ghost use Rattle.eh_outer.specs.Domain.{runs_left};
+    ghost use Rattle.std.specs.Coded.{codes};
+    ghost use Rattle.eh_outer.specs.Module.{ScriptView, script_code};
     ghost use Rattle.eh_outer.specs.Replies.{replies_of};
 
-    ghost Value = { ModuleView };
+    ghost Value = { ScriptView };
+
+    ghost coded = { script_code (Prim.hlevel codes) };
 
     ghost view = { λ a. record {
-      rest = replicate a.left a.reply ++ replies_of (drop a.begun a.runs.items);
-      cleaned = a.tokens.kept;
-      room = a.tokens.room;
+      seen = record {
+        rest = replicate a.left a.reply ++ replies_of (drop a.begun a.runs.items);
+        cleaned = a.tokens.kept;
+        room = a.tokens.room;
+      };
+      ints = runs_left a.left a.reply a.begun a.runs.items a.reply_int a.run_ints;
     } };
 }
 
 // How many tokens the runs can raise, at most `MOST_TOKENS`.
 fn room_for(runs: &[(Reply, u32)]) -> usize
-    ensures { result ≡ room_of runs.now }
+    ensures value { result ≡ room_of runs.now }
+    ensures ints { RunsAreInts runs.now }
 {
     let mut room = 0;
     for (reply, count) in runs {
@@ -53,7 +64,7 @@ impl Runs {
     /// A module that gives each reply so many times, in order, and has room for as many tokens as they raise, at most
     /// 1,000,000.
     pub fn new(alloc: Global, runs: Vec<(Reply, u32)>) -> Result<Runs, NoMemory>
-        ensures { IfOk result (λ m. m ≡ record { rest = replies_of runs.items; cleaned = []; room = room_of runs.items }) }
+        ensures { IfOk result (λ m. m.seen ≡ record { rest = replies_of runs.items; cleaned = []; room = room_of runs.items }) }
     {
         let room = room_for(runs.as_slice());
         Ok(Runs {
@@ -67,7 +78,9 @@ impl Runs {
 }
 
 impl Module for Runs {
-    ghost view = { λ m. m };
+    ghost view = { λ m. m.seen };
+
+    ghost ints = { λ m. m.ints };
 
     fn call(&mut self, _arg: i32) -> Reply {
         while self.left == 0 {

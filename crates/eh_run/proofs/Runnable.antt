@@ -38,10 +38,10 @@ use Rattle.eh_run.proofs.Writable.{tables_listed}
 pub refused_before : (file : List ℕ) (e : ImageError) → IsReported e (judged file true) → IsReported e (runnable file)
 unfolding runnable
 refused_before file errors.NoMemory said = tt
-refused_before file (errors.Refused number place location other) said = by (judged file true) said
+refused_before file (errors.Refused reason place location other) said = by (judged file true) said
   where
-    by : (r : Result CleanImage Fault) → IsErrAnd r (λ f. errors.Refused number place location other ≡ reported f) →
-        IsErrAnd (r >>= λ i. answer (least (written_faults i)) i) (λ f. errors.Refused number place location other ≡ reported f)
+    by : (r : Result CleanImage Fault) → IsErrAnd r (λ f. errors.Refused reason place location other ≡ reported f) →
+        IsErrAnd (r >>= λ i. answer (least (written_faults i)) i) (λ f. errors.Refused reason place location other ≡ reported f)
     by (Ok i) said = absurd said
     by (Err f) said = said
 

@@ -14,7 +14,7 @@ use table_check::read_image;
 
 /// The image in a file, ready to run, or the first of its refusals (docs/TABLES.md): those of the
 /// file, of the header and the frames, of each exception table in the order of its function's region,
-/// and 69; or memory ran out.
+/// and `TableWritable`; or memory ran out.
 pub fn load(alloc: Global, bytes: &[u8]) -> Result<Loaded, ImageError>
     ensures loads { Loads result (runnable bytes.now) }
     ensures lasts { IfOk result TablesLast }

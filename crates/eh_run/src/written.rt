@@ -59,7 +59,7 @@ fn frames_written(memory: &Segments, header: u64) -> Option<Refusal>
     }
 }
 
-/// 69 of docs/TABLES.md for an image whose frames can be read: the header, the frames or an
+/// `TableWritable` for an image whose frames can be read: the header, the frames or an
 /// exception table that an FDE names lies where it may be written.
 pub fn written_refusal(memory: &Segments, header: u64, fdes: &[Fde]) -> Option<Refusal>
     ensures { (read : forms.Frames) → forms.frames (memory_of memory.now) header ≡ Ok read →

@@ -6,6 +6,7 @@ ghost use Rattle.eh_write.specs.Written.{entry_bytes, entries_from};
 
 use crate::NoMemory;
 use crate::distance::distance_bytes;
+use eh_bytes::u32_bytes;
 
 /// The four bytes that lead from a place to an address; 0 stays 0.
 pub fn entry_bytes(place: u128, value: u64) -> [u8; 4]
@@ -13,7 +14,7 @@ pub fn entry_bytes(place: u128, value: u64) -> [u8; 4]
     ensures words { IsWord value }
 {
     if value == 0 {
-        0u32.to_le_bytes()
+        u32_bytes(0)
     } else {
         distance_bytes(place, value)
     }

@@ -13,7 +13,7 @@ use crate::distance::distance_bytes;
 use crate::entries::entry_bytes;
 use crate::layout::put_zeros;
 use crate::moves::put_moves;
-use eh_bytes::{FrameList, ListFde};
+use eh_bytes::{FrameList, ListFde, u32_bytes};
 use std::alloc::Global;
 
 // Length, id 0, version 1, "zLR", code factor 4, data factor -8, register x1, two bytes of data:
@@ -41,7 +41,7 @@ fn cie_bytes(tables: bool) -> &'static [u8]
 fn four_bytes(number: u128) -> [u8; 4]
     ensures { result ≡ to_le_bytes w32 (number % 2 ^ 32) }
 {
-    ((number % 0x1_0000_0000) as u32).to_le_bytes()
+    u32_bytes((number % 0x1_0000_0000) as u32)
 }
 
 // The data of an FDE at a place.
@@ -137,7 +137,7 @@ fn list_of(alloc: Global, frames: &FrameList, address: u64) -> Result<Vec<u8>, N
         address,
         frames.fdes.as_slice(),
     )?;
-    bytes.extend_from_slice(0u32.to_le_bytes().as_slice())?;
+    bytes.extend_from_slice(u32_bytes(0).as_slice())?;
     Ok(bytes)
 }
 

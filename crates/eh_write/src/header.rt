@@ -5,7 +5,7 @@ ghost use Rattle.eh_write.specs.WrittenHeader.{CanWriteHeader, row_bytes, header
 
 use crate::NoMemory;
 use crate::distance::distance_bytes;
-use eh_bytes::HdrRow;
+use eh_bytes::{HdrRow, u32_bytes};
 use std::alloc::{AllocError, Global};
 
 // Version 1; the pointer is relative to itself in four bytes with a sign, the count has four
@@ -44,7 +44,7 @@ fn header_of(
     let mut bytes = Vec::new(alloc);
     bytes.extend_from_slice(ENCODINGS.as_slice())?;
     bytes.extend_from_slice(distance_bytes(address as u128 + 4, frames_at).as_slice())?;
-    bytes.extend_from_slice(count.to_le_bytes().as_slice())?;
+    bytes.extend_from_slice(u32_bytes(count).as_slice())?;
     put_rows(&mut bytes, rows, address)?;
     Ok(bytes)
 }

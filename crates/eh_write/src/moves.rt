@@ -5,7 +5,7 @@ ghost use Rattle.eh_write.specs.WrittenFrames.{advance_bytes, change_bytes, move
 ghost use Rattle.eh_write.specs.Fits.{HasOffset};
 
 use crate::NoMemory;
-use eh_bytes::{FrameChange, FrameMove, put_uleb};
+use eh_bytes::{FrameChange, FrameMove, put_uleb, u32_bytes};
 
 const ADVANCE: u8 = 0x40;
 
@@ -33,7 +33,7 @@ fn put_advance(out: &mut Vec<u8>, steps: u32) -> Result<(), NoMemory>
         return Ok(());
     }
     out.push(ADVANCE_FOUR_BYTES)?;
-    out.extend_from_slice(steps.to_le_bytes().as_slice())
+    out.extend_from_slice(u32_bytes(steps).as_slice())
 }
 
 fn put_change(out: &mut Vec<u8>, change: FrameChange) -> Result<(), NoMemory>

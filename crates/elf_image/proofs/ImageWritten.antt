@@ -10,7 +10,7 @@ use Rattle.eh_bytes.specs.Memory as memories
 use Rattle.eh_bytes.specs.declared.segment.Segment.{Segment}
 use Rattle.eh_bytes.specs.Extent.{extents_of, AreApart, AreInRange}
 use Rattle.table_forms.specs.declared.reason.Reason.{Reason}
-use Rattle.table_forms.specs.declared.reason.Reason.TheVariants.{NoFrames, NoRuntime}
+use Rattle.table_forms.specs.declared.reason.Reason.TheVariants.{NoFrames, NoRuntime, Runtime}
 use Rattle.table_forms.specs.Fault.{Fault, least, unless, joined}
 use Rattle.table_forms.proofs.Least.{least-append}
 use Rattle.elf_image.specs.declared.program.ProgramHeader.{ProgramHeader}
@@ -109,8 +109,8 @@ segments_faultless c fit can spread =
     ap (λ r. least (load_faults (length file) 0 [] ls ++ unless (is_within ls (Some (frames_of c))) NoFrames 0 ++ runtime_faults file ls r)) (record_found c) ∙
     none_both (load_faults (length file) 0 [] ls ++ unless (is_within ls (Some (frames_of c))) NoFrames 0) (runtime_faults file ls (Some (record_of c)))
     (none_both (load_faults (length file) 0 [] ls) (unless (is_within ls (Some (frames_of c))) NoFrames 0) (loads_faultless file c.memory ls laid spread.ends spread.apart can.small)
-    (none_unless (is_within ls (Some (frames_of c))) 66 0 (frames_within file (behind_headers (length c.memory)) c.memory ls c.frame_header laid can.frames)))
-    (none_unless (is_runtime file ls (record_of c)) 68 (record_of c).place (runtime_is c fit can))
+    (none_unless (is_within ls (Some (frames_of c))) NoFrames 0 (frames_within file (behind_headers (length c.memory)) c.memory ls c.frame_header laid can.frames)))
+    (none_unless (is_runtime file ls (record_of c)) Runtime (record_of c).place (runtime_is c fit can))
 
 table_is : (c : Contents) → CanRunImage c → has_table (image_bytes c) (loads_of c) (Some (frames_of c)) ≡ true
 table_is c can = ap not (bare_same (image_bytes c) c.memory (loads_of c) c.frame_header (image_laid c) ∙ can.table)
@@ -126,7 +126,7 @@ run_faultless c can =
     ap (λ (r : Option ProgramHeader). least (low_faults 0 ls ++ unless (has_table file ls (Some (frames_of c))) NoFrames 0 ++ unless (is_some r) NoRuntime 0)) (record_found c) ∙
     none_both (low_faults 0 ls ++ unless (has_table file ls (Some (frames_of c))) NoFrames 0) []
     (none_both (low_faults 0 ls) (unless (has_table file ls (Some (frames_of c))) NoFrames 0) (none_of (low_faults 0 ls) (low_faultless file c.memory ls 0 (image_laid c) can.low (let s = can.small in omega (arith, s))))
-    (none_unless (has_table file ls (Some (frames_of c))) 66 0 (table_is c can))) (none_of [] refl)
+    (none_unless (has_table file ls (Some (frames_of c))) NoFrames 0 (table_is c can))) (none_of [] refl)
 
 -- the image that is read
 rising_read : (file : List ℕ) (memory : Memory) (hs : List ProgramHeader) → AllZip (IsLaid file) memory hs → AreRising memory → AreRising (map (part_of file) hs)

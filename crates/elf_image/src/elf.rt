@@ -39,7 +39,11 @@ fn segment_refusal(
     requires few { length loads.now ≤ 2 ^ 16 }
     ensures { option_map fault_of result ≡ least (segment_faults file.now headers.now) }
 {
-    let frames = unless(is_within(loads, frames_header(headers)), Reason::NoFrames, 0);
+    let frames = unless(
+        is_within(loads, frames_header(headers)),
+        Reason::NoFrames,
+        0,
+    );
     joined(
         joined(load_refusal(file.len() as u64, loads), frames),
         runtime_refusal(file, loads, runtime_header(headers)),
@@ -53,7 +57,11 @@ fn run_refusal(file: &[u8], headers: &[ProgramHeader], loads: &[ProgramHeader]) 
     requires few { length loads.now ≤ 2 ^ 16 }
     ensures { option_map fault_of result ≡ least (run_faults file.now headers.now) }
 {
-    let table = unless(has_table(file, loads, frames_header(headers)), Reason::NoFrames, 0);
+    let table = unless(
+        has_table(file, loads, frames_header(headers)),
+        Reason::NoFrames,
+        0,
+    );
     let runtime = unless(runtime_header(headers).is_some(), Reason::NoRuntime, 0);
     joined(joined(low_refusal(loads), table), runtime)
 }
@@ -101,8 +109,8 @@ fn all_refusal(
     }
 }
 
-/// The image in a file, or the first of its refusals: 60 to 66 and 68 of docs/TABLES.md; with
-/// `run` also 67 and what is refused of an image to run.
+/// The image in a file, or the first of its refusals (docs/TABLES.md), from `Magic` to `NoFrames`
+/// and `Runtime`; with `run` also `NoRuntime` and what is refused of an image to run.
 ///
 /// ```rust
 /// let elf = read_elf(alloc, &file, false)?;

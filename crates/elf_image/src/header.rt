@@ -80,7 +80,10 @@ fn is_count(file: &[u8]) -> bool
 pub fn header_refusal(file: &[u8]) -> Option<Refusal>
     ensures { option_map fault_of result ≡ least (header_faults file.now) }
 {
-    let first = joined(unless(is_elf(file), Reason::Magic, 0), unless(is_class(file), Reason::Class, 4));
+    let first = joined(
+        unless(is_elf(file), Reason::Magic, 0),
+        unless(is_class(file), Reason::Class, 4),
+    );
     let first = joined(first, unless(is_type(file), Reason::FileHeader, 16));
     let first = joined(first, unless(is_machine(file), Reason::Machine, 18));
     let first = joined(first, unless(headers_fit(file), Reason::FileHeader, 32));

@@ -53,9 +53,10 @@ fn one_refusal(
     requires { before < 2 ^ 126 }
     ensures { option_map fault_of result ≡ least (one_faults len before earlier.now header.now) }
 {
+    let place = header.place;
     joined(
-        unless(is_placed(len, before, header), Reason::SegmentRange, header.place),
-        unless(!meets_one(header, earlier), Reason::SegmentOverlap, header.place),
+        unless(is_placed(len, before, header), Reason::SegmentRange, place),
+        unless(!meets_one(header, earlier), Reason::SegmentOverlap, place),
     )
 }
 
@@ -95,7 +96,10 @@ pub fn low_refusal(loads: &[ProgramHeader]) -> Option<Refusal>
     let mut before = 0u128;
     let mut rest = loads;
     'loads: while let Some((header, others)) = rest.split_first() {
-        least = joined(least, unless(is_low(before, header), Reason::SegmentRange, header.place));
+        least = joined(
+            least,
+            unless(is_low(before, header), Reason::SegmentRange, header.place),
+        );
         before += header.memory_size as u128;
         rest = others;
     }

@@ -3,6 +3,8 @@ ghost use Rattle.std.specs.Prelude.{◌≡◌, ◌<◌, ◌^◌, option_map};
 ghost use Rattle.std.specs.Int.{w8, w16, w32, w64};
 ghost use Rattle.elf_image.specs.Numbers.{bytes_at, number_at, field, holds};
 
+use eh_bytes::{u16_from, u32_from, u64_from};
+
 // So many bytes at a place, where they lie whole in the file.
 fn bytes_at(file: &[u8], place: u128, count: usize) -> Option<&[u8]>
     requires small { count < 16 }
@@ -29,7 +31,7 @@ pub fn u16_at(file: &[u8], place: u128) -> Option<u16>
     ensures { result ≡ number_at w16 file.now place }
 {
     let bytes = bytes_at(file, place, 2)?;
-    Some(u16::from_le_bytes([bytes[0], bytes[1]]))
+    Some(u16_from(bytes))
 }
 
 pub fn u32_at(file: &[u8], place: u128) -> Option<u32>
@@ -37,7 +39,7 @@ pub fn u32_at(file: &[u8], place: u128) -> Option<u32>
     ensures { result ≡ number_at w32 file.now place }
 {
     let bytes = bytes_at(file, place, 4)?;
-    Some(u32::from_le_bytes([bytes[0], bytes[1], bytes[2], bytes[3]]))
+    Some(u32_from(bytes))
 }
 
 pub fn u64_at(file: &[u8], place: u128) -> Option<u64>
@@ -45,9 +47,7 @@ pub fn u64_at(file: &[u8], place: u128) -> Option<u64>
     ensures { result ≡ number_at w64 file.now place }
 {
     let bytes = bytes_at(file, place, 8)?;
-    Some(u64::from_le_bytes([
-        bytes[0], bytes[1], bytes[2], bytes[3], bytes[4], bytes[5], bytes[6], bytes[7],
-    ]))
+    Some(u64_from(bytes))
 }
 
 /// The number at a place, or 0 where it is not whole in the file.

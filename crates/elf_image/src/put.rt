@@ -8,7 +8,7 @@ ghost use Rattle.elf_image.specs.Written.{words, file_header, alignment, program
 use crate::laid::{PAGE, padding};
 use crate::program::ProgramHeader;
 use crate::runtime_header::FORMAT;
-use eh_bytes::{RuntimeRecord, Segment};
+use eh_bytes::{RuntimeRecord, Segment, u16_bytes, u32_bytes, u64_bytes};
 use std::alloc::AllocError;
 
 // 64-bit, little-endian, version 1; an executable file for RISC-V, version 1.
@@ -25,7 +25,7 @@ fn put_words(out: &mut Vec<u8>, numbers: &[u64]) -> Result<(), AllocError>
 {
     let mut rest = numbers;
     'numbers: while let Some((number, others)) = rest.split_first() {
-        out.extend_from_slice(number.to_le_bytes().as_slice())?;
+        out.extend_from_slice(u64_bytes(*number).as_slice())?;
         rest = others;
     }
     Ok(())
@@ -38,7 +38,7 @@ pub fn put_file_header(out: &mut Vec<u8>, entry: u64, count: u16) -> Result<(), 
     out.extend_from_slice(IDENTITY.as_slice())?;
     put_words(out, [entry, 64, 0].as_slice())?;
     out.extend_from_slice(SIZES.as_slice())?;
-    out.extend_from_slice(count.to_le_bytes().as_slice())?;
+    out.extend_from_slice(u16_bytes(count).as_slice())?;
     out.extend_from_slice(NO_SECTIONS.as_slice())
 }
 
@@ -52,8 +52,8 @@ fn alignment(header: &ProgramHeader) -> u64
 fn put_program(out: &mut Vec<u8>, header: &ProgramHeader) -> Result<(), AllocError>
     ensures { OnOk result (out.new.items ≡ out.old.items ++ program_bytes header.now) }
 {
-    out.extend_from_slice(header.kind.to_le_bytes().as_slice())?;
-    out.extend_from_slice(header.flags.to_le_bytes().as_slice())?;
+    out.extend_from_slice(u32_bytes(header.kind).as_slice())?;
+    out.extend_from_slice(u32_bytes(header.flags).as_slice())?;
     let numbers = [
         header.offset,
         header.address,

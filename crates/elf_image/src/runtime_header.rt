@@ -105,7 +105,11 @@ pub fn runtime_refusal(
 {
     match header {
         None => None,
-        Some(header) => unless(is_runtime(file, loads, &header), Reason::Runtime, header.place),
+        Some(header) => unless(
+            is_runtime(file, loads, &header),
+            Reason::Runtime,
+            header.place,
+        ),
     }
 }
 

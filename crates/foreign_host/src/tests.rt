@@ -1,15 +1,14 @@
 // Modules that note what is done to them.
-ghost use Rattle.std.specs.Prelude.{[], option_to_list};
 
 use crate::{Host, NoModule};
-use eh_outer::{Module, Reply};
+use eh_outer::{Module, Once, Reply};
 use std::cell::Cell;
 use std::rc::Rc;
 use std::test::Fail;
 
 // A module of one reply. It notes a digit for each call, cleanup and drop: 1, 2 and 3.
 struct Noted {
-    reply: Option<Reply>,
+    script: Once,
     notes: Rc<Cell<u32>>,
 }
 
@@ -19,21 +18,25 @@ fn note(notes: &Cell<u32>, digit: u32) {
 
 impl Drop for Noted {
     fn drop(self) {
-        let Noted { reply: _, notes } = self;
+        let Noted { script, notes } = self;
+        drop(script);
         note(&notes, 3);
     }
 }
 
 impl Module for Noted {
-    ghost view = { λ it. record { rest = option_to_list it.reply; cleaned = []; room = 0 } };
+    ghost view = { λ it. it.script.seen };
 
-    fn call(&mut self, _arg: i32) -> Reply {
+    ghost ints = { λ it. it.script.ints };
+
+    fn call(&mut self, arg: i32) -> Reply {
         note(&self.notes, 1);
-        self.reply.take().unwrap_or(Reply::Value(0))
+        self.script.call(arg)
     }
 
-    fn cleanup(&mut self, _token: u32) {
+    fn cleanup(&mut self, token: u32) {
         note(&self.notes, 2);
+        self.script.cleanup(token);
     }
 }
 
@@ -45,7 +48,7 @@ fn one_module_alone(rt: HostRuntime) -> Result<(), Fail> {
     let mut modules: Vec<Box<dyn Module>> = Vec::new(alloc);
     for (reply, notes) in [(Reply::Raise(7), &a), (Reply::Value(-5), &b)] {
         let noted = Noted {
-            reply: Some(reply),
+            script: Once::new(alloc, vec![in alloc; reply]?)?,
             notes: notes.clone()?,
         };
         modules.push(Box::new(alloc, noted)?)?;

@@ -66,7 +66,10 @@ pub fn return_register_of(
 {
     let (register, next) = register_number(version, segment, stop, place)?;
     if register >= 64 {
-        return Err(refused(Reason::RegisterRange, segment.file_at as u128 + place as u128));
+        return Err(refused(
+            Reason::RegisterRange,
+            segment.file_at as u128 + place as u128,
+        ));
     }
     Ok((register as u8, next))
 }

@@ -52,7 +52,10 @@ pub fn region_of(
     let (start, behind) = encoded_at(encoding, segment, stop, place)?;
     let (length, next) = length_at(encoding, segment, stop, behind)?;
     if length.value > u64::MAX - start.value {
-        return Err(refused(Reason::FrameTruncated, segment.file_at as u128 + behind as u128));
+        return Err(refused(
+            Reason::FrameTruncated,
+            segment.file_at as u128 + behind as u128,
+        ));
     }
     let region = Region64 {
         start: start.value,

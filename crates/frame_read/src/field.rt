@@ -9,7 +9,7 @@ ghost use Rattle.table_forms.specs.Instruction.{in_frames};
 ghost use Rattle.frame_read.specs.Reads.{Reads};
 
 use crate::refusal::field_refusal;
-use eh_bytes::{ByteError, Pointer, RawCursor, Segment};
+use eh_bytes::{ByteError, Pointer, RawCursor, Segment, u16_from, u32_from, u64_from};
 use table_forms::Refusal;
 
 /// The byte at a place, and the place behind it.
@@ -93,7 +93,7 @@ pub fn u16_at(segment: &Segment, stop: usize, place: usize) -> Result<(u16, usiz
             segment.file_at as u128 + place as u128,
         ));
     }
-    Ok((u16::from_le_bytes([rest[0], rest[1]]), place + 2))
+    Ok((u16_from(rest), place + 2))
 }
 
 /// The number of four bytes at a place, and the place behind it.
@@ -112,10 +112,7 @@ pub fn u32_at(segment: &Segment, stop: usize, place: usize) -> Result<(u32, usiz
             segment.file_at as u128 + place as u128,
         ));
     }
-    Ok((
-        u32::from_le_bytes([rest[0], rest[1], rest[2], rest[3]]),
-        place + 4,
-    ))
+    Ok((u32_from(rest), place + 4))
 }
 
 /// The number of one byte at a place, and the place behind it.
@@ -133,7 +130,7 @@ pub fn u8_at(segment: &Segment, stop: usize, place: usize) -> Result<(u8, usize)
             segment.file_at as u128 + place as u128,
         ));
     }
-    Ok((u8::from_le_bytes([rest[0]]), place + 1))
+    Ok((rest[0], place + 1))
 }
 
 /// The number of eight bytes at a place, and the place behind it.
@@ -151,8 +148,5 @@ pub fn u64_at(segment: &Segment, stop: usize, place: usize) -> Result<(u64, usiz
             segment.file_at as u128 + place as u128,
         ));
     }
-    let bytes = [
-        rest[0], rest[1], rest[2], rest[3], rest[4], rest[5], rest[6], rest[7],
-    ];
-    Ok((u64::from_le_bytes(bytes), place + 8))
+    Ok((u64_from(rest), place + 8))
 }

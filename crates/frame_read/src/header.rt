@@ -70,9 +70,21 @@ fn encodings_refusal(segment: &Segment, place: usize, encodings: Encodings) -> O
 {
     let file_at = segment.file_at as u128;
     let place = place as u128;
-    let pointer = unless(encodings.pointer == 0x1b, Reason::Encoding, file_at + (place + 1));
-    let count = unless(encodings.is_count_known(), Reason::Encoding, file_at + (place + 2));
-    let table = unless(encodings.is_table_known(), Reason::Encoding, file_at + (place + 3));
+    let pointer = unless(
+        encodings.pointer == 0x1b,
+        Reason::Encoding,
+        file_at + (place + 1),
+    );
+    let count = unless(
+        encodings.is_count_known(),
+        Reason::Encoding,
+        file_at + (place + 2),
+    );
+    let table = unless(
+        encodings.is_table_known(),
+        Reason::Encoding,
+        file_at + (place + 3),
+    );
     joined(joined(pointer, count), table)
 }
 

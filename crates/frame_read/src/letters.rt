@@ -142,7 +142,10 @@ pub fn sized_of(segment: &Segment, stop: usize, place: usize) -> Result<(usize, 
 {
     let (size, next) = uleb_at(segment, stop, place)?;
     if size > (stop - next) as u64 {
-        return Err(refused(Reason::FrameTruncated, segment.file_at as u128 + place as u128));
+        return Err(refused(
+            Reason::FrameTruncated,
+            segment.file_at as u128 + place as u128,
+        ));
     }
     Ok((next, next + size as usize))
 }

@@ -20,7 +20,10 @@ pub fn register_of(segment: &Segment, stop: usize, place: usize) -> Result<(u8, 
 {
     let (register, next) = uleb_at(segment, stop, place)?;
     if register >= 64 {
-        return Err(refused(Reason::RegisterRange, segment.file_at as u128 + place as u128));
+        return Err(refused(
+            Reason::RegisterRange,
+            segment.file_at as u128 + place as u128,
+        ));
     }
     Ok((register as u8, next))
 }

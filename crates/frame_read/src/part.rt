@@ -83,7 +83,10 @@ fn fde_said<'a>(
     ensures said { said_seen (part_of segment.now) result ≡ said_behind (part_of segment.now) (span_seen span) next (cie_behind (entries_seen (part_of segment.now) entries.now) span.at distance) }
 {
     match cie_behind(entries, span.at, distance) {
-        None => Said::Refused(refused(Reason::CieLink, segment.file_at as u128 + span.at as u128 + 4)),
+        None => Said::Refused(refused(
+            Reason::CieLink,
+            segment.file_at as u128 + span.at as u128 + 4,
+        )),
         Some(Err(_)) => Said::Unread,
         Some(Ok(cie)) => match fde_of(&cie, segment, span.at, span.stop, next) {
             Ok(fde) => Said::Fde(fde, cie),

@@ -93,9 +93,9 @@ fn read_in(
     Ok(Frames::of(cies, fdes))
 }
 
-/// The frames whose header stands at an address, or the first of all their refusals: 2, 3 and 50 to
-/// 59 of docs/TABLES.md (LSB Core, "Exception Frames"), or memory ran out. Reading grows as
-/// n log n in the number of CIEs and FDEs.
+/// The frames whose header stands at an address, or the first of all their refusals: `LebRange`,
+/// `Encoding` and from `FrameTruncated` to `HeaderDisagrees` (docs/TABLES.md; LSB Core, "Exception
+/// Frames"), or memory ran out. Reading grows as n log n in the number of CIEs and FDEs.
 ///
 /// ```rust
 /// let frames = read_frames(alloc, &memory, 0x2000)?;

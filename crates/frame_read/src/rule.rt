@@ -10,8 +10,7 @@ ghost use Rattle.frame_read.specs.Fits.{Fits};
 use crate::instruction::Instruction;
 use crate::offset::{register_of, signed_of, unsigned_of};
 use eh_bytes::Segment;
-use table_forms::Rule;
-use table_forms::Refusal;
+use table_forms::{Refusal, Rule};
 
 /// A register gets this rule.
 pub fn sets(

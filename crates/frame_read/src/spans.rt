@@ -32,7 +32,10 @@ pub fn spans_of(
                     return Ok((spans, None));
                 }
                 if length as usize > end - next {
-                    let cut = refused(Reason::FrameTruncated, segment.file_at as u128 + place as u128);
+                    let cut = refused(
+                        Reason::FrameTruncated,
+                        segment.file_at as u128 + place as u128,
+                    );
                     return Ok((spans, Some(cut)));
                 }
                 let stop = next + length as usize;

@@ -45,7 +45,10 @@ fn states_behind(
             Err(e) => return Err(e),
             Ok((instruction, next)) => {
                 let Some(kept) = states_after(instruction, states) else {
-                    return Err(refused(Reason::StateStack, segment.file_at as u128 + place as u128));
+                    return Err(refused(
+                        Reason::StateStack,
+                        segment.file_at as u128 + place as u128,
+                    ));
                 };
                 states = kept;
                 place = next;

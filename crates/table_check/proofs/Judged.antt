@@ -76,13 +76,13 @@ pub reports : {X : Type 0} (f : Fault) (e : ImageError) (read : Result X Fault) 
 reports f e read refused is = subst (λ x. IsReported x read) (sym is) (subst (λ x. IsErrAnd x (λ g. reported f ≡ reported g)) (sym refused) refl)
 
 pub reports_elf : (file : List ℕ) (run : Bool) (e : ImageError) → ReadsImage (Err e) (elf file run) → IsReported e (judged file run)
-reports_elf file run (errors.Refused number place location other) (f, refused, is) = reports f (errors.Refused number place location other) (judged file run) (elf_refused file run f refused) (sym is)
+reports_elf file run (errors.Refused reason place location other) (f, refused, is) = reports f (errors.Refused reason place location other) (judged file run) (elf_refused file run f refused) (sym is)
 reports_elf file run errors.NoMemory read = tt
 
 pub reports_frames : (file : List ℕ) (run : Bool) (i : Image) (e : FrameError) → elf file run ≡ Ok i → ReadsFrames (Err e) (frames i.memory i.frame_header) → IsReported (of_frames e) (judged file run)
-reports_frames file run i (causes.Refused number place location other) is read = by (frames i.memory i.frame_header) refl read
+reports_frames file run i (causes.Refused reason place location other) is read = by (frames i.memory i.frame_header) refl read
   where
-    by : (r : Result Frames Fault) → frames i.memory i.frame_header ≡ r → ReadsFrames (Err (causes.Refused number place location other)) r → IsReported (errors.Refused number place location other) (judged file run)
-    by (Err f) refused said = reports f (errors.Refused number place location other) (judged file run) (frames_refused file run i f is refused) (ap of_frames said)
+    by : (r : Result Frames Fault) → frames i.memory i.frame_header ≡ r → ReadsFrames (Err (causes.Refused reason place location other)) r → IsReported (errors.Refused reason place location other) (judged file run)
+    by (Err f) refused said = reports f (errors.Refused reason place location other) (judged file run) (frames_refused file run i f is refused) (ap of_frames said)
     by (Ok d) refused said = absurd said
 reports_frames file run i causes.NoMemory is read = tt
