@@ -1,0 +1,15 @@
+pub mod Homes
+pub mod Nest
+pub mod Keeps
+pub mod LetsOn
+pub mod Places
+pub mod Helps
+pub mod Filters
+pub mod NewFrames
+pub mod Whole
+pub mod OpenCalls
+pub mod Lives
+pub mod Laws
+pub mod First
+pub mod WholeCalls
+pub mod Binds
