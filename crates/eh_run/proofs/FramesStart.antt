@@ -55,9 +55,9 @@ value_read address n = by (n == 0) (extended 4 n == 0) refl refl
         let z : extended 4 n ≡ 0 = grind (arith, nat_tests, f) in
         absurd (let t : true ≡ false = sym (ap (λ k. k == 0) (extended_zero n z)) ∙ e in cc)
 
-numbered_ok : {A : Type 0} (place : ℕ) (r : Result A ByteError) (x : A) → with_reason frame_reason place r ≡ Ok x → r ≡ Ok x
-numbered_ok place (Ok y) x e = cc
-numbered_ok place (Err cause) x e = absurd cc
+reading_ok : {A : Type 0} (place : ℕ) (r : Result A ByteError) (x : A) → with_reason frame_reason place r ≡ Ok x → r ≡ Ok x
+reading_ok place (Ok y) x e = cc
+reading_ok place (Err cause) x e = absurd cc
 
 -- a number of four bytes with the place behind it, and what its pointer says
 there : (part : Part) (q n next : ℕ) → in_header (fixed w32) part q ≡ Ok (n, next) →
@@ -69,7 +69,7 @@ there part q n next e = by (fixed w32 (drop q part.bytes)) refl read
     whole = take-length part.bytes
 
     read : at (fixed w32) part.bytes q ≡ Ok (n, next)
-    read = sym (ap (λ (b : List ℕ). at (fixed w32) b q) whole) ∙ numbered_ok (part.file_at + q) (at (fixed w32) (take (length part.bytes) part.bytes) q) (n, next) e
+    read = sym (ap (λ (b : List ℕ). at (fixed w32) b q) whole) ∙ reading_ok (part.file_at + q) (at (fixed w32) (take (length part.bytes) part.bytes) q) (n, next) e
 
     room : (b : Bool) → nat_lt (length (drop q part.bytes)) 4 ≡ b → (m taken : ℕ) →
         cond {A = Reading ℕ} b (Err Truncated) (Ok (from_le_bytes w32 (take 4 (drop q part.bytes)), 4)) ≡ Ok (m, taken) → q ≤ length part.bytes

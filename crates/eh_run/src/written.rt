@@ -12,7 +12,7 @@ use eh_bytes::Segments;
 use frame_read::Fde;
 use table_forms::{Reason, Refusal, joined, unless};
 
-// 69 where the segment that holds the address, if one does, may be written.
+// Refused where the segment that holds the address, if one does, may be written.
 #[tactic(auto, unfolding(table_forms::specs::Fault::least))]
 fn written_at(memory: &Segments, address: u64) -> Option<Refusal>
     ensures { option_map fault_of result ≡ least (written_at (memory_of memory.now) address) }

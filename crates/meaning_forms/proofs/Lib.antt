@@ -3,3 +3,4 @@ pub mod Full
 pub mod Turns
 pub mod Fuel
 pub mod Worked
+pub mod Edges

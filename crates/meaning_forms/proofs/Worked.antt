@@ -16,18 +16,18 @@ use Rattle.meaning_forms.specs.Meaning.{Meaning, program_meaning}
 use Rattle.meaning_forms.proofs.Trees.{nm, pa, ini, fn, cl, ck, lines_of}
 
 -- what a program writes, with the events or without them, and how it ends
-abbrev told : Meaning → List Item × MeanEnd
+abbrev pub told : Meaning → List Item × MeanEnd
 told m = (m.items, m.end)
 
-abbrev told_lines : Meaning → List Item × MeanEnd
+abbrev pub told_lines : Meaning → List Item × MeanEnd
 told_lines m = (lines_of m.items, m.end)
 
 -- std::bad_exception
-abbrev bad_exception : ClassTree
+abbrev pub bad_exception : ClassTree
 bad_exception = cl None [] []
 
 -- struct A { int n; A(int k) { n = k; } ~A() { write_int(n); } };
-abbrev class_a : ClassTree
+abbrev pub class_a : ClassTree
 class_a = cl None (pa Int (Some (nm (Field 1 0))) ∷ []) ((fn Constructor Void (pa Int (Some (nm (Local 0))) ∷ []) None [] (statement_then (assign (nm (Field 1 0) ∷ []) (path (nm (Local 0) ∷ []))) no_statements)) ∷ (fn Destructor Void [] None [] (statement_then (evaluate (call (nm (Builtin WriteInt) ∷ []) (expression_then (path (nm (Field 1 0) ∷ [])) no_expressions))) no_statements)) ∷ [])
 
 -- An exception unwinds its function and the try block, innermost objects first.

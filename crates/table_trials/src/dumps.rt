@@ -3,8 +3,8 @@
 use crate::clean_images::WORKED;
 use std::alloc::Global;
 use std::test::Fail;
-use table_forms::Reason;
 use table_dump::{ImageError, dump_image};
+use table_forms::Reason;
 
 static TEXT: &str = "image entry 0x1010c
 segment 0x10000 0x10130 r-x
