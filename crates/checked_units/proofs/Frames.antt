@@ -21,7 +21,7 @@ use Rattle.landing_pads.proofs.CheckedFrames.{checked_frames_fit}
 use Rattle.address_bounds.specs.Givens.{Given, no_given, givens_of, own_reach, reaches_in, needs_of}
 use Rattle.machine_simulation.specs.Matches.{SizeIs, FrameIs}
 use Rattle.source_bounds.proofs.Lists.{both_all, at_or}
-use Rattle.checked_units.specs.Operations.{FramesAreLaidOut, NeedsAreSmall}
+use Rattle.checked_units.specs.Operations.{CheckedFramesAreLaidOut, NeedsAreSmall}
 
 -- of an item of a list what holds of each
 pub each : {A : Type 0} → (P : A → Type 0) (xs : List A) (n : ℕ) (x : A) → AllByRecursion P xs → slice_get xs n ≡ Some x → P x
@@ -96,8 +96,8 @@ all_laid (f ∷ fs) h small = (
   all_laid fs h.1 small.1,
 )
 
-pub frames_are_laid_out : FramesAreLaidOut
-frames_are_laid_out p h =
+pub checked_frames_are_laid_out : CheckedFramesAreLaidOut
+checked_frames_are_laid_out p h =
     let l = layout_of p in
     all_laid (regions_of p l).functions (both_all (λ f. Sized f.slots) (own_functions p l 0 p.functions) (functions_of_classes p l 0 (length p.classes)) (own_all p l 0 p.functions) (classes_all p l 0 (length p.classes)))
     (checked_frames_fit p h).frames

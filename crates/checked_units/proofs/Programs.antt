@@ -24,7 +24,7 @@ use Rattle.checked_units.specs.Literals.{FunctionLiterals}
 use Rattle.checked_units.specs.Operations.{RegionsHaveInts, RegionsHoldFew, ProgramsAreKnown}
 use Rattle.checked_units.proofs.Spelled.{literals_are_ints}
 use Rattle.checked_units.proofs.Statements.{One, body_good, default_whole_good, copy_whole_good, destructor_whole_good}
-use Rattle.checked_units.proofs.Frames.{each, frames_are_laid_out, classes_small}
+use Rattle.checked_units.proofs.Frames.{each, checked_frames_are_laid_out, classes_small}
 
 abbrev IsGood : RegionFunction → Type 0
 IsGood f = One 1600010 f.body
@@ -95,5 +95,5 @@ programs_are_known p h =
       reach = regions_reach_inside p l (checked_typed p h) (classes_small p h);
       ints = λ n f e. each (λ f. RegionAll ints f.body) fs n f (regions_have_ints p h) e;
       few = λ n f e. each (λ f. holders f.body < 2 ^ 31) fs n f (regions_hold_few p h) e;
-      frames = λ n g e. each FrameIs (unit_of (regions_of p l)).functions n g (frames_are_laid_out p h) e;
+      frames = λ n g e. each FrameIs (unit_of (regions_of p l)).functions n g (checked_frames_are_laid_out p h) e;
     }

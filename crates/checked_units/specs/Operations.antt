@@ -27,8 +27,8 @@ abbrev pub RegionsHoldFew : Type 0
 RegionsHoldFew = (p : Checked) → IsChecked p → AllByRecursion (λ f. holders f.body < 2 ^ 31) (regions_of p (layout_of p)).functions
 
 -- frames are small and as they are laid out
-abbrev pub FramesAreLaidOut : Type 0
-FramesAreLaidOut = (p : Checked) → IsChecked p → AllByRecursion FrameIs (unit_for p).functions
+abbrev pub CheckedFramesAreLaidOut : Type 0
+CheckedFramesAreLaidOut = (p : Checked) → IsChecked p → AllByRecursion FrameIs (unit_for p).functions
 
 -- behind each address lie no more bytes than a class may have
 abbrev pub NeedsAreSmall : Type 0

@@ -1,4 +1,6 @@
 // What the words of the command line say.
+ghost use Rattle.std.specs.Prelude.{◌≤◌, length};
+
 use eh_outer::Reply;
 
 /// What a command does.
@@ -34,4 +36,5 @@ pub struct Command {
     pub count: bool,
     /// What each module replies, each reply so many times, in order; at most 64 modules.
     pub scripts: Vec<Vec<(Reply, u32)>>,
+    pub ghost few: { length scripts.items ≤ 64 },
 }

@@ -1,5 +1,5 @@
 // The values of the options.
-ghost use Rattle.std.specs.Prelude.{◌≡◌, ℕ, Bool, map, string_bytes};
+ghost use Rattle.std.specs.Prelude.{◌≡◌, ◌≤◌, ℕ, Bool, IfOk, length, map, string_bytes};
 ghost use Rattle.command_line.specs.Gives.{Gives};
 ghost use Rattle.command_line.specs.Script.{all_some, script_of};
 ghost use Rattle.command_line.specs.Command.{max_in, max_of, scripts_of, switch_of};
@@ -53,7 +53,8 @@ pub fn switch_of(texts: &[String]) -> Result<bool, WordsError>
 
 // The script of each text.
 fn each_script(alloc: Global, texts: &[String]) -> Result<Vec<Vec<(Reply, u32)>>, WordsError>
-    ensures { Gives (λ scripts. map (λ runs. runs.items) scripts.items) result (all_some script_of (map string_bytes texts.now)) }
+    ensures scripts { Gives (λ scripts. map (λ runs. runs.items) scripts.items) result (all_some script_of (map string_bytes texts.now)) }
+    ensures count { IfOk result (λ scripts. length scripts.items ≡ length texts.now) }
 {
     let mut scripts = Vec::new(alloc);
     for text in texts {
@@ -65,7 +66,8 @@ fn each_script(alloc: Global, texts: &[String]) -> Result<Vec<Vec<(Reply, u32)>>
 
 /// The scripts, in order, of which there are at most 64.
 pub fn scripts_of(alloc: Global, texts: &[String]) -> Result<Vec<Vec<(Reply, u32)>>, WordsError>
-    ensures { Gives (λ scripts. map (λ runs. runs.items) scripts.items) result (scripts_of (map string_bytes texts.now)) }
+    ensures scripts { Gives (λ scripts. map (λ runs. runs.items) scripts.items) result (scripts_of (map string_bytes texts.now)) }
+    ensures few { IfOk result (λ scripts. length scripts.items ≤ 64) }
 {
     if texts.len() <= MOST_SCRIPTS {
         each_script(alloc, texts)

@@ -1,5 +1,5 @@
 // Reads the words of the command line.
-ghost use Rattle.std.specs.Prelude.{◌≡◌, map, option_map, string_bytes};
+ghost use Rattle.std.specs.Prelude.{◌≡◌, ◌≤◌, IfOk, length, map, option_map, string_bytes};
 ghost use Rattle.command_line.specs.Command.{command_of, command_taking, command_seen, operand_count, settings_of, verb_of};
 ghost use Rattle.command_line.specs.Gives.{Gives};
 
@@ -97,9 +97,10 @@ pub fn read_words(alloc: Global, words: &Vec<String>) -> Result<Command, WordsEr
     }
 }
 
-/// The scripts of the modules that the words ask for, in order. Usage where the words are no command.
+/// The scripts of the modules that the words ask for, in order, at most 64. Usage where the words are no command.
 pub fn scripts(alloc: Global, words: &Vec<String>) -> Result<Vec<Vec<(Reply, u32)>>, WordsError>
-    ensures { Gives (λ scripts. map (λ runs. runs.items) scripts.items) result (option_map (λ c. c.scripts) (command_of (map string_bytes words.now.items))) }
+    ensures scripts { Gives (λ scripts. map (λ runs. runs.items) scripts.items) result (option_map (λ c. c.scripts) (command_of (map string_bytes words.now.items))) }
+    ensures few { IfOk result (λ scripts. length scripts.items ≤ 64) }
 {
     Ok(read_words(alloc, words)?.scripts)
 }

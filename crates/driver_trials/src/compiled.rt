@@ -30,6 +30,9 @@ fn answered(alloc: Global, words: &[&str], store: &mut MemStore) -> Result<Answe
     for script in scripts(alloc, &words)? {
         guests.push(Box::new(alloc, Runs::new(alloc, script)?)?)?;
     }
+    if guests.len() > 64 {
+        return Err(Fail::new("more than 64 modules"));
+    }
     let mut out = MemSink::new(alloc, 0x1000, Vec::new(alloc))?;
     let mut err = MemSink::new(alloc, 0x100, Vec::new(alloc))?;
     let status = ehc(alloc, &words, store, &mut out, &mut err, guests);

@@ -40,13 +40,16 @@ fn files_of(alloc: Global, outside: &Outside<'_>) -> Result<Vec<(String, Vec<u8>
     Ok(files)
 }
 
-/// What a command answers with these modules.
+/// What a command answers with these modules, at most 64.
 pub fn answer_with(
     alloc: Global,
     words: &[&str],
     outside: &Outside<'_>,
     modules: Vec<Box<dyn Module>>,
 ) -> Result<Seen, Fail> {
+    if modules.len() > 64 {
+        return Err(Fail::new("more than 64 modules"));
+    }
     let files = files_of(alloc, outside)?;
     let mut store = MemStore::new(files, outside.store_fails.to_vec(alloc)?);
     let mut out = MemSink::new(alloc, outside.room, outside.out_fails.to_vec(alloc)?)?;

@@ -40,8 +40,9 @@ fn done<Out: Sink, Er: Sink>(
     err: &mut Er,
 ) -> Option<Status> {
     let alloc = rt.alloc();
+    let scripts = scripts_of(alloc, words).ok()?;
     let mut modules: Vec<Box<dyn Module>> = Vec::new(alloc);
-    for script in scripts_of(alloc, words).ok()? {
+    for script in scripts {
         match script {
             Script::Once(replies) => {
                 let module = Once::new(alloc, replies).ok()?;

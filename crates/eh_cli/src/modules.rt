@@ -1,4 +1,5 @@
 // The modules that the words ask for.
+ghost use Rattle.std.specs.Prelude.{◌≡◌, ◌≤◌, IfOk, length};
 
 use command_line::{Reply, WordsError, scripts};
 use std::alloc::{AllocError, Global};
@@ -23,17 +24,24 @@ fn script_of(alloc: Global, runs: Vec<(Reply, u32)>) -> Result<Script, AllocErro
     }
 }
 
-/// What each module replies, in order; there are none where the words are no command.
-pub fn scripts_of(alloc: Global, words: &Vec<String>) -> Result<Vec<Script>, AllocError> {
+// Each of the scripts, in order.
+fn each_script(alloc: Global, scripts: Vec<Vec<(Reply, u32)>>) -> Result<Vec<Script>, AllocError>
+    ensures { IfOk result (λ found. length found.items ≡ length scripts.items) }
+{
     let mut found = Vec::new(alloc);
-    match scripts(alloc, words) {
-        Err(WordsError::Usage) => {}
-        Err(WordsError::NoMemory) => return Err(AllocError),
-        Ok(scripts) => {
-            for runs in scripts {
-                found.push(script_of(alloc, runs)?)?;
-            }
-        }
+    for runs in scripts {
+        found.push(script_of(alloc, runs)?)?;
     }
     Ok(found)
+}
+
+/// What each module replies, in order, of at most 64; there are none where the words are no command.
+pub fn scripts_of(alloc: Global, words: &Vec<String>) -> Result<Vec<Script>, AllocError>
+    ensures { IfOk result (λ found. length found.items ≤ 64) }
+{
+    match scripts(alloc, words) {
+        Err(WordsError::Usage) => Ok(Vec::new(alloc)),
+        Err(WordsError::NoMemory) => Err(AllocError),
+        Ok(scripts) => each_script(alloc, scripts),
+    }
 }

@@ -13,11 +13,9 @@ use Rattle.eh_outer.specs.Store.{Files, StoreView}
 use Rattle.eh_commands.specs.declared.status.Status.{Status}
 use Rattle.eh_commands.specs.declared.status.Status.TheVariants.{Done, Usage, SourceRefused, ImageRefused, ReadFault, TooLong, WriteFault, NoMemory, Aborted, Budget, Stack, MachineFault, Undefined}
 use Rattle.eh_commands.specs.Answer.{status_of_refusal}
-use Rattle.eh_commands.specs.File.{NamesRefusal, Unread, source_limit}
-use Rattle.eh_commands.specs.Mean.{Asked}
+use Rattle.eh_commands.specs.File.{Asked, NamesRefusal, Unread, source_limit}
 use Rattle.eh_commands.specs.Compile.{CompilesTo, ImageStored, SourceCompiles, CompileCause}
-use Rattle.eh_commands.proofs.Causes.{told_from}
-use Rattle.eh_commands.proofs.MeanCauses.{refused_since}
+use Rattle.eh_commands.proofs.Causes.{told_from, refused_since}
 
 -- what the front end answers for a source is checked
 pub is_checked : (source : List ℕ) (c : CheckedValue) → FrontAnswers source (Ok c) → IsChecked (checked_of c)

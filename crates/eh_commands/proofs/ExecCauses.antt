@@ -1,7 +1,6 @@
 -- From what the parts of `exec` say to the cause of a status.
-use Rattle.std.proofs.Common.{◌≡◌, ◌≤◌, ◌+◌, ◌++◌, ◌∙◌, ℕ, zero, suc, Bool, List, [], length, Some, IfSome, Ok, Err, inl, inr, refl, sym, ap, subst, arith, append_assoc, append-nil}
+use Rattle.std.proofs.Common.{◌≡◌, ◌≤◌, ◌+◌, ◌++◌, ◌∙◌, ℕ, zero, suc, Bool, List, [], Ok, Err, refl, sym, ap, subst, arith, append_assoc, append-nil}
 use Rattle.std.specs.Prelude.{Result, IsErrAnd}
-use Rattle.std.specs.FinMap.{get}
 use Rattle.eh_outer.specs.Module.{ModuleView}
 use Rattle.eh_outer.specs.Store.{StoreView}
 use Rattle.eh_outer.specs.Sink.{SinkView}
@@ -29,14 +28,12 @@ use Rattle.eh_run.specs.Loads.{Loads}
 use Rattle.eh_run.specs.Runs.{IsRun, RunsToEnd, RunsToFault, RunsBy}
 use Rattle.eh_commands.specs.declared.status.Status.{Status}
 use Rattle.eh_commands.specs.declared.status.Status.TheVariants.{Done, Usage, SourceRefused, ImageRefused, ReadFault, TooLong, WriteFault, NoMemory, Aborted, Budget, Stack, MachineFault, Undefined}
-use Rattle.eh_commands.specs.File.{Unread}
+use Rattle.eh_commands.specs.File.{Asked, ToldBoth, UnreadEither, IsFile, IsInput}
 use Rattle.eh_commands.specs.Image.{image_limit, status_of}
-use Rattle.eh_commands.specs.Mean.{Asked, ToldInput, UnreadInput, input_limit}
 use Rattle.eh_commands.specs.RunEnd.{LastEnds, Ends, last_lines, run_lines, status_of_run}
-use Rattle.eh_commands.specs.Exec.{RunsThis, ToldRuns, RefusesToRun, ProgramRuns, ImageRuns, RunsWithInput, ExecCause}
-use Rattle.eh_commands.proofs.Causes.{told_from}
+use Rattle.eh_commands.specs.Exec.{RunsThis, RefusesToRun, ProgramRuns, ImageRuns, ExecCause}
+use Rattle.eh_commands.proofs.Causes.{told_both, unread_either}
 use Rattle.eh_commands.proofs.Meanings.{lines_more}
-use Rattle.eh_commands.proofs.MeanCauses.{InputFrom, told_input, fault_since, length_since, told_since}
 
 -- a list begins with another
 abbrev Begins : List Item → List Item → Type 0
@@ -186,71 +183,26 @@ pub refused_runs : (a : Asked) (file input : List ℕ) (old : SinkView) (e : Ima
 refused_runs a file input old (errors.Refused reason place location other) h = (refuses (runnable file) (errors.Refused reason place location other) h, refl)
 refused_runs a file input old errors.NoMemory h = refl
 
--- an image with the input that was read
-pub input_runs : (a : Asked) (file input : List ℕ) (old new : StoreView) (out out' : SinkView) (status : Status) → InputFrom a.input old input →
-    ImageRuns a file input out out' status → RunsWithInput a file old new out out' status
-input_runs a file input old new out out' Done from (r, this, h) = (r, told_input a.input old input (RunsThis a r file) from this, h)
-input_runs a file input old new out out' Usage from (r, this, h) = (r, told_input a.input old input (RunsThis a r file) from this, h)
-input_runs a file input old new out out' (SourceRefused number place) from (r, this, h) = (r, told_input a.input old input (RunsThis a r file) from this, h)
-input_runs a file input old new out out' (ImageRefused number place location other) from h = h
-input_runs a file input old new out out' ReadFault from (r, this, h) = absurd (no_run_fault r.end h.0)
-input_runs a file input old new out out' TooLong from (r, this, h) = absurd (no_run_length r.end h.0)
-input_runs a file input old new out out' WriteFault from (r, this, h) = (r, told_input a.input old input (RunsThis a r file) from this, h)
-input_runs a file input old new out out' NoMemory from h = h
-input_runs a file input old new out out' Aborted from (r, this, h) = (r, told_input a.input old input (RunsThis a r file) from this, h)
-input_runs a file input old new out out' Budget from (r, this, h) = (r, told_input a.input old input (RunsThis a r file) from this, h)
-input_runs a file input old new out out' Stack from (r, this, h) = (r, told_input a.input old input (RunsThis a r file) from this, h)
-input_runs a file input old new out out' (MachineFault kind place) from (r, this, h) = (r, told_input a.input old input (RunsThis a r file) from this, h)
-input_runs a file input old new out out' Undefined from (r, this, h) = (r, told_input a.input old input (RunsThis a r file) from this, h)
+-- an image that is not read, or whose input is not
+pub unread_image : (a : Asked) (old new : StoreView) (out : SinkView) (status : Status) → UnreadEither image_limit a old new status → ExecCause a old new out out status
+unread_image a old new out status why = unread_either image_limit a old new (ExecCause a old new out out) (λ h. (h, refl)) (λ h. (h, refl)) refl status why
 
--- a file that is not read
-pub unread_input : (a : Asked) (name file : List ℕ) (old new : StoreView) (out : SinkView) (status : Status) → a.input ≡ Some name → Unread input_limit name old new status →
-    RunsWithInput a file old new out out status
-unread_input a name file old new out Done e why = absurd why
-unread_input a name file old new out Usage e why = absurd why
-unread_input a name file old new out (SourceRefused number place) e why = absurd why
-unread_input a name file old new out (ImageRefused number place location other) e why = absurd why
-unread_input a name file old new out ReadFault e why = (subst (λ i. UnreadInput i old new ReadFault) (sym e) why, refl)
-unread_input a name file old new out TooLong e why = (subst (λ i. UnreadInput i old new TooLong) (sym e) why, refl)
-unread_input a name file old new out WriteFault e why = absurd why
-unread_input a name file old new out NoMemory e why = refl
-unread_input a name file old new out Aborted e why = absurd why
-unread_input a name file old new out Budget e why = absurd why
-unread_input a name file old new out Stack e why = absurd why
-unread_input a name file old new out (MachineFault kind place) e why = absurd why
-unread_input a name file old new out Undefined e why = absurd why
+-- what was read, and what became of it
+module _ (a : Asked) (file input : List ℕ) (old new : StoreView) (out out' : SinkView) (file_is : IsFile image_limit old a.source file) (input_is : IsInput old a.input input) where
+  told : (P : List ℕ → List ℕ → Type 0) → P file input → ToldBoth image_limit a old P
+  told P holds = told_both image_limit a old file input P file_is input_is holds
 
-pub unread_image : (a : Asked) (old new : StoreView) (out : SinkView) (status : Status) → Unread image_limit a.source old new status → ExecCause a old new out out status
-unread_image a old new out Done why = absurd why
-unread_image a old new out Usage why = absurd why
-unread_image a old new out (SourceRefused number place) why = absurd why
-unread_image a old new out (ImageRefused number place location other) why = absurd why
-unread_image a old new out ReadFault why = (inl why, refl)
-unread_image a old new out TooLong why = (inl why, refl)
-unread_image a old new out WriteFault why = absurd why
-unread_image a old new out NoMemory why = refl
-unread_image a old new out Aborted why = absurd why
-unread_image a old new out Budget why = absurd why
-unread_image a old new out Stack why = absurd why
-unread_image a old new out (MachineFault kind place) why = absurd why
-unread_image a old new out Undefined why = absurd why
-
--- what was read of the image, and what became of it with its input
-module _ (a : Asked) (file : List ℕ) (old mid new : StoreView) (out out' : SinkView) (short : length file ≤ image_limit) (there : IfSome old.files (λ m. get m a.source ≡ Some file)) (later : old.faults ≤ mid.faults) (same : mid.files ≡ old.files) where
-  told_so : (r : Ran) → ToldInput mid a.input (RunsThis a r file) → ToldRuns a r old
-  told_so r h = told_from image_limit old.files a.source file (λ f. ToldInput old a.input (RunsThis a r f)) short there (told_since a.input old mid (RunsThis a r file) same h)
-
-  pub with_image : (status : Status) → RunsWithInput a file mid new out out' status → ExecCause a old new out out' status
-  with_image Done (r, told, h) = (r, told_so r told, h)
-  with_image Usage (r, told, h) = (r, told_so r told, h)
-  with_image (SourceRefused number place) (r, told, h) = (r, told_so r told, h)
-  with_image (ImageRefused number place location other) (is, rest) = (told_from image_limit old.files a.source file (RefusesToRun (ImageRefused number place location other)) short there is, rest)
-  with_image ReadFault (why, rest) = (inr (fault_since a.input old mid new later why), rest)
-  with_image TooLong (why, rest) = (inr (length_since a.input old mid new later same why), rest)
-  with_image WriteFault (r, told, h) = (r, told_so r told, h)
-  with_image NoMemory h = h
-  with_image Aborted (r, told, h) = (r, told_so r told, h)
-  with_image Budget (r, told, h) = (r, told_so r told, h)
-  with_image Stack (r, told, h) = (r, told_so r told, h)
-  with_image (MachineFault kind place) (r, told, h) = (r, told_so r told, h)
-  with_image Undefined (r, told, h) = (r, told_so r told, h)
+  pub image_executes : (status : Status) → ImageRuns a file input out out' status → ExecCause a old new out out' status
+  image_executes Done (r, this, h) = (r, told (RunsThis a r) this, h)
+  image_executes Usage (r, this, h) = (r, told (RunsThis a r) this, h)
+  image_executes (SourceRefused number place) (r, this, h) = (r, told (RunsThis a r) this, h)
+  image_executes (ImageRefused number place location other) (is, same) = (told (λ f i. RefusesToRun (ImageRefused number place location other) f) is, same)
+  image_executes ReadFault (r, this, h) = absurd (no_run_fault r.end h.0)
+  image_executes TooLong (r, this, h) = absurd (no_run_length r.end h.0)
+  image_executes WriteFault (r, this, h) = (r, told (RunsThis a r) this, h)
+  image_executes NoMemory h = h
+  image_executes Aborted (r, this, h) = (r, told (RunsThis a r) this, h)
+  image_executes Budget (r, this, h) = (r, told (RunsThis a r) this, h)
+  image_executes Stack (r, this, h) = (r, told (RunsThis a r) this, h)
+  image_executes (MachineFault kind place) (r, this, h) = (r, told (RunsThis a r) this, h)
+  image_executes Undefined (r, this, h) = (r, told (RunsThis a r) this, h)

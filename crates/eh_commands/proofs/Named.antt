@@ -6,9 +6,9 @@ use Rattle.eh_outer.specs.Sink.{SinkView}
 use Rattle.elf_image.specs.Clean.{CleanImage}
 use Rattle.eh_commands.specs.declared.status.Status.{Status}
 use Rattle.eh_commands.specs.declared.status.Status.TheVariants.{Done, Usage, SourceRefused, ImageRefused, ReadFault, TooLong, WriteFault, NoMemory, Aborted, Budget, Stack, MachineFault, Undefined}
-use Rattle.eh_commands.specs.File.{NamesRefusal, Unread, refused_name}
+use Rattle.eh_commands.specs.File.{Asked, NamesRefusal, Unread, refused_name}
 use Rattle.eh_commands.specs.Image.{ImageCause}
-use Rattle.eh_commands.specs.Mean.{Asked, SourceMeans}
+use Rattle.eh_commands.specs.Mean.{SourceMeans}
 use Rattle.eh_commands.specs.Status.{text_of_status}
 use Rattle.eh_commands.specs.Exec.{ImageRuns}
 use Rattle.eh_commands.proofs.MeanCauses.{no_fault, no_length}

@@ -14,7 +14,7 @@ use Rattle.eh_commands.specs.Answer.{Cause, CommandCause, status_of_words}
 use Rattle.eh_commands.specs.Status.{text_of_status}
 use Rattle.eh_outer.specs.Module.{ModuleView}
 use Rattle.eh_commands.specs.Words.{asked}
-use Rattle.eh_commands.specs.Mean.{Asked}
+use Rattle.eh_commands.specs.File.{Asked}
 
 no_memory : (verb : Verb) (a : Asked) (store : StoreView) (out : SinkView) → CommandCause verb a store store out out NoMemory
 no_memory Compile a store out = (refl, refl)

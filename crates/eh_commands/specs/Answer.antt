@@ -11,7 +11,8 @@ use Rattle.command_line.specs.declared.error.WordsError.TheVariants as words
 use Rattle.command_line.specs.Command.{CommandView}
 use Rattle.eh_outer.specs.Module.{ModuleView}
 use Rattle.eh_commands.specs.Words.{asked}
-use Rattle.eh_commands.specs.Mean.{Asked, MeanCause}
+use Rattle.eh_commands.specs.File.{Asked}
+use Rattle.eh_commands.specs.Mean.{MeanCause}
 use Rattle.eh_commands.specs.Exec.{ExecCause}
 use Rattle.eh_commands.specs.Compile.{CompileCause}
 use Rattle.eh_commands.specs.RunSource.{RunCause}

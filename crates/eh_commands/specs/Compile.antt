@@ -8,8 +8,7 @@ use Rattle.eh_outer.specs.Store.{StoreView, Refuses, Stores}
 use Rattle.eh_outer.specs.declared.store.RefusalKind.TheVariants.{FailedWrite}
 use Rattle.eh_commands.specs.declared.status.Status.{Status}
 use Rattle.eh_commands.specs.declared.status.Status.TheVariants.{Done, SourceRefused, ReadFault, TooLong, WriteFault, NoMemory}
-use Rattle.eh_commands.specs.File.{Told, Unread, source_limit}
-use Rattle.eh_commands.specs.Mean.{Asked}
+use Rattle.eh_commands.specs.File.{Asked, Told, Unread, source_limit}
 
 -- the source is a valid program, whose image these bytes are
 abbrev pub CompilesTo : List ℕ → List ℕ → Type 0

@@ -11,18 +11,13 @@ use Rattle.eh_run.specs.Program.{Program, program_of}
 use Rattle.eh_run.specs.Runs.{IsRun}
 use Rattle.eh_commands.specs.declared.status.Status.{Status}
 use Rattle.eh_commands.specs.declared.status.Status.TheVariants.{ImageRefused, ReadFault, TooLong, WriteFault, NoMemory}
-use Rattle.eh_commands.specs.File.{Told}
+use Rattle.eh_commands.specs.File.{Asked, ToldBoth, UnreadEither}
 use Rattle.eh_commands.specs.Image.{image_limit, status_of}
-use Rattle.eh_commands.specs.Mean.{Asked, ToldInput, UnreadEither, UnreadInput}
 use Rattle.eh_commands.specs.RunEnd.{run_lines, status_of_run}
 
 -- the file is a runnable image, and this is a run of it with the input and the modules, of at most so many steps
 abbrev pub RunsThis : Asked → Ran → List ℕ → List ℕ → Type 0
 RunsThis a r file input = (i : CleanImage) × (runnable file ≡ Ok i) × IsRun (program_of i) input a.modules a.turns r
-
--- so it is of the told file with the told input
-abbrev pub ToldRuns : Asked → Ran → StoreView → Type 0
-ToldRuns a r store = Told image_limit store a.source (λ file. ToldInput store a.input (RunsThis a r file))
 
 -- the file is no runnable image, and this is the status of its first refusal
 abbrev pub RefusesToRun : Status → List ℕ → Type 0
@@ -43,19 +38,11 @@ ImageRuns a file input old new (ImageRefused number place location other) = Refu
 ImageRuns a file input old new NoMemory = new ≡ old
 ImageRuns a file input old new status = (r : Ran) × RunsThis a r file input × RunEnds a r old new status
 
--- what becomes of an image whose input is still to be read
-abbrev pub RunsWithInput : Asked → List ℕ → StoreView → StoreView → SinkView → SinkView → Status → Type 0
-RunsWithInput a file old new out out' ReadFault = UnreadInput a.input old new ReadFault × (out' ≡ out)
-RunsWithInput a file old new out out' TooLong = UnreadInput a.input old new TooLong × (out' ≡ out)
-RunsWithInput a file old new out out' (ImageRefused number place location other) = RefusesToRun (ImageRefused number place location other) file × (out' ≡ out)
-RunsWithInput a file old new out out' NoMemory = out' ≡ out
-RunsWithInput a file old new out out' status = (r : Ran) × ToldInput old a.input (RunsThis a r file) × RunEnds a r out out' status
-
 -- when `exec` gives each status, what it leaves of the store's refusals, and of `out`
 abbrev pub ExecCause : Asked → StoreView → StoreView → SinkView → SinkView → Status → Type 0
 ExecCause a old new out out' ReadFault = UnreadEither image_limit a old new ReadFault × (out' ≡ out)
 ExecCause a old new out out' TooLong = UnreadEither image_limit a old new TooLong × (out' ≡ out)
 ExecCause a old new out out' (ImageRefused number place location other) =
-    Told image_limit old a.source (RefusesToRun (ImageRefused number place location other)) × (out' ≡ out)
+    ToldBoth image_limit a old (λ file input. RefusesToRun (ImageRefused number place location other) file) × (out' ≡ out)
 ExecCause a old new out out' NoMemory = out' ≡ out
-ExecCause a old new out out' status = (r : Ran) × ToldRuns a r old × RunEnds a r out out' status
+ExecCause a old new out out' status = (r : Ran) × ToldBoth image_limit a old (RunsThis a r) × RunEnds a r out out' status

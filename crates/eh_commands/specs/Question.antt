@@ -1,8 +1,8 @@
 -- What is asked of a file.
 use Rattle.std.specs.Prelude.{List, option_map}
 use Rattle.eh_outer.specs.Module.{ModuleView}
-use Rattle.eh_commands.specs.declared.mean.Question.{Question}
-use Rattle.eh_commands.specs.Mean.{Asked}
+use Rattle.eh_commands.specs.declared.file.Question.{Question}
+use Rattle.eh_commands.specs.File.{Asked}
 
 -- by a question, where the modules tell this of themselves
 abbrev pub asked_by : Question → List ModuleView → Asked

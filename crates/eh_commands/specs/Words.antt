@@ -3,7 +3,7 @@ use Rattle.std.specs.Prelude.{ℕ, List, [], ◌∷◌, map, slice_get, String, 
 use Rattle.std.specs.declared.alloc.Global.{Global}
 use Rattle.command_line.specs.Command.{CommandView}
 use Rattle.eh_outer.specs.Module.{ModuleView}
-use Rattle.eh_commands.specs.Mean.{Asked}
+use Rattle.eh_commands.specs.File.{Asked}
 
 -- the texts of words
 abbrev pub texts : List (String Global) → List (List ℕ)

@@ -10,9 +10,9 @@ ghost use Rattle.eh_commands.specs.Status.{text_of_status};
 
 use crate::compile::compile_file;
 use crate::exec::exec_file;
-use crate::file::Ended;
+use crate::file::{Ended, Question};
 use crate::image::{check_file, dump_file};
-use crate::mean::{Question, mean_file};
+use crate::mean::mean_file;
 use crate::report::report;
 use crate::run_source::run_file;
 use crate::status::Status;

@@ -7,8 +7,7 @@ ghost use Rattle.eh_commands.specs.Compile.{CompileCause, ImageStored, SourceCom
 ghost use Rattle.eh_commands.specs.File.{NamesRefusal, source_limit};
 ghost use Rattle.eh_commands.specs.Question.{asked_by};
 
-use crate::file::{Ended, SOURCE_LIMIT, read};
-use crate::mean::Question;
+use crate::file::{Ended, Question, SOURCE_LIMIT, read};
 use crate::status::Status;
 use cxx_ast::program::Checked;
 use cxx_front::checked;

@@ -1,13 +1,12 @@
 // The command `exec`: an image is run.
 ghost use Rattle.std.specs.Prelude.{◌≡◌, ◌≤◌, ◌^◌, map};
-ghost use Rattle.eh_commands.specs.Exec.{ExecCause, ImageRuns, ProgramRuns, RunsWithInput};
+ghost use Rattle.eh_commands.specs.Exec.{ExecCause, ImageRuns, ProgramRuns};
 ghost use Rattle.eh_commands.specs.File.{NamesRefusal};
 ghost use Rattle.eh_commands.specs.Question.{asked_by};
 ghost use Rattle.eh_commands.specs.RunEnd.{Ends};
 
-use crate::file::{Ended, read};
+use crate::file::{Ended, Question, read_both};
 use crate::image::IMAGE_LIMIT;
-use crate::mean::{Question, read_input};
 use crate::run_end::{put_last, status_of_run};
 use crate::status::Status;
 use eh_outer::{Module, Sink, SinkError, Store};
@@ -70,32 +69,6 @@ fn run_image<Out: Sink, M: Module>(
     }
 }
 
-// Runs an image with its input, which is read first.
-fn run_with_input<'a, St: Store, Out: Sink, M: Module>(
-    alloc: Global,
-    image: &[u8],
-    question: Question<'a>,
-    store: &mut St,
-    out: &mut Out,
-    modules: Vec<M>,
-) -> Ended<'a>
-    requires turns { question.turns ≤ 2 ^ 40 }
-    ensures cause { RunsWithInput (asked_by question.entry (map M.view modules.items)) image.now (St.view store.old) (St.view store.new) (Out.view out.old) (Out.view out.new) result.status }
-    ensures files { (St.view store.new).files ≡ (St.view store.old).files }
-    ensures name { NamesRefusal result.status result.file.now (St.view store.new) }
-{
-    match read_input(alloc, question.input, store) {
-        Err(status) => Ended {
-            status,
-            file: question.input.unwrap_or(""),
-        },
-        Ok(input) => Ended {
-            status: run_image(alloc, image, input.as_slice(), &question, modules, out),
-            file: "",
-        },
-    }
-}
-
 /// Reads an image and its input, and runs it: each line that it writes, under `trace` each event, its end, and under `count` how
 /// many steps it counted.
 pub fn exec_file<'a, St: Store, Out: Sink, M: Module>(
@@ -110,11 +83,18 @@ pub fn exec_file<'a, St: Store, Out: Sink, M: Module>(
     ensures files { (St.view store.new).files ≡ (St.view store.old).files }
     ensures name { NamesRefusal result.status result.file.now (St.view store.new) }
 {
-    match read(alloc, question.source, IMAGE_LIMIT, store) {
-        Err(status) => Ended {
-            status,
-            file: question.source,
+    match read_both(alloc, question, IMAGE_LIMIT, store) {
+        Err(ended) => ended,
+        Ok((image, input)) => Ended {
+            status: run_image(
+                alloc,
+                image.as_slice(),
+                input.as_slice(),
+                &question,
+                modules,
+                out,
+            ),
+            file: "",
         },
-        Ok(image) => run_with_input(alloc, image.as_slice(), question, store, out, modules),
     }
 }

@@ -1,6 +1,7 @@
-// Reading a file.
-ghost use Rattle.std.specs.Prelude.{◌≡◌, ◌≤◌, OnOk};
-ghost use Rattle.eh_commands.specs.File.{ReadsFile};
+// Reading the files of a command.
+ghost use Rattle.std.specs.Prelude.{◌≡◌, ◌≤◌, IfErr, OnOk, [], option_map};
+ghost use Rattle.eh_commands.specs.File.{NamesRefusal, ReadsBoth, ReadsFile, ReadsInput};
+ghost use Rattle.eh_commands.specs.Question.{asked_by};
 
 use crate::status::Status;
 use eh_outer::{Store, StoreError};
@@ -8,6 +9,21 @@ use std::alloc::Global;
 
 /// The longest source, in bytes.
 pub const SOURCE_LIMIT: u64 = 0x10_0000;
+
+/// The longest input, in bytes.
+const INPUT_LIMIT: u64 = 0x10_0000;
+
+/// What is asked of a file: its name, that of the image to be stored, that of its input if it has one, the most turns or
+/// steps, whether events are printed, and whether steps are counted.
+#[derive(Clone, Copy, Debug)]
+pub struct Question<'a> {
+    pub source: &'a str,
+    pub image: &'a str,
+    pub input: Option<&'a str>,
+    pub turns: u64,
+    pub trace: bool,
+    pub count: bool,
+}
 
 /// How a command ended, and the file that it could not read, where it ended so.
 #[derive(Clone, Copy, Debug)]
@@ -32,5 +48,47 @@ pub fn read<St: Store>(
         Err(StoreError::Failed) => Err(Status::ReadFault),
         Err(StoreError::TooLong(_)) => Err(Status::TooLong),
         Err(StoreError::NoMemory) => Err(Status::NoMemory),
+    }
+}
+
+// The input of a name; empty where none is named.
+fn read_input<St: Store>(
+    alloc: Global,
+    name: Option<&str>,
+    store: &mut St,
+) -> Result<Vec<u8>, Status>
+    ensures read { ReadsInput (option_map (λ s. s.now) name.entry) (St.view store.old) (St.view store.new) result }
+    ensures files { (St.view store.new).files ≡ (St.view store.old).files }
+{
+    match name {
+        None => Ok(Vec::new(alloc)),
+        Some(name) => read(alloc, name, INPUT_LIMIT, store),
+    }
+}
+
+/// The file that is asked for, of at most so many bytes, and its input, which is read behind it; else how the command ends
+/// that can't read one of them.
+pub fn read_both<'a, St: Store>(
+    alloc: Global,
+    question: Question<'a>,
+    limit: u64,
+    store: &mut St,
+) -> Result<(Vec<u8>, Vec<u8>), Ended<'a>>
+    ensures read { ReadsBoth limit (asked_by question.entry []) (St.view store.old) (St.view store.new) result }
+    ensures files { (St.view store.new).files ≡ (St.view store.old).files }
+    ensures name { IfErr result (λ ended. NamesRefusal ended.status ended.file.now (St.view store.new)) }
+{
+    match read(alloc, question.source, limit, store) {
+        Err(status) => Err(Ended {
+            status,
+            file: question.source,
+        }),
+        Ok(file) => match read_input(alloc, question.input, store) {
+            Err(status) => Err(Ended {
+                status,
+                file: question.input.unwrap_or(""),
+            }),
+            Ok(input) => Ok((file, input)),
+        },
     }
 }

@@ -1,5 +1,5 @@
 // The command `mean`: what a source means.
-ghost use Rattle.std.specs.Prelude.{◌≡◌, ◌≤◌, length, map, option_map};
+ghost use Rattle.std.specs.Prelude.{◌≡◌, ◌≤◌, length, map};
 ghost use Rattle.cxx_ast.specs.View.{checked_of};
 ghost use Rattle.eh_outer.specs.Sink.{Puts};
 ghost use Rattle.run_items.specs.Line.{lines_of};
@@ -7,10 +7,10 @@ ghost use Rattle.run_items.specs.Output.{PutsAll};
 ghost use Rattle.meaning_forms.specs.Meaning.{Meaning as MeaningMeant};
 ghost use Rattle.scope_meaning.specs.Mean.{Tells, meant};
 ghost use Rattle.eh_commands.specs.File.{NamesRefusal, source_limit};
-ghost use Rattle.eh_commands.specs.Mean.{MeanCause, MeaningEnds, ReadsInput, SourceMeans, WithInput, end_line, mean_lines, status_of_end};
+ghost use Rattle.eh_commands.specs.Mean.{MeanCause, MeaningEnds, SourceMeans, end_line, mean_lines, status_of_end};
 ghost use Rattle.eh_commands.specs.Question.{asked_by};
 
-use crate::file::{Ended, SOURCE_LIMIT, read};
+use crate::file::{Ended, Question, SOURCE_LIMIT, read_both};
 use crate::line::put_int;
 use crate::status::Status;
 use cxx_ast::program::Checked;
@@ -19,21 +19,6 @@ use eh_outer::{Module, Sink, SinkError, Store};
 use run_items::{Item, put_item};
 use scope_meaning::{MeanEnd, Meaning, mean};
 use std::alloc::Global;
-
-/// The longest input, in bytes.
-const INPUT_LIMIT: u64 = 0x10_0000;
-
-/// What is asked of a file: its name, that of the image to be stored, that of its input if it has one, the most turns or
-/// steps, whether events are printed, and whether steps are counted.
-#[derive(Clone, Copy, Debug)]
-pub struct Question<'a> {
-    pub source: &'a str,
-    pub image: &'a str,
-    pub input: Option<&'a str>,
-    pub turns: u64,
-    pub trace: bool,
-    pub count: bool,
-}
 
 // Puts the lines of items.
 fn put_items<Out: Sink>(out: &mut Out, trace: bool, items: &[Item]) -> Result<(), SinkError>
@@ -126,47 +111,6 @@ fn mean_of_source<Out: Sink, M: Module>(
     }
 }
 
-/// The input of a name; empty where none is named.
-pub fn read_input<St: Store>(
-    alloc: Global,
-    name: Option<&str>,
-    store: &mut St,
-) -> Result<Vec<u8>, Status>
-    ensures read { ReadsInput (option_map (λ s. s.now) name.entry) (St.view store.old) (St.view store.new) result }
-    ensures files { (St.view store.new).files ≡ (St.view store.old).files }
-{
-    match name {
-        None => Ok(Vec::new(alloc)),
-        Some(name) => read(alloc, name, INPUT_LIMIT, store),
-    }
-}
-
-// Prints what a source means with its input, which is read first.
-fn mean_with_input<'a, St: Store, Out: Sink, M: Module>(
-    alloc: Global,
-    source: &[u8],
-    question: Question<'a>,
-    store: &mut St,
-    out: &mut Out,
-    modules: &mut Vec<M>,
-) -> Ended<'a>
-    requires { length source.now ≤ source_limit }
-    ensures cause { WithInput (asked_by question.entry (map M.view modules.old.items)) source.now (St.view store.old) (St.view store.new) (Out.view out.old) (Out.view out.new) result.status }
-    ensures files { (St.view store.new).files ≡ (St.view store.old).files }
-    ensures name { NamesRefusal result.status result.file.now (St.view store.new) }
-{
-    match read_input(alloc, question.input, store) {
-        Err(status) => Ended {
-            status,
-            file: question.input.unwrap_or(""),
-        },
-        Ok(input) => Ended {
-            status: mean_of_source(alloc, source, input.as_slice(), &question, modules, out),
-            file: "",
-        },
-    }
-}
-
 /// Reads a source and its input, and prints what the source means.
 pub fn mean_file<'a, St: Store, Out: Sink, M: Module>(
     alloc: Global,
@@ -179,11 +123,18 @@ pub fn mean_file<'a, St: Store, Out: Sink, M: Module>(
     ensures files { (St.view store.new).files ≡ (St.view store.old).files }
     ensures name { NamesRefusal result.status result.file.now (St.view store.new) }
 {
-    match read(alloc, question.source, SOURCE_LIMIT, store) {
-        Err(status) => Ended {
-            status,
-            file: question.source,
+    match read_both(alloc, question, SOURCE_LIMIT, store) {
+        Err(ended) => ended,
+        Ok((source, input)) => Ended {
+            status: mean_of_source(
+                alloc,
+                source.as_slice(),
+                input.as_slice(),
+                &question,
+                modules,
+                out,
+            ),
+            file: "",
         },
-        Ok(source) => mean_with_input(alloc, source.as_slice(), question, store, out, modules),
     }
 }

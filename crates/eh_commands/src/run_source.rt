@@ -4,11 +4,10 @@ ghost use Rattle.cxx_ast.specs.Checked.{IsChecked};
 ghost use Rattle.cxx_ast.specs.View.{checked_of};
 ghost use Rattle.eh_commands.specs.File.{NamesRefusal, source_limit};
 ghost use Rattle.eh_commands.specs.Question.{asked_by};
-ghost use Rattle.eh_commands.specs.RunSource.{ProgramPrints, RunCause, SourceRuns, SourceRunsWithInput};
+ghost use Rattle.eh_commands.specs.RunSource.{CompiledRuns, RunCause, SourceRuns};
 
 use crate::exec::run_loaded;
-use crate::file::{Ended, SOURCE_LIMIT, read};
-use crate::mean::{Question, read_input};
+use crate::file::{Ended, Question, SOURCE_LIMIT, read_both};
 use crate::status::Status;
 use cxx_ast::program::Checked;
 use cxx_front::checked;
@@ -29,7 +28,7 @@ fn run_program<Out: Sink, M: Module>(
 ) -> Status
     requires turns { question.now.turns ≤ 2 ^ 40 }
     requires program { IsChecked (checked_of program.now) }
-    ensures { ProgramPrints (asked_by question.now (map M.view modules.items)) (checked_of program.now) input.now (Out.view out.old) (Out.view out.new) result }
+    ensures { CompiledRuns (asked_by question.now (map M.view modules.items)) (checked_of program.now) input.now (Out.view out.old) (Out.view out.new) result }
 {
     let Ok(image) = image_of(alloc, program) else {
         return Status::NoMemory;
@@ -60,33 +59,6 @@ fn run_source<Out: Sink, M: Module>(
     }
 }
 
-// Runs a source with its input, which is read first.
-fn run_with_input<'a, St: Store, Out: Sink, M: Module>(
-    alloc: Global,
-    source: &[u8],
-    question: Question<'a>,
-    store: &mut St,
-    out: &mut Out,
-    modules: Vec<M>,
-) -> Ended<'a>
-    requires turns { question.turns ≤ 2 ^ 40 }
-    requires short { length source.now ≤ source_limit }
-    ensures cause { SourceRunsWithInput (asked_by question.entry (map M.view modules.items)) source.now (St.view store.old) (St.view store.new) (Out.view out.old) (Out.view out.new) result.status }
-    ensures files { (St.view store.new).files ≡ (St.view store.old).files }
-    ensures name { NamesRefusal result.status result.file.now (St.view store.new) }
-{
-    match read_input(alloc, question.input, store) {
-        Err(status) => Ended {
-            status,
-            file: question.input.unwrap_or(""),
-        },
-        Ok(input) => Ended {
-            status: run_source(alloc, source, input.as_slice(), &question, modules, out),
-            file: "",
-        },
-    }
-}
-
 /// Reads a source and its input, compiles it, and runs its image: each line that it writes, under `trace` each event, its end, and
 /// under `count` how many steps it counted.
 pub fn run_file<'a, St: Store, Out: Sink, M: Module>(
@@ -101,11 +73,18 @@ pub fn run_file<'a, St: Store, Out: Sink, M: Module>(
     ensures files { (St.view store.new).files ≡ (St.view store.old).files }
     ensures name { NamesRefusal result.status result.file.now (St.view store.new) }
 {
-    match read(alloc, question.source, SOURCE_LIMIT, store) {
-        Err(status) => Ended {
-            status,
-            file: question.source,
+    match read_both(alloc, question, SOURCE_LIMIT, store) {
+        Err(ended) => ended,
+        Ok((source, input)) => Ended {
+            status: run_source(
+                alloc,
+                source.as_slice(),
+                input.as_slice(),
+                &question,
+                modules,
+                out,
+            ),
+            file: "",
         },
-        Ok(source) => run_with_input(alloc, source.as_slice(), question, store, out, modules),
     }
 }

@@ -11,8 +11,7 @@ use Rattle.cxx_front.specs.Fate.{HasOnly, refused, valid}
 use Rattle.cxx_image.specs.Image.{image_for}
 use Rattle.eh_commands.specs.declared.status.Status.{Status}
 use Rattle.eh_commands.specs.declared.status.Status.TheVariants.{Done, Usage, SourceRefused, ImageRefused, ReadFault, TooLong, WriteFault, NoMemory, Aborted, Budget, Stack, MachineFault, Undefined}
-use Rattle.eh_commands.specs.File.{Told, source_limit}
-use Rattle.eh_commands.specs.Mean.{Asked}
+use Rattle.eh_commands.specs.File.{Asked, Told, source_limit}
 use Rattle.eh_commands.specs.Compile.{CompilesTo, CompileCause}
 use Rattle.eh_driver.specs.Promise.{Undisturbed, CompilePromise}
 use Rattle.eh_commands.proofs.Sources.{told_of, valid_same, not_refused, same_refusal}

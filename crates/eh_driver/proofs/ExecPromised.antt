@@ -14,12 +14,11 @@ use Rattle.eh_run.specs.Runs.{IsRun}
 use Rattle.eh_commands.specs.declared.status.Status.{Status}
 use Rattle.eh_commands.specs.declared.status.Status.TheVariants.{Done, Usage, SourceRefused, ImageRefused, ReadFault, TooLong, WriteFault, NoMemory, Aborted, Budget, Stack, MachineFault, Undefined}
 use Rattle.eh_commands.specs.Image.{image_limit, status_of}
-use Rattle.eh_commands.specs.Mean.{Asked, ToldInput, UnreadEither}
+use Rattle.eh_commands.specs.File.{Asked, ToldBoth}
 use Rattle.eh_commands.specs.RunEnd.{run_lines, status_of_run}
-use Rattle.eh_commands.specs.Exec.{RunsThis, ToldRuns, RefusesToRun, ExecCause}
+use Rattle.eh_commands.specs.Exec.{RunsThis, RefusesToRun, ExecCause}
 use Rattle.eh_driver.specs.Promise.{ExecUndisturbed, ShowsRun, ExecPromise}
-use Rattle.eh_commands.proofs.Sources.{told_of}
-use Rattle.eh_driver.proofs.MeanPromised.{input_of, not_unread, not_long}
+use Rattle.eh_driver.proofs.MeanPromised.{both_of, both_read, both_short}
 
 -- an image that was read is one image
 ok_same : {i j : CleanImage} → ◌≡◌ {A = Result CleanImage Fault} (Ok i) (Ok j) → i ≡ j
@@ -38,35 +37,28 @@ refused_is (Ok j) f status e h = absurd h
 refused_is (Err k) f status e h = let same : k ≡ f = cc e in subst (λ x. status ≡ status_of (reported x)) same h
 
 module _ (a : Asked) (file input : List ℕ) (old new : StoreView) (out out' : SinkView) (u : ExecUndisturbed a file input old new out out') where
-  read_so : UnreadEither image_limit a old new ReadFault → ⊥
-  read_so (inl why) = u.calm.store why.rose
-  read_so (inr why) = not_unread a.input old new u.calm.store why
+  -- what holds of the told image and the told input
+  told_so : (P : List ℕ → List ℕ → Type 0) → ToldBoth image_limit a old P → P file input
+  told_so P told = both_of image_limit a old u.calm.files file input P u.calm.told u.calm.there u.given told
 
-  short_so : UnreadEither image_limit a old new TooLong → ⊥
-  short_so (inl (n, above, why, long)) = u.calm.store why.rose
-  short_so (inr why) = not_long a.input old new u.calm.store why
-
-  -- the told image with the told input
-  runs_so : (r : Ran) → ToldRuns a r old → RunsThis a r file input
-  runs_so r told =
-      input_of a.input old u.calm.files input (RunsThis a r file) u.calm.told u.given
-      (told_of image_limit old a.source file u.calm.files (λ f. ToldInput old a.input (RunsThis a r f)) u.calm.told u.calm.there told)
+  refusal_so : (status : Status) → ToldBoth image_limit a old (λ f i. RefusesToRun status f) → RefusesToRun status file
+  refusal_so status told = told_so (λ f i. RefusesToRun status f) told
 
   module _ (i : CleanImage) (is : runnable file ≡ Ok i) where
     run_so : (r : Ran) → RunsThis a r file input → IsRun (program_of i) input a.modules a.turns r
     run_so r (j, read, runs) = subst (λ x. IsRun (program_of x) input a.modules a.turns r) (ok_same (sym read ∙ is)) runs
 
-    shown : (status : Status) (r : Ran) → ToldRuns a r old → (status ≡ status_of_run r.end) × TakesAll (run_lines a.trace a.count r) out out' →
+    shown : (status : Status) (r : Ran) → ToldBoth image_limit a old (RunsThis a r) → (status ≡ status_of_run r.end) × TakesAll (run_lines a.trace a.count r) out out' →
         (status ≡ NoMemory) ⊎ ShowsRun a i input out out' status
-    shown status r told (ended, took) = inr (r, run_so r (runs_so r told), ended, took.gains)
+    shown status r told (ended, took) = inr (r, run_so r (told_so (RunsThis a r) told), ended, took.gains)
 
     shows_so : (status : Status) → ExecCause a old new out out' status → (status ≡ NoMemory) ⊎ ShowsRun a i input out out' status
     shows_so Done (r, told, h) = shown Done r told h
     shows_so Usage (r, told, h) = shown Usage r told h
     shows_so (SourceRefused number place) (r, told, h) = shown (SourceRefused number place) r told h
-    shows_so (ImageRefused number place location other) (told, same) = absurd (refused_not (runnable file) i (ImageRefused number place location other) is (told_of image_limit old a.source file u.calm.files (RefusesToRun (ImageRefused number place location other)) u.calm.told u.calm.there told))
-    shows_so ReadFault (why, same) = absurd (read_so why)
-    shows_so TooLong (why, same) = absurd (short_so why)
+    shows_so (ImageRefused number place location other) (told, same) = absurd (refused_not (runnable file) i (ImageRefused number place location other) is (refusal_so (ImageRefused number place location other) told))
+    shows_so ReadFault (why, same) = absurd (both_read image_limit a old new u.calm.store why)
+    shows_so TooLong (why, same) = absurd (both_short image_limit a old new u.calm.store why)
     shows_so WriteFault (r, told, fails) = absurd (u.calm.sink fails.rose)
     shows_so NoMemory h = inl refl
     shows_so Aborted (r, told, h) = shown Aborted r told h
@@ -76,16 +68,16 @@ module _ (a : Asked) (file input : List ℕ) (old new : StoreView) (out out' : S
     shows_so Undefined (r, told, h) = shown Undefined r told h
 
   module _ (fault : Fault) (is : runnable file ≡ Err fault) where
-    no_run : (r : Ran) → ToldRuns a r old → ⊥
-    no_run r told = let (j, read, runs) = runs_so r told in not_both (sym read ∙ is)
+    no_run : (r : Ran) → ToldBoth image_limit a old (RunsThis a r) → ⊥
+    no_run r told = let (j, read, runs) = told_so (RunsThis a r) told in not_both (sym read ∙ is)
 
     refuses_so : (status : Status) → ExecCause a old new out out' status → (status ≡ NoMemory) ⊎ ((status ≡ status_of (reported fault)) × (out' ≡ out))
     refuses_so Done (r, told, h) = absurd (no_run r told)
     refuses_so Usage (r, told, h) = absurd (no_run r told)
     refuses_so (SourceRefused number place) (r, told, h) = absurd (no_run r told)
-    refuses_so (ImageRefused number place location other) (told, same) = inr (refused_is (runnable file) fault (ImageRefused number place location other) is (told_of image_limit old a.source file u.calm.files (RefusesToRun (ImageRefused number place location other)) u.calm.told u.calm.there told), same)
-    refuses_so ReadFault (why, same) = absurd (read_so why)
-    refuses_so TooLong (why, same) = absurd (short_so why)
+    refuses_so (ImageRefused number place location other) (told, same) = inr (refused_is (runnable file) fault (ImageRefused number place location other) is (refusal_so (ImageRefused number place location other) told), same)
+    refuses_so ReadFault (why, same) = absurd (both_read image_limit a old new u.calm.store why)
+    refuses_so TooLong (why, same) = absurd (both_short image_limit a old new u.calm.store why)
     refuses_so WriteFault (r, told, h) = absurd (no_run r told)
     refuses_so NoMemory h = inl refl
     refuses_so Aborted (r, told, h) = absurd (no_run r told)

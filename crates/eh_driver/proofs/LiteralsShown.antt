@@ -20,10 +20,10 @@ use Rattle.cxa_runtime.specs.Run.{Ran}
 use Rattle.literal_mains.specs.Main.{small_main}
 use Rattle.literal_mains.specs.Laws.{LiteralMainsRun, enough_steps}
 use Rattle.eh_commands.specs.declared.status.Status.{Status}
-use Rattle.eh_commands.specs.Mean.{Asked}
+use Rattle.eh_commands.specs.File.{Asked}
 use Rattle.eh_commands.specs.Output.{line_of, exit_line, exit_pieces}
 use Rattle.eh_commands.specs.RunEnd.{run_end_line, count_lines, run_lines, status_of_run}
-use Rattle.eh_commands.specs.RunSource.{Prints}
+use Rattle.eh_commands.specs.RunSource.{CompiledRunsThis}
 use Rattle.eh_driver.specs.Promise.{ShowsLiterals}
 
 -- a valid program is a checked one
@@ -59,13 +59,13 @@ literal_lines trace count lines answer r items end =
     ∙ ap (λ e. ints ++ (run_end_line e ∷ last)) end ∙ sym (append_assoc ints (exit_line (pos answer) ∷ []) last)
 
 pub literals_shown : LiteralMainsRun → (a : Asked) (source : List ℕ) (p : Program) → IsProgram source p → Valid p → (lines : List ℕ) (answer : ℕ) → small_main (checked p) ≡ Some (lines, answer) →
-    enough_steps ≤ a.turns → (input : List ℕ) (out out' : SinkView) (pieces : List (List ℕ)) (status : Status) → Prints a (checked p) input pieces status → TakesAll pieces out out' →
-    ShowsLiterals a lines answer out out' status
-literals_shown law a source p program holds lines answer main enough input out out' pieces status (r, stands, this, same, end) took =
+    enough_steps ≤ a.turns → (input : List ℕ) (out out' : SinkView) (status : Status) (r : Ran) → CompiledRunsThis a r (checked p) input → status ≡ status_of_run r.end →
+    TakesAll (run_lines a.trace a.count r) out out' → ShowsLiterals a lines answer out out' status
+literals_shown law a source p program holds lines answer main enough input out out' status r (stands, this) end took =
     let (i, read, runs) = this in
     let (pick, run_is) = runs in
     let safe = is_checked source p program holds in
     let ran = law.runs (checked p) lines answer safe main i (unit_stands p i stands read).image pick a.turns input (replies_of a.modules) (omega (arith, law.enough (checked p) lines answer safe main, enough)) in
     let items : r.items ≡ map Line (map pos lines) = ap (λ (x : Ran). x.items) (sym run_is) ∙ ran.0 in
     let exits : r.end ≡ Exit (pos answer) = ap (λ (x : Ran). x.end) (sym run_is) ∙ ran.1 in
-    (r.world.count, end ∙ ap status_of_run exits, subst (λ t. Gains (bytes_of t) out out') (same ∙ literal_lines a.trace a.count lines answer r items exits) took.gains)
+    (r.world.count, end ∙ ap status_of_run exits, subst (λ t. Gains (bytes_of t) out out') (literal_lines a.trace a.count lines answer r items exits) took.gains)

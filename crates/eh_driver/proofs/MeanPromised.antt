@@ -1,5 +1,6 @@
 -- What the causes of `mean` promise.
 use Rattle.std.proofs.Common.{◌≡◌, ◌⊎◌, ◌∙◌, inl, inr, ℕ, List, Option, Some, None, refl, sym, ap, subst}
+use Rattle.std.specs.FinMap.{get}
 use Rattle.eh_outer.specs.Store.{Files, StoreView, Rose}
 use Rattle.eh_outer.specs.Sink.{SinkView}
 use Rattle.cxx_ast.specs.Plain.{Program}
@@ -12,63 +13,64 @@ use Rattle.meaning_forms.specs.Meaning.{Meaning}
 use Rattle.scope_meaning.specs.Mean.{meant}
 use Rattle.eh_commands.specs.declared.status.Status.{Status}
 use Rattle.eh_commands.specs.declared.status.Status.TheVariants.{Done, Usage, SourceRefused, ImageRefused, ReadFault, TooLong, WriteFault, NoMemory, Aborted, Budget, Stack, MachineFault, Undefined}
-use Rattle.eh_commands.specs.File.{Told, source_limit}
-use Rattle.eh_commands.specs.Mean.{Asked, MeanCause, MeansThis, ToldInput, ToldMeans, UnreadEither, UnreadInput, input_limit, mean_lines, status_of_end}
+use Rattle.eh_commands.specs.File.{Asked, ToldInput, ToldBoth, UnreadInput, UnreadEither, input_limit, source_limit}
+use Rattle.eh_commands.specs.Mean.{MeanCause, MeansThis, mean_lines, status_of_end}
 use Rattle.eh_driver.specs.Promise.{MeanUndisturbed, InputIs, MeanPromise, Shows}
 use Rattle.eh_commands.proofs.Sources.{told_of, valid_same, not_refused, same_refusal}
 
 -- the input of which something is told
-pub input_of : (i : Option (List ℕ)) (store : StoreView) (files : Files) (input : List ℕ) (P : List ℕ → Type 0) → store.files ≡ Some files → InputIs i files input → ToldInput store i P → P input
+input_of : (i : Option (List ℕ)) (store : StoreView) (files : Files) (input : List ℕ) (P : List ℕ → Type 0) → store.files ≡ Some files → InputIs i files input → ToldInput store i P → P input
 input_of None store files input P is e told = subst P (sym e) told
 input_of (Some name) store files input P is there told = told_of input_limit store name input files P is there.0 told
 
+-- so the file and its input
+pub both_of : (limit : ℕ) (a : Asked) (store : StoreView) (files : Files) (file input : List ℕ) (P : List ℕ → List ℕ → Type 0) → store.files ≡ Some files → get files a.source ≡ Some file → InputIs a.input files input →
+    ToldBoth limit a store P → P file input
+both_of limit a store files file input P is there given told =
+    input_of a.input store files input (P file) is given (told_of limit store a.source file files (λ f. ToldInput store a.input (P f)) is there told)
+
 -- the store refused nothing
-pub not_unread : (i : Option (List ℕ)) (old new : StoreView) → (Rose old.faults new.faults → ⊥) → UnreadInput i old new ReadFault → ⊥
+not_unread : (i : Option (List ℕ)) (old new : StoreView) → (Rose old.faults new.faults → ⊥) → UnreadInput i old new ReadFault → ⊥
 not_unread None old new calm why = why
 not_unread (Some name) old new calm why = calm why.rose
 
-pub not_long : (i : Option (List ℕ)) (old new : StoreView) → (Rose old.faults new.faults → ⊥) → UnreadInput i old new TooLong → ⊥
+not_long : (i : Option (List ℕ)) (old new : StoreView) → (Rose old.faults new.faults → ⊥) → UnreadInput i old new TooLong → ⊥
 not_long None old new calm why = why
 not_long (Some name) old new calm (n, above, why, long) = calm why.rose
 
+pub both_read : (limit : ℕ) (a : Asked) (old new : StoreView) → (Rose old.faults new.faults → ⊥) → UnreadEither limit a old new ReadFault → ⊥
+both_read limit a old new calm (inl why) = calm why.rose
+both_read limit a old new calm (inr (told, why)) = not_unread a.input old new calm why
+
+pub both_short : (limit : ℕ) (a : Asked) (old new : StoreView) → (Rose old.faults new.faults → ⊥) → UnreadEither limit a old new TooLong → ⊥
+both_short limit a old new calm (inl (n, above, why, long)) = calm why.rose
+both_short limit a old new calm (inr (told, why)) = not_long a.input old new calm why
+
 module _ (a : Asked) (source input : List ℕ) (old new : StoreView) (out out' : SinkView) (u : MeanUndisturbed a source input old new out out') where
-  read_so : UnreadEither source_limit a old new ReadFault → ⊥
-  read_so (inl why) = u.calm.store why.rose
-  read_so (inr why) = not_unread a.input old new u.calm.store why
+  -- what holds of the told source and the told input
+  told_so : (P : List ℕ → List ℕ → Type 0) → ToldBoth source_limit a old P → P source input
+  told_so P told = both_of source_limit a old u.calm.files source input P u.calm.told u.calm.there u.given told
 
-  short_so : UnreadEither source_limit a old new TooLong → ⊥
-  short_so (inl (n, above, why, long)) = u.calm.store why.rose
-  short_so (inr why) = not_long a.input old new u.calm.store why
-
-  -- what the told source with the told input means
-  means_so : (m : Meaning) → ToldMeans a m old → MeansThis a m source input
-  means_so m told =
-      input_of a.input old u.calm.files input (MeansThis a m source) u.calm.told u.given
-      (told_of source_limit old a.source source u.calm.files (λ s. ToldInput old a.input (MeansThis a m s)) u.calm.told u.calm.there told)
-
-  -- it is the meaning of the valid program
-  meaning_so : (m : Meaning) (p : Program) → ToldMeans a m old → IsProgram source p → Valid p → m ≡ meant (checked p) input a.modules a.turns
-  meaning_so m p told program holds = go (means_so m told)
+  -- what it means is the meaning of the valid program
+  meaning_so : (m : Meaning) (p : Program) → ToldBoth source_limit a old (MeansThis a m) → IsProgram source p → Valid p → m ≡ meant (checked p) input a.modules a.turns
+  meaning_so m p told program holds = go (told_so (MeansThis a m) told)
     where
       go : MeansThis a m source input → m ≡ meant (checked p) input a.modules a.turns
       go (q, only, is) = is ∙ ap (λ x. meant (checked x) input a.modules a.turns) (valid_same (only.only (valid p) (program, holds)))
 
-  shown : (m : Meaning) (p : Program) (status : Status) → ToldMeans a m old → IsProgram source p → Valid p → status ≡ status_of_end m.end → TakesAll (mean_lines a.trace m.items m.end) out out' →
+  shown : (m : Meaning) (p : Program) (status : Status) → ToldBoth source_limit a old (MeansThis a m) → IsProgram source p → Valid p → status ≡ status_of_end m.end → TakesAll (mean_lines a.trace m.items m.end) out out' →
       (status ≡ NoMemory) ⊎ Shows a.trace (meant (checked p) input a.modules a.turns) out out' status
   shown m p status told program holds is puts = inr (subst (λ x. Shows a.trace x out out' status) (meaning_so m p told program holds) (is, puts.gains))
 
   -- a valid source is not refused
-  refused_valid : (p : Program) (number place : ℕ) → Told source_limit old a.source (λ s. HasOnly s (refused number place)) → IsProgram source p → Valid p → ⊥
-  refused_valid p number place told program holds =
-      let only = told_of source_limit old a.source source u.calm.files (λ s. HasOnly s (refused number place)) u.calm.told u.calm.there told in
-      let same : refused number place ≡ valid p = only.only (valid p) (program, holds) in
-      cc
+  refused_valid : (p : Program) (number place : ℕ) → HasOnly source (refused number place) → IsProgram source p → Valid p → ⊥
+  refused_valid p number place only program holds = let same : refused number place ≡ valid p = only.only (valid p) (program, holds) in cc
 
   shows_so : (p : Program) (status : Status) → IsProgram source p → Valid p → MeanCause a old new out out' status →
       (status ≡ NoMemory) ⊎ Shows a.trace (meant (checked p) input a.modules a.turns) out out' status
-  shows_so p ReadFault program holds (why, rest) = absurd (read_so why)
-  shows_so p TooLong program holds (why, rest) = absurd (short_so why)
-  shows_so p (SourceRefused number place) program holds (told, rest) = absurd (refused_valid p number place told program holds)
+  shows_so p ReadFault program holds (why, rest) = absurd (both_read source_limit a old new u.calm.store why)
+  shows_so p TooLong program holds (why, rest) = absurd (both_short source_limit a old new u.calm.store why)
+  shows_so p (SourceRefused number place) program holds (told, rest) = absurd (refused_valid p number place (told_so (λ s i. HasOnly s (refused number place)) told) program holds)
   shows_so p NoMemory program holds h = inl refl
   shows_so p WriteFault program holds (m, told, fails) = absurd (u.calm.sink fails.rose)
   shows_so p Done program holds (m, told, (is, puts)) = shown m p Done told program holds is puts
@@ -81,18 +83,16 @@ module _ (a : Asked) (source input : List ℕ) (old new : StoreView) (out out' :
   shows_so p Undefined program holds (m, told, (is, puts)) = shown m p Undefined told program holds is puts
 
   -- what is valid is not refused
-  means_valid : (m : Meaning) (number place : ℕ) → ToldMeans a m old → IsRefused source number place → ⊥
-  means_valid m number place told is = go (means_so m told)
+  means_valid : (m : Meaning) (number place : ℕ) → ToldBoth source_limit a old (MeansThis a m) → IsRefused source number place → ⊥
+  means_valid m number place told is = go (told_so (MeansThis a m) told)
     where
       go : MeansThis a m source input → ⊥
       go (q, only, same) = not_refused source q number place only is
 
   refuses_so : (number place : ℕ) (status : Status) → IsRefused source number place → MeanCause a old new out out' status → (status ≡ NoMemory) ⊎ (status ≡ SourceRefused number place)
-  refuses_so number place ReadFault is (why, rest) = absurd (read_so why)
-  refuses_so number place TooLong is (why, rest) = absurd (short_so why)
-  refuses_so number place (SourceRefused n at) is (told, rest) =
-      let only = told_of source_limit old a.source source u.calm.files (λ s. HasOnly s (refused n at)) u.calm.told u.calm.there told in
-      inr (same_refusal (only.only (refused number place) is))
+  refuses_so number place ReadFault is (why, rest) = absurd (both_read source_limit a old new u.calm.store why)
+  refuses_so number place TooLong is (why, rest) = absurd (both_short source_limit a old new u.calm.store why)
+  refuses_so number place (SourceRefused n at) is (told, rest) = inr (same_refusal ((told_so (λ s i. HasOnly s (refused n at)) told).only (refused number place) is))
   refuses_so number place NoMemory is h = inl refl
   refuses_so number place WriteFault is (m, told, fails) = absurd (u.calm.sink fails.rose)
   refuses_so number place Done is (m, told, h) = absurd (means_valid m number place told is)

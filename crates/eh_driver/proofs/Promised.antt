@@ -13,7 +13,7 @@ use Rattle.command_line.specs.declared.command.Verb.TheVariants.{Compile, Run, E
 use Rattle.command_line.specs.Command.{CommandView}
 use Rattle.eh_outer.specs.Module.{ModuleView}
 use Rattle.eh_commands.specs.Words.{asked}
-use Rattle.eh_commands.specs.Mean.{Asked}
+use Rattle.eh_commands.specs.File.{Asked}
 use Rattle.eh_commands.proofs.Sources.{told_of}
 use Rattle.eh_driver.proofs.MeanPromised.{mean_promised}
 use Rattle.eh_driver.proofs.ExecPromised.{exec_promised}

@@ -12,7 +12,7 @@ use Rattle.eh_outer.specs.Module.{ModuleView}
 use Rattle.meaning_forms.specs.Meaning.{Meaning}
 use Rattle.scope_meaning.specs.Mean.{meant}
 use Rattle.eh_commands.specs.Words.{asked}
-use Rattle.eh_commands.specs.Mean.{Asked, input_limit, mean_lines, status_of_end}
+use Rattle.eh_commands.specs.Mean.{mean_lines, status_of_end}
 use Rattle.cxx_ast.specs.Plain.{Program}
 use Rattle.cxx_ast.specs.Broken.{Valid}
 use Rattle.cxx_ast.specs.Checked.{checked}
@@ -23,7 +23,7 @@ use Rattle.literal_mains.specs.Main.{small_main}
 use Rattle.literal_mains.specs.Laws.{enough_steps}
 use Rattle.run_items.specs.Output.{bytes_of}
 use Rattle.eh_commands.specs.Output.{exit_pieces}
-use Rattle.eh_commands.specs.File.{source_limit}
+use Rattle.eh_commands.specs.File.{Asked, input_limit, source_limit}
 use Rattle.table_forms.specs.Fault.{Fault}
 use Rattle.elf_image.specs.Clean.{CleanImage}
 use Rattle.elf_image.specs.Reports.{reported}

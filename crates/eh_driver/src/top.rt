@@ -1,5 +1,5 @@
 // The top call.
-ghost use Rattle.std.specs.Prelude.{map};
+ghost use Rattle.std.specs.Prelude.{◌≤◌, length, map};
 ghost use Rattle.command_line.specs.Command.{command_of};
 ghost use Rattle.eh_commands.specs.Answer.{Cause, KeepsFiles, Reports};
 ghost use Rattle.eh_commands.specs.File.{refused_name};
@@ -19,7 +19,7 @@ use std::alloc::Global;
 /// on `out`, under `--trace` each event, its end, and under `--count` how many steps it took. `run FILE` does both with a source.
 /// `mean FILE` puts what the source means with the same: lines, events and end. `check FILE` and
 /// `dump FILE` read an image of at most 64 MiB, and put how much it has, or its tables, on `out` where it is clean. Whatever else
-/// comes is one line on `err`. The modules are dropped.
+/// comes is one line on `err`. A program is given at most 64 modules, which are dropped.
 pub fn ehc<St: Store, Out: Sink, Er: Sink>(
     alloc: Global,
     words: &Vec<String>,
@@ -28,6 +28,8 @@ pub fn ehc<St: Store, Out: Sink, Er: Sink>(
     err: &mut Er,
     modules: Vec<Box<dyn Module>>,
 ) -> Status
+    requires few { length modules.items ≤ 64 }
+
     // What a source, its meaning and an image come to where nothing fails.
     ensures promise { Promise (map (λ b. (Module-box b).view b.value) modules.items) (command_of (texts words.now.items)) (St.view store.old) (St.view store.new) (Out.view out.old) (Out.view out.new) result }
 

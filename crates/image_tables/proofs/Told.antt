@@ -199,7 +199,7 @@ routine_tells u i s address p k r x image run stands asked low high on =
     let inside : k < 4 * routine_words r = omega (arith, high, words_stand.inside r (p + 1)) in
     let here = table_found u i s address k r image run stands inside in
     let below : address + k + 1 < 2 ^ 64 = omega (arith, code_low u i address r image stands, inside) in
-    let all = routines.tables_say r u.types (records_end u) here.fde.lsda i.image.memory here.fde.region here.table p k asked (types_asked u i image) here.reads here.stands low high (omega (arith, here.start, below)) in
+    let all = routines.tables_decide r u.types (records_end u) here.fde.lsda i.image.memory here.fde.region here.table p k asked (types_asked u i image) here.reads here.stands low high (omega (arith, here.start, below)) in
     let tells : routine.Tells r u.types (records_end u) address here.table p k = subst (λ a. routine.Tells r u.types (records_end u) a here.table p k) here.start all in
     let is : (thrown : Thrown) → verdict_of s (program_of i).image.fdes thrown x ≡ verdict (Some here.table) (address + k + 1) false thrown = λ thrown. verdict_is s (program_of i).image.fdes thrown x (address + k) here.fde here.table on below here.found here.named in
     (λ t there. is (thrown_as (records_end u) u.types t) ∙ tells.raised t there, is forced ∙ tells.unwound)

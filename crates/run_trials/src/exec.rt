@@ -126,6 +126,9 @@ fn answer(alloc: Global, row: &Row, fails: &[u64]) -> Result<(Status, MemSink, M
             modules.push(Box::new(alloc, Runs::new(alloc, script)?)?)?;
         }
     }
+    if modules.len() > 64 {
+        return Err(Fail::new("more than 64 modules"));
+    }
     let mut out = MemSink::new(alloc, 0x400, fails.to_vec(alloc)?)?;
     let mut err = MemSink::new(alloc, 0x100, Vec::new(alloc))?;
     let status = ehc(alloc, &words, &mut store, &mut out, &mut err, modules);

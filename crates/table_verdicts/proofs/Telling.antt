@@ -17,7 +17,7 @@ use Rattle.personality.specs.Named.{FilterIsNamed}
 use Rattle.table_verdicts.specs.Verdicts.{told_of, forced_judge}
 use Rattle.table_verdicts.specs.Types.{thrown_as}
 use Rattle.table_verdicts.specs.Asked.{TableIsAsked, TypesAreAsked}
-use Rattle.table_verdicts.specs.Laws.{TablesSay}
+use Rattle.table_verdicts.specs.Laws.{TablesDecide}
 use Rattle.table_verdicts.proofs.Looked.{Looked, looked}
 use Rattle.table_verdicts.proofs.Filters.{FilterMeans, filter_means}
 use Rattle.table_verdicts.proofs.Deciding.{raised_decides, alone_decides, forced_decides}
@@ -51,8 +51,8 @@ told r end region table thrown judge rows p k fits stands decides low high below
     ap (λ n. verdict_at table thrown (site_at table n)) (place_before (region.start + k) below)
     ∙ sites_told r (linked_table end (routine_table r)) region table thrown judge p k r.sites table.sites refl decides low high fits.pads stands.sites
 
-pub tables_say : TablesSay
-tables_say r rows end address memory region table p k fits asked read stands low high below =
+pub tables_decide : TablesDecide
+tables_decide r rows end address memory region table p k fits asked read stands low high below =
     let list : ListedTable = linked_table end (routine_table r) in
     let seen = looked memory address region list table read stands in
     record {

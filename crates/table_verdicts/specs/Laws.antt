@@ -23,7 +23,7 @@ pub record Tells (r : Routine) (rows : List TypeRow) (end first : ℕ) (table : 
   pub unwound : verdict (Some table) (first + k + 1) false forced ≡ told_of (λ q. first + op_byte r q) (look_up r.sites p) (forced_judge (sense_in r.types r.lists))
 
 -- So where a table is read that stands for the routine's. Its type entries lead to records that end at an address.
-abbrev pub TablesSay : Type 0
-TablesSay = (r : Routine) (rows : List TypeRow) (end address : ℕ) (memory : Memory) (region : Region64) (table : Table) (p k : ℕ) → TableIsAsked (length rows) r → TypesAreAsked end rows →
+abbrev pub TablesDecide : Type 0
+TablesDecide = (r : Routine) (rows : List TypeRow) (end address : ℕ) (memory : Memory) (region : Region64) (table : Table) (p k : ℕ) → TableIsAsked (length rows) r → TypesAreAsked end rows →
     lsda memory address region ≡ Ok table → TableStands (linked_table end (routine_table r)) region table → op_byte r p ≤ k → k < op_byte r (p + 1) → region.start + k + 1 < 2 ^ 64 →
     Tells r rows end region.start table p k

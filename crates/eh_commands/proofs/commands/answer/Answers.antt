@@ -1,9 +1,8 @@
 use Rattle.std.proofs.Common.{◌≤◌, ◌^◌, [], subst, sym, ap, map}
 use Rattle.command_line.specs.Command.{command_of, command_seen}
 use Rattle.eh_commands.specs.Answer.{Reports}
-use Rattle.eh_commands.specs.File.{refused_name}
+use Rattle.eh_commands.specs.File.{Asked, refused_name}
 use Rattle.eh_commands.specs.Words.{texts}
-use Rattle.eh_commands.specs.Mean.{Asked}
 use Rattle.eh_commands.proofs.Bounded.{turns_few}
 use Rattle.eh_commands.proofs.Named.{text_named}
 use Rattle.eh_commands.proofs.Words.{no_name, unread}

@@ -1,8 +1,8 @@
 use Rattle.std.proofs.Common.{map, subst, sym}
 use Rattle.eh_commands.specs.Question.{asked_by}
-use Rattle.eh_commands.specs.RunSource.{ProgramPrints, SourceRuns}
+use Rattle.eh_commands.specs.RunSource.{CompiledRuns, SourceRuns}
 use Rattle.eh_commands.proofs.CompileCauses.{is_checked}
-use Rattle.eh_commands.proofs.RunCauses.{refused_source, source_prints}
+use Rattle.eh_commands.proofs.RunCauses.{refused_source, source_runs}
 use Rattle.eh_commands.proofs.run_source.run_source.Goals as goal
 
 pub returns-in-Err : goal.returns-in-Err
@@ -19,5 +19,5 @@ pub returns-in-Ok : goal.returns-in-Ok
 returns-in-Ok g c =
     let a = asked_by c.args.question.now (map g.M.Module.view c.args.modules.items) in
     let (p, only, resolved) = c.in-Ok.ensures in
-    source_prints a c.args.source.now c.args.input.now p only (g.Out.Sink.view c.args.out.now) (g.Out.Sink.view c.run_program.new.out) c.run_program.result
-    (subst (λ x. ProgramPrints a x c.args.input.now (g.Out.Sink.view c.args.out.now) (g.Out.Sink.view c.run_program.new.out) c.run_program.result) resolved c.run_program.ensures)
+    source_runs a c.args.source.now c.args.input.now p only (g.Out.Sink.view c.args.out.now) (g.Out.Sink.view c.run_program.new.out) c.run_program.result
+    (subst (λ x. CompiledRuns a x c.args.input.now (g.Out.Sink.view c.args.out.now) (g.Out.Sink.view c.run_program.new.out) c.run_program.result) resolved c.run_program.ensures)

@@ -1,5 +1,0 @@
-use Rattle.checked_units.proofs.Frames.{frames_are_laid_out}
-use Rattle.checked_units.proofs.laws.frames_are_laid_out.Goals as goal
-
-pub returns : goal.returns
-returns c = frames_are_laid_out
