@@ -7,22 +7,3 @@ mod front;
 pub use error::SourceError;
 pub use front::checked;
 pub use std::alloc::AllocError as NoMemory;
-
-#[cfg(test)]
-mod bindings;
-#[cfg(test)]
-mod calls;
-#[cfg(test)]
-mod classes;
-#[cfg(test)]
-mod forms;
-#[cfg(test)]
-mod limits;
-#[cfg(test)]
-mod names;
-#[cfg(test)]
-mod phases;
-#[cfg(test)]
-mod reading;
-#[cfg(test)]
-mod types;

@@ -1,11 +1,15 @@
-//! Trials of the front end's passes: what each answers on what was worked out by hand. There are tests alone.
+//! Trials of the front end and its passes: what each answers on what was worked out by hand. There are tests alone.
 #![tactic(auto)]
 
 #[cfg(test)]
-mod check;
+mod bindings;
 #[cfg(test)]
 mod lexer;
 #[cfg(test)]
+mod limits;
+#[cfg(test)]
 mod parser;
+#[cfg(test)]
+mod reading;
 #[cfg(test)]
 mod rules;

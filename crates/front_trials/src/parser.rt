@@ -98,16 +98,6 @@ static PRODUCTIONS: &[(&str, usize)] = &[
     ),
 ];
 
-#[test]
-fn each_production(rt: HostRuntime) -> Result<(), Fail> {
-    for (words, declarations) in PRODUCTIONS {
-        let tokens = tokens_of(rt.alloc(), words)?;
-        let count = answer(rt.alloc(), tokens.as_slice()).map(|program| program.decls.len());
-        assert_eq!(rt; count, Ok(*declarations));
-    }
-    Ok(())
-}
-
 // Words, and the number of the first that no program has there, or 99,999 for the end.
 static UNFIT: &[(&str, u32)] = &[
     ("int", 99999),
@@ -170,7 +160,12 @@ static UNFIT: &[(&str, u32)] = &[
 ];
 
 #[test]
-fn tokens_that_do_not_fit(rt: HostRuntime) -> Result<(), Fail> {
+fn tokens_that_fit_and_that_do_not(rt: HostRuntime) -> Result<(), Fail> {
+    for (words, declarations) in PRODUCTIONS {
+        let tokens = tokens_of(rt.alloc(), words)?;
+        let count = answer(rt.alloc(), tokens.as_slice()).map(|program| program.decls.len());
+        assert_eq!(rt; count, Ok(*declarations));
+    }
     for (words, place) in UNFIT {
         let fault = fault_of(rt.alloc(), words)?;
         assert_eq!(rt; fault, Some(ParseError::Unexpected(*place)));
@@ -328,12 +323,7 @@ fn the_greatest_depth(rt: HostRuntime) -> Result<(), Fail> {
         let fault = fault_of(rt.alloc(), words.as_str())?;
         assert_eq!(rt; fault, Some(ParseError::TooDeep(nest.place)));
     }
-    Ok(())
-}
-
-// `x` may begin an assignment that would be too deep, but `+` behind it fits nothing.
-#[test]
-fn unexpected_where_all_else_is_too_deep(rt: HostRuntime) -> Result<(), Fail> {
+    // `x` may begin an assignment that would be too deep, but `+` behind it fits nothing.
     let text = ["int f ( ) {", "{", "x + 1 ;", "}", "}"];
     let words = nested(rt.alloc(), &text, 61)?;
     let fault = fault_of(rt.alloc(), words.as_str())?;

@@ -1,12 +1,9 @@
-// Trees made by hand, and the refusal that answers for each, worked out by hand from the rules.
+// Trees made by hand, and what is found in each, worked out by hand from the rules: what no row of a source says.
 use cxx_ast::declaration::FuncKind;
-use cxx_ast::expression::{BinaryOp, Expr, Lvalue, UnaryOp};
+use cxx_ast::expression::{BinaryOp, Expr, Lvalue};
 use cxx_ast::name::{Bound, Name};
-use cxx_ast::statement::{Handler, Stmt};
 use cxx_ast::text::Text;
-use cxx_rules::{
-    Environment, Found, Kind, Passing, Refusal, Scope, Signature, Texts, judged, statements,
-};
+use cxx_rules::{Environment, Found, Kind, Passing, Refusal, Scope, Signature, Texts, judged};
 use std::alloc::Global;
 use std::test::Fail;
 
@@ -49,88 +46,24 @@ fn answer(number: u8, place: u32) -> Option<Refusal> {
     Some(Refusal { number, place })
 }
 
+// `f` is never defined, and a call that gives it a literal, which is no lvalue, has no type either. Of two names that are not in reach the
+// one at the lesser place answers, wherever it stands in the tree.
 #[test]
-fn expressions(rt: HostRuntime) -> Result<(), Fail> {
-    let alloc = rt.alloc();
-    let literal = Expr::Number(1, 30);
-    assert_eq!(rt; found_in(alloc, &literal)?.least, None);
-    let unknown = Expr::Path(path(alloc, "x", 20)?);
-    assert_eq!(rt; found_in(alloc, &unknown)?.least, answer(30, 20));
-    let global = Expr::Path(path(alloc, "g", 20)?);
-    assert_eq!(rt; found_in(alloc, &global)?.least, None);
-    let none = call(alloc, "write_int", 20, Vec::new(alloc))?;
-    assert_eq!(rt; found_in(alloc, &none)?.least, answer(33, 20));
-    Ok(())
-}
-
-#[test]
-fn calls(rt: HostRuntime) -> Result<(), Fail> {
+fn what_is_found(rt: HostRuntime) -> Result<(), Fail> {
     let alloc = rt.alloc();
     let mut args = Vec::new(alloc);
     args.push(Expr::Number(1, 22))?;
-    let value = call(alloc, "f", 20, args)?;
-    let found = found_in(alloc, &value)?;
+    let found = found_in(alloc, &call(alloc, "f", 20, args)?)?;
     assert_eq!(rt; found.least, answer(43, 4));
     assert_eq!(rt; found.is_sound, false);
     let mut args = Vec::new(alloc);
     args.push(Expr::Path(path(alloc, "g", 22)?))?;
-    let bound = call(alloc, "f", 20, args)?;
-    let found = found_in(alloc, &bound)?;
+    let found = found_in(alloc, &call(alloc, "f", 20, args)?)?;
     assert_eq!(rt; found.least, answer(43, 4));
     assert_eq!(rt; found.is_sound, true);
-    Ok(())
-}
-
-#[test]
-fn operators(rt: HostRuntime) -> Result<(), Fail> {
-    let alloc = rt.alloc();
-    let mut args = Vec::new(alloc);
-    args.push(Expr::Number(1, 31))?;
-    let void = call(alloc, "write_int", 21, args)?;
-    let minus = Expr::Unary(UnaryOp::Minus, Box::new(alloc, void)?, 20);
-    assert_eq!(rt; found_in(alloc, &minus)?.least, answer(32, 21));
     let left = Box::new(alloc, Expr::Path(path(alloc, "x", 20)?))?;
     let right = Box::new(alloc, Expr::Path(path(alloc, "y", 10)?))?;
     let both = Expr::Binary(BinaryOp::Add, left, right);
     assert_eq!(rt; found_in(alloc, &both)?.least, answer(30, 10));
-    Ok(())
-}
-
-fn broken_by(alloc: Global, ss: &[Stmt]) -> Result<Option<Refusal>, Fail> {
-    let env = Environment::new(alloc, Texts::new(alloc))?;
-    let mut scope = Scope::function(alloc, None, false)?;
-    Ok(statements(alloc, &env, &mut scope, ss)?.least)
-}
-
-#[test]
-fn blocks(rt: HostRuntime) -> Result<(), Fail> {
-    let alloc = rt.alloc();
-    let mut ss = Vec::new(alloc);
-    ss.push(Stmt::LocalInt(name(alloc, "a", 14)?, None))?;
-    assert_eq!(rt; broken_by(alloc, ss.as_slice())?, None);
-    ss.push(Stmt::LocalInt(name(alloc, "a", 21)?, None))?;
-    assert_eq!(rt; broken_by(alloc, ss.as_slice())?, answer(31, 21));
-    ss.push(Stmt::Return(12, Some(Expr::Number(1, 19))))?;
-    assert_eq!(rt; broken_by(alloc, ss.as_slice())?, answer(45, 12));
-    ss.push(Stmt::Break(10))?;
-    assert_eq!(rt; broken_by(alloc, ss.as_slice())?, answer(44, 10));
-    Ok(())
-}
-
-#[test]
-fn handlers(rt: HostRuntime) -> Result<(), Fail> {
-    let alloc = rt.alloc();
-    let mut hs = Vec::new(alloc);
-    for place in [27, 44] {
-        hs.push(Handler {
-            ty: None,
-            name: None,
-            body: Vec::new(alloc),
-            place,
-        })?;
-    }
-    let mut ss = Vec::new(alloc);
-    ss.push(Stmt::Try(Vec::new(alloc), hs))?;
-    assert_eq!(rt; broken_by(alloc, ss.as_slice())?, answer(35, 44));
     Ok(())
 }

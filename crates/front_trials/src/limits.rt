@@ -11,9 +11,9 @@ struct Row {
     count: usize,
 }
 
-// These are accepted, and with one piece more refused under the number. 16 tokens and 3 for each global are 65,536; the `return` stands
-// at level 3, and the literal in 60 parentheses at 64.
-static OF_SOURCES: &[Row] = &[
+// These are accepted, and with one piece more refused under the number.
+static LIMITS: &[Row] = &[
+    // 16 tokens and 3 for each global are 65,536; the `return` stands at level 3, and the literal in 60 parentheses at 64.
     Row {
         number: 13,
         text: [
@@ -30,10 +30,7 @@ static OF_SOURCES: &[Row] = &[
         text: ["int main() { return ", "@(", "1", ")", "; }"],
         count: 60,
     },
-];
-
-// `main` has 6 tokens without its statements; a constructor and a destructor have 5, of which the first is the name.
-static OF_TOKENS: &[Row] = &[
+    // `main` has 6 tokens without its statements; a constructor and a destructor have 5, of which the first is the name.
     Row {
         number: 40,
         text: ["int @main() { ", ";", "", "", "}"],
@@ -49,11 +46,8 @@ static OF_TOKENS: &[Row] = &[
         text: ["struct A { ~@A() { ", ";", "", "", "} }; int main() { }"],
         count: 1_995,
     },
-];
-
-// 8 bytes for an int, a reference and a parameter, and 16 for an object of 12. `f(f(f(1)))` has 4 levels and 3 arguments; the arguments of a
-// statement inside another do not count there.
-static OF_VARIABLES: &[Row] = &[
+    // 8 bytes for an int, a reference and a parameter, and 16 for an object of 12. `f(f(f(1)))` has 4 levels and 3 arguments; the arguments
+    // of a statement inside another do not count there.
     Row {
         number: 39,
         text: ["int @main() { ", "int a#; ", "", "", "}"],
@@ -119,10 +113,7 @@ static OF_VARIABLES: &[Row] = &[
         ],
         count: 189,
     },
-];
-
-// 4 bytes for an int and for an empty class. A8 is the ninth class of which each has twice the size of the one before: 1,024.
-static OF_CLASSES: &[Row] = &[
+    // 4 bytes for an int and for an empty class. A8 is the ninth class of which each has twice the size of the one before: 1,024.
     Row {
         number: 41,
         text: ["struct @A { ", "int a#; ", "", "", "}; int main() { }"],
@@ -207,6 +198,21 @@ static ORDERS: &[Row] = &[
         text: ["struct @A { ", "int a#; ", "B b; }; int main() { }", "", ""],
         count: 257,
     },
+    // Of these hundred classes the last has 4 times 2 to the 99th bytes, which no register holds; the tenth is refused.
+    Row {
+        number: 41,
+        text: [
+            "int main() { } struct A0 { int n; }; struct A1 { A0 a; A0 b; }; struct A2 { A1 a; A1 b; }; \
+            struct A3 { A2 a; A2 b; }; struct A4 { A3 a; A3 b; }; struct A5 { A4 a; A4 b; }; \
+            struct A6 { A5 a; A5 b; }; struct A7 { A6 a; A6 b; }; struct A8 { A7 a; A7 b; }; \
+            struct @A9 { A8 a; A8 b; }; struct B0 { A9 a; A9 b; }; ",
+            "struct B# { B% a; B% b; }; ",
+            "",
+            "",
+            "",
+        ],
+        count: 89,
+    },
 ];
 
 // A piece by its number.
@@ -259,21 +265,8 @@ fn first_beyond(alloc: Global, rows: &[Row]) -> Result<Option<usize>, AllocError
 }
 
 #[test]
-fn limits_of_sources(rt: HostRuntime) -> Result<(), Fail> {
-    assert_eq!(rt; first_beyond(rt.alloc(), OF_SOURCES)?, None);
-    Ok(())
-}
-
-#[test]
-fn limits_of_functions(rt: HostRuntime) -> Result<(), Fail> {
-    assert_eq!(rt; first_beyond(rt.alloc(), OF_TOKENS)?, None);
-    assert_eq!(rt; first_beyond(rt.alloc(), OF_VARIABLES)?, None);
-    Ok(())
-}
-
-#[test]
-fn limits_of_classes(rt: HostRuntime) -> Result<(), Fail> {
-    assert_eq!(rt; first_beyond(rt.alloc(), OF_CLASSES)?, None);
+fn at_each_limit_and_past_it(rt: HostRuntime) -> Result<(), Fail> {
+    assert_eq!(rt; first_beyond(rt.alloc(), LIMITS)?, None);
     Ok(())
 }
 
@@ -284,25 +277,5 @@ fn the_first_of_several(rt: HostRuntime) -> Result<(), Fail> {
         let source = written(alloc, &row.text, row.count)?;
         assert!(rt; answers(alloc, row.number, source.as_slice())?);
     }
-    Ok(())
-}
-
-// Of a hundred classes the last has 4 times 2 to the 99th bytes, which no register holds; the tenth is refused, A9.
-#[test]
-fn sizes_beyond_registers(rt: HostRuntime) -> Result<(), Fail> {
-    let alloc = rt.alloc();
-    let text = [
-        "int main() { } struct A0 { int n; }; ",
-        "struct A# { A% a; A% b; }; ",
-        "",
-        "",
-        "",
-    ];
-    let mut source = written(alloc, &text, 8)?;
-    source.extend_from_slice(b"struct @A9 { A8 a; A8 b; }; ".as_slice())?;
-    for before in 9..99 {
-        push_piece(&mut source, alloc, "struct A# { A% a; A% b; }; ", before)?;
-    }
-    assert!(rt; answers(alloc, 41, source.as_slice())?);
     Ok(())
 }

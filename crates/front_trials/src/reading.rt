@@ -1,7 +1,6 @@
-// Sources, and why they are refused. A row is the number that answers, or 0 where the source is accepted, and the source. A `@`
-// stands before the token at whose place it is refused, and is no part of it. Numbers and places were worked out by hand.
-use crate::{SourceError, checked};
+// Sources, and why they are refused. A `@` stands before the token at whose place a source is refused, and is no part of it.
 use cxx_ast::program::Checked;
+use cxx_front::{SourceError, checked};
 use std::alloc::{AllocError, Global};
 
 /// The checked program of a source.
@@ -43,14 +42,4 @@ pub fn answers(alloc: Global, number: u8, marked: &[u8]) -> Result<bool, AllocEr
         None => number == 0,
         Some(answer) => answer == (number, place),
     })
-}
-
-/// The number of the first row that has another answer.
-pub fn first_wrong(alloc: Global, rows: &[(u8, &str)]) -> Result<Option<usize>, AllocError> {
-    for (i, (number, marked)) in rows.iter().enumerate() {
-        if !answers(alloc, *number, marked.as_bytes())? {
-            return Ok(Some(i));
-        }
-    }
-    Ok(None)
 }

@@ -1,5 +1,6 @@
 // What names are bound to, worked out by hand: classes and functions by their numbers, a variable among those of its function.
 use crate::reading::program;
+use cxx_ast::declaration::Func;
 use cxx_ast::expression::{Expr, Lvalue};
 use cxx_ast::name::{Bound, Builtin};
 use cxx_ast::program::Checked;
@@ -14,6 +15,9 @@ int h();
 int f(int a, int b);
 int main() { A x(g); { int y = f(1, x.n); write_int(y); } int z = x.get(); return z; }
 int f(int, int b) { return b; }";
+
+// `std::bad_exception` is a class of each program.
+const WITHOUT_CLASSES: &str = "int f() { } int g = 7; int main() { }";
 
 fn push_path(bounds: &mut Vec<Bound>, lvalue: &Lvalue) -> Result<(), AllocError> {
     for name in &lvalue.path {
@@ -89,6 +93,30 @@ static IN_MAIN: &[Bound] = &[
     Bound::Local(2),
 ];
 
+fn push_initialisers(bounds: &mut Vec<Bound>, constructor: &Func) -> Result<(), AllocError> {
+    for initialiser in &constructor.inits {
+        bounds.push(initialiser.name.bound)?;
+        for arg in &initialiser.args {
+            push_expression(bounds, arg)?;
+        }
+    }
+    Ok(())
+}
+
+// The bounds in the initialisers of all constructors.
+fn bounds_of_initialisers(alloc: Global, checked: &Checked) -> Result<Vec<Bound>, AllocError> {
+    let mut bounds = Vec::new(alloc);
+    for class in &checked.classes {
+        for f in &class.funcs {
+            push_initialisers(&mut bounds, f)?;
+        }
+    }
+    Ok(bounds)
+}
+
+// `A(int n) : k(n)` names the first data member of `A`, and takes its parameter.
+static IN_INITIALISERS: &[Bound] = &[Bound::Field(2, 0), Bound::Local(0)];
+
 #[test]
 fn what_names_stand_for(rt: HostRuntime) -> Result<(), Fail> {
     let alloc = rt.alloc();
@@ -102,28 +130,14 @@ fn what_names_stand_for(rt: HostRuntime) -> Result<(), Fail> {
         bounds_in(alloc, &checked, 1)?.as_slice(),
         [Bound::Local(1)].as_slice()
     );
-    Ok(())
-}
-
-// The initialiser of the only constructor names the first data member and takes the parameter.
-#[test]
-fn what_initialisers_name(rt: HostRuntime) -> Result<(), Fail> {
-    let alloc = rt.alloc();
-    let checked = program(alloc, SOURCE.as_bytes()).map_err(|_| AllocError)?;
-    let mut bounds = Vec::new(alloc);
-    for class in &checked.classes {
-        for f in &class.funcs {
-            for i in &f.inits {
-                bounds.push(i.name.bound)?;
-                for arg in &i.args {
-                    push_expression(&mut bounds, arg)?;
-                }
-            }
-        }
-    }
     assert_eq!(rt;
-        bounds.as_slice(),
-        [Bound::Field(2, 0), Bound::Local(0)].as_slice()
+        bounds_of_initialisers(alloc, &checked)?.as_slice(),
+        IN_INITIALISERS
     );
+    let checked = program(alloc, WITHOUT_CLASSES.as_bytes()).map_err(|_| AllocError)?;
+    assert_eq!(rt; checked.main, 1);
+    assert_eq!(rt; checked.functions.len(), 2);
+    assert_eq!(rt; checked.globals.as_slice(), [7].as_slice());
+    assert_eq!(rt; checked.classes.len(), 1);
     Ok(())
 }

@@ -1,0 +1,27 @@
+-- What the calls of laws state of checked programs.
+use Rattle.std.specs.Prelude.{◌≡◌, ◌<◌, ◌≤◌, length}
+use Rattle.std.specs.List.{AllByRecursion}
+use Rattle.cxx_ast.specs.Checked.{IsChecked}
+use Rattle.cxx_ast.specs.Plain.{Checked}
+use Rattle.linear_forms.specs.Linear.{FunctionCode}
+use Rattle.flight_homes.specs.Filters.{bytes_of_lists}
+use Rattle.machine_simulation.specs.Plan.{Plan}
+use Rattle.machine_raises.specs.Pads.{PadsArePlain, FiltersAreInts}
+use Rattle.source_bounds.specs.Compiled.{unit_for}
+
+-- few types and short lists in the tables of a function
+pub record HasFew (g : FunctionCode) : Type 0 where
+  pub types : length g.types < 8192
+  pub lists : bytes_of_lists g.lists ≤ 8192
+
+-- so in each function of a checked program
+abbrev pub CheckedTablesAreFew : Type 0
+CheckedTablesAreFew = (p : Checked) → IsChecked p → AllByRecursion HasFew (unit_for p).functions
+
+-- wherever the unit of a checked program stands, each pad's slots are no variables of its function
+abbrev pub CheckedPadsArePlain : Type 0
+CheckedPadsArePlain = (p : Checked) → IsChecked p → (q : Plan) → q.unit ≡ unit_for p → PadsArePlain q
+
+-- and the filters of each chain are ints
+abbrev pub CheckedFiltersAreInts : Type 0
+CheckedFiltersAreInts = (p : Checked) → IsChecked p → (q : Plan) → q.unit ≡ unit_for p → FiltersAreInts q
