@@ -6,14 +6,14 @@ an order that jumps about. Each with 1, 32 and 1,024 exceptions live. What it bu
 repository with the crate and a program over it, which `rt run` proves and builds.
 """
 import pathlib
-import shutil
 import statistics
 import subprocess
 import sys
 import tempfile
 import time
 
-TOP = pathlib.Path(__file__).resolve().parent.parent
+from building import rattle_program
+
 ROUNDS = 20_000_000
 
 PROGRAM = """//! Works on a stack of caught exceptions: `pairs LIVE ROUNDS` or `swaps LIVE ROUNDS`.
@@ -148,11 +148,7 @@ int main(int argc, char **argv) {
 
 def built(folder):
     """The program, and its peer in C."""
-    crate = folder / "crates/caught_bench"
-    shutil.copytree(TOP / "crates/caught_stack", folder / "crates/caught_stack", ignore=shutil.ignore_patterns("out"))
-    (crate / "src").mkdir(parents=True)
-    (crate / "src/main.rt").write_text(PROGRAM)
-    (folder / "crates.txt").write_text("caught_stack:\ncaught_bench: caught_stack\n")
+    crate = rattle_program(folder, "caught_bench", PROGRAM, ["caught_stack"])
     done = subprocess.run(["rt", "run", "--", "1", "1", "10"], cwd=crate, capture_output=True, text=True)
     program = crate / "out/caught_bench"
     if not program.exists():

@@ -5,13 +5,11 @@ Both programs write the same numbers and read them again and again. What they do
 reads once, and taken off; the least time of some runs counts. What is built lies in a folder of its own.
 """
 import pathlib
-import shutil
 import sys
 import tempfile
 
-from building import built_c, rounds_per_second, run
+from building import built_c, rattle_program, rounds_per_second, run
 
-TOP = pathlib.Path(__file__).resolve().parent.parent
 NUMBERS, MANY, RUNS = 1 << 20, 201, 7
 KINDS = ["unsigned", "signed"]
 SIZES = [("small", "1 or 2 bytes"), ("any", "1 to 10 bytes")]
@@ -159,12 +157,7 @@ int main(int argc, char **argv) {
 
 
 def build_rattle(work, peer):
-    crate = work / "crates/leb_reader"
-    (crate / "src").mkdir(parents=True)
-    (crate / "src/main.rt").write_text(PROGRAM.replace("@NUMBERS@", str(NUMBERS)))
-    shutil.copytree(TOP / "crates/eh_bytes", work / "crates/eh_bytes")
-    shutil.copy(TOP / "HANDLES", work)
-    (work / "crates.txt").write_text("eh_bytes: thiserror\nleb_reader: anyhow eh_bytes\n")
+    crate = rattle_program(work, "leb_reader", PROGRAM.replace("@NUMBERS@", str(NUMBERS)), ["anyhow", "eh_bytes"])
     (crate / "stdout").write_text(run([peer, "unsigned", "any", "1"]))
     run(["rt", "run"], cwd=crate)
     return crate / "out/leb_reader"

@@ -209,7 +209,7 @@ fn outcome_of(alloc: Global, trial: &Trial, sink: &mut MemSink) -> Result<Outcom
 fn refused_as(error: ImageError) -> Outcome {
     match error {
         ImageError::NoMemory => Outcome::NoMemory,
-        ImageError::Refused { number, place, .. } => Outcome::Refused(number, place),
+        ImageError::Refused { reason, place, .. } => Outcome::Refused(reason.number(), place),
     }
 }
 
