@@ -33,7 +33,7 @@ def processes():
 
 
 def kind_of(command, folder):
-    if "rt-edits" in folder or any("rt-edits" in word for word in command):
+    if "rt-edit" in folder:
         return "edits"
     return "tests" if "--test" in command else "proof"
 
