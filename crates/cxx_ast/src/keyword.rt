@@ -82,6 +82,15 @@ pub enum Keyword {
     Std,
 }
 
+// A match of a keyword that gives each its spelling.
+macro_rules! spelled {
+    ($keyword:tt: $($name:ident $spelling:literal),* $(,)?) => {
+        match $keyword {
+            $(Keyword::$name => $spelling,)*
+        }
+    };
+}
+
 impl Keyword {
     /// Each word once.
     pub const ALL: [Keyword; 75] = [
@@ -167,82 +176,23 @@ impl Keyword {
     pub fn spelling(self) -> &'static str
         ensures { result.now ≡ spelling self }
     {
-        match self {
-            Keyword::Asm => "asm",
-            Keyword::Auto => "auto",
-            Keyword::Bool => "bool",
-            Keyword::Break => "break",
-            Keyword::Case => "case",
-            Keyword::Catch => "catch",
-            Keyword::Char => "char",
-            Keyword::Class => "class",
-            Keyword::Const => "const",
-            Keyword::ConstCast => "const_cast",
-            Keyword::Continue => "continue",
-            Keyword::Default => "default",
-            Keyword::Delete => "delete",
-            Keyword::Do => "do",
-            Keyword::Double => "double",
-            Keyword::DynamicCast => "dynamic_cast",
-            Keyword::Else => "else",
-            Keyword::Enum => "enum",
-            Keyword::Explicit => "explicit",
-            Keyword::Export => "export",
-            Keyword::Extern => "extern",
-            Keyword::False => "false",
-            Keyword::Float => "float",
-            Keyword::For => "for",
-            Keyword::Friend => "friend",
-            Keyword::Goto => "goto",
-            Keyword::If => "if",
-            Keyword::Inline => "inline",
-            Keyword::Int => "int",
-            Keyword::Long => "long",
-            Keyword::Mutable => "mutable",
-            Keyword::Namespace => "namespace",
-            Keyword::New => "new",
-            Keyword::Operator => "operator",
-            Keyword::Private => "private",
-            Keyword::Protected => "protected",
-            Keyword::Public => "public",
-            Keyword::Register => "register",
-            Keyword::ReinterpretCast => "reinterpret_cast",
-            Keyword::Return => "return",
-            Keyword::Short => "short",
-            Keyword::Signed => "signed",
-            Keyword::Sizeof => "sizeof",
-            Keyword::Static => "static",
-            Keyword::StaticCast => "static_cast",
-            Keyword::Struct => "struct",
-            Keyword::Switch => "switch",
-            Keyword::Template => "template",
-            Keyword::This => "this",
-            Keyword::Throw => "throw",
-            Keyword::True => "true",
-            Keyword::Try => "try",
-            Keyword::Typedef => "typedef",
-            Keyword::Typeid => "typeid",
-            Keyword::Typename => "typename",
-            Keyword::Union => "union",
-            Keyword::Unsigned => "unsigned",
-            Keyword::Using => "using",
-            Keyword::Virtual => "virtual",
-            Keyword::Void => "void",
-            Keyword::Volatile => "volatile",
-            Keyword::WcharT => "wchar_t",
-            Keyword::While => "while",
-            Keyword::And => "and",
-            Keyword::AndEq => "and_eq",
-            Keyword::Bitand => "bitand",
-            Keyword::Bitor => "bitor",
-            Keyword::Compl => "compl",
-            Keyword::Not => "not",
-            Keyword::NotEq => "not_eq",
-            Keyword::Or => "or",
-            Keyword::OrEq => "or_eq",
-            Keyword::Xor => "xor",
-            Keyword::XorEq => "xor_eq",
-            Keyword::Std => "std",
+        spelled! { self:
+            Asm "asm", Auto "auto", Bool "bool", Break "break", Case "case", Catch "catch",
+            Char "char", Class "class", Const "const", ConstCast "const_cast", Continue "continue",
+            Default "default", Delete "delete", Do "do", Double "double",
+            DynamicCast "dynamic_cast", Else "else", Enum "enum", Explicit "explicit",
+            Export "export", Extern "extern", False "false", Float "float", For "for",
+            Friend "friend", Goto "goto", If "if", Inline "inline", Int "int", Long "long",
+            Mutable "mutable", Namespace "namespace", New "new", Operator "operator",
+            Private "private", Protected "protected", Public "public", Register "register",
+            ReinterpretCast "reinterpret_cast", Return "return", Short "short", Signed "signed",
+            Sizeof "sizeof", Static "static", StaticCast "static_cast", Struct "struct",
+            Switch "switch", Template "template", This "this", Throw "throw", True "true",
+            Try "try", Typedef "typedef", Typeid "typeid", Typename "typename", Union "union",
+            Unsigned "unsigned", Using "using", Virtual "virtual", Void "void", Volatile "volatile",
+            WcharT "wchar_t", While "while", And "and", AndEq "and_eq", Bitand "bitand",
+            Bitor "bitor", Compl "compl", Not "not", NotEq "not_eq", Or "or", OrEq "or_eq",
+            Xor "xor", XorEq "xor_eq", Std "std",
         }
     }
 }

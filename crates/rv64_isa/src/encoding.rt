@@ -113,11 +113,36 @@ fn shift_w(funct3: u32, funct7: u32, rd: Register, rs1: Register, shamt: Shift5)
     format_r(0x1b, funct3, funct7, rd, rs1, shamt.get())
 }
 
+// A match of an instruction that gives each its word: those of two registers by funct3 and funct7, the others as they stand.
+macro_rules! words {
+    (
+        $instr:ident:
+        register { $($name:ident $funct3:literal $funct7:literal),* $(,)? }
+        register_w { $($name_w:ident $funct3_w:literal $funct7_w:literal),* $(,)? }
+        $($other:pat => $word:expr),* $(,)?
+    ) => {
+        match $instr {
+            $(Instr::$name(rd, rs1, rs2) => register($funct3, $funct7, rd, rs1, rs2),)*
+            $(Instr::$name_w(rd, rs1, rs2) => register_w($funct3_w, $funct7_w, rd, rs1, rs2),)*
+            $($other => $word,)*
+        }
+    };
+}
+
 // The word that the listing has for the instruction.
 fn word(instr: Instr) -> u32
     ensures { IsListed instr result }
 {
-    match instr {
+    words! { instr:
+        register {
+            Add 0 0x00, Sub 0 0x20, Sll 1 0x00, Slt 2 0x00, Sltu 3 0x00, Xor 4 0x00, Srl 5 0x00,
+            Sra 5 0x20, Or 6 0x00, And 7 0x00, Mul 0 0x01, Mulh 1 0x01, Mulhsu 2 0x01, Mulhu 3 0x01,
+            Div 4 0x01, Divu 5 0x01, Rem 6 0x01, Remu 7 0x01,
+        }
+        register_w {
+            Addw 0 0x00, Subw 0 0x20, Sllw 1 0x00, Srlw 5 0x00, Sraw 5 0x20, Mulw 0 0x01,
+            Divw 4 0x01, Divuw 5 0x01, Remw 6 0x01, Remuw 7 0x01,
+        }
         Instr::Lui(rd, imm) => format_u(0x37, rd, imm),
         Instr::Auipc(rd, imm) => format_u(0x17, rd, imm),
         Instr::Jal(rd, offset) => format_j(rd, offset),
@@ -148,41 +173,13 @@ fn word(instr: Instr) -> u32
         Instr::Slli(rd, rs1, shamt) => format_shift(1, 0x00, rd, rs1, shamt),
         Instr::Srli(rd, rs1, shamt) => format_shift(5, 0x00, rd, rs1, shamt),
         Instr::Srai(rd, rs1, shamt) => format_shift(5, 0x10, rd, rs1, shamt),
-        Instr::Add(rd, rs1, rs2) => register(0, 0x00, rd, rs1, rs2),
-        Instr::Sub(rd, rs1, rs2) => register(0, 0x20, rd, rs1, rs2),
-        Instr::Sll(rd, rs1, rs2) => register(1, 0x00, rd, rs1, rs2),
-        Instr::Slt(rd, rs1, rs2) => register(2, 0x00, rd, rs1, rs2),
-        Instr::Sltu(rd, rs1, rs2) => register(3, 0x00, rd, rs1, rs2),
-        Instr::Xor(rd, rs1, rs2) => register(4, 0x00, rd, rs1, rs2),
-        Instr::Srl(rd, rs1, rs2) => register(5, 0x00, rd, rs1, rs2),
-        Instr::Sra(rd, rs1, rs2) => register(5, 0x20, rd, rs1, rs2),
-        Instr::Or(rd, rs1, rs2) => register(6, 0x00, rd, rs1, rs2),
-        Instr::And(rd, rs1, rs2) => register(7, 0x00, rd, rs1, rs2),
         Instr::Addiw(rd, rs1, imm) => format_i(0x1b, 0, rd, rs1, imm),
         Instr::Slliw(rd, rs1, shamt) => shift_w(1, 0x00, rd, rs1, shamt),
         Instr::Srliw(rd, rs1, shamt) => shift_w(5, 0x00, rd, rs1, shamt),
         Instr::Sraiw(rd, rs1, shamt) => shift_w(5, 0x20, rd, rs1, shamt),
-        Instr::Addw(rd, rs1, rs2) => register_w(0, 0x00, rd, rs1, rs2),
-        Instr::Subw(rd, rs1, rs2) => register_w(0, 0x20, rd, rs1, rs2),
-        Instr::Sllw(rd, rs1, rs2) => register_w(1, 0x00, rd, rs1, rs2),
-        Instr::Srlw(rd, rs1, rs2) => register_w(5, 0x00, rd, rs1, rs2),
-        Instr::Sraw(rd, rs1, rs2) => register_w(5, 0x20, rd, rs1, rs2),
         Instr::Fence(rd, rs1, imm) => format_i(0x0f, 0, rd, rs1, imm),
         Instr::Ecall => 0x73,
         Instr::Ebreak => 0x10_0073,
-        Instr::Mul(rd, rs1, rs2) => register(0, 0x01, rd, rs1, rs2),
-        Instr::Mulh(rd, rs1, rs2) => register(1, 0x01, rd, rs1, rs2),
-        Instr::Mulhsu(rd, rs1, rs2) => register(2, 0x01, rd, rs1, rs2),
-        Instr::Mulhu(rd, rs1, rs2) => register(3, 0x01, rd, rs1, rs2),
-        Instr::Div(rd, rs1, rs2) => register(4, 0x01, rd, rs1, rs2),
-        Instr::Divu(rd, rs1, rs2) => register(5, 0x01, rd, rs1, rs2),
-        Instr::Rem(rd, rs1, rs2) => register(6, 0x01, rd, rs1, rs2),
-        Instr::Remu(rd, rs1, rs2) => register(7, 0x01, rd, rs1, rs2),
-        Instr::Mulw(rd, rs1, rs2) => register_w(0, 0x01, rd, rs1, rs2),
-        Instr::Divw(rd, rs1, rs2) => register_w(4, 0x01, rd, rs1, rs2),
-        Instr::Divuw(rd, rs1, rs2) => register_w(5, 0x01, rd, rs1, rs2),
-        Instr::Remw(rd, rs1, rs2) => register_w(6, 0x01, rd, rs1, rs2),
-        Instr::Remuw(rd, rs1, rs2) => register_w(7, 0x01, rd, rs1, rs2),
     }
 }
 

@@ -62,6 +62,22 @@ fn is_aligned(address: u64, size: Size) -> bool
     address % size.bytes() == 0
 }
 
+// A match of an instruction that does what each does: those of two registers by their operation, the others as they stand.
+macro_rules! executed {
+    (
+        $hart:ident, $instr:ident:
+        registers { $($name:ident $operation:ident),* $(,)? }
+        $($other:pat => $step:expr),* $(,)?
+    ) => {
+        match $instr {
+            $(Instr::$name(rd, rs1, rs2) => {
+                $hart.set(rd, op::$operation($hart.x(rs1), $hart.x(rs2)))
+            })*
+            $($other => $step,)*
+        }
+    };
+}
+
 impl Machine {
     #[inline(always)]
     fn x(&self, register: Register) -> u64
@@ -188,7 +204,13 @@ impl Machine {
     fn execute(&mut self, instr: Instr) -> Step
         ensures { (result, self.new) ≡ done instr self.old }
     {
-        match instr {
+        executed! { self, instr:
+            registers {
+                Add add, Sub sub, Sll sll, Slt slt, Sltu sltu, Xor xor, Srl srl, Sra sra, Or or,
+                And and, Addw addw, Subw subw, Sllw sllw, Srlw srlw, Sraw sraw, Mul mul, Mulh mulh,
+                Mulhsu mulhsu, Mulhu mulhu, Div div, Divu divu, Rem rem, Remu remu, Mulw mulw,
+                Divw divw, Divuw divuw, Remw remw, Remuw remuw,
+            }
             Instr::Lui(rd, imm) => self.set(rd, imm.extended()),
             Instr::Auipc(rd, imm) => self.set(rd, op::add(self.pc(), imm.extended())),
             Instr::Jal(rd, offset) => self.jump(rd, op::add(self.pc(), offset.distance())),
@@ -219,41 +241,13 @@ impl Machine {
             Instr::Slli(rd, rs1, shamt) => self.set(rd, op::sll(self.x(rs1), shamt.get().into())),
             Instr::Srli(rd, rs1, shamt) => self.set(rd, op::srl(self.x(rs1), shamt.get().into())),
             Instr::Srai(rd, rs1, shamt) => self.set(rd, op::sra(self.x(rs1), shamt.get().into())),
-            Instr::Add(rd, rs1, rs2) => self.set(rd, op::add(self.x(rs1), self.x(rs2))),
-            Instr::Sub(rd, rs1, rs2) => self.set(rd, op::sub(self.x(rs1), self.x(rs2))),
-            Instr::Sll(rd, rs1, rs2) => self.set(rd, op::sll(self.x(rs1), self.x(rs2))),
-            Instr::Slt(rd, rs1, rs2) => self.set(rd, op::slt(self.x(rs1), self.x(rs2))),
-            Instr::Sltu(rd, rs1, rs2) => self.set(rd, op::sltu(self.x(rs1), self.x(rs2))),
-            Instr::Xor(rd, rs1, rs2) => self.set(rd, op::xor(self.x(rs1), self.x(rs2))),
-            Instr::Srl(rd, rs1, rs2) => self.set(rd, op::srl(self.x(rs1), self.x(rs2))),
-            Instr::Sra(rd, rs1, rs2) => self.set(rd, op::sra(self.x(rs1), self.x(rs2))),
-            Instr::Or(rd, rs1, rs2) => self.set(rd, op::or(self.x(rs1), self.x(rs2))),
-            Instr::And(rd, rs1, rs2) => self.set(rd, op::and(self.x(rs1), self.x(rs2))),
             Instr::Addiw(rd, rs1, imm) => self.set(rd, op::addw(self.x(rs1), imm.extended())),
             Instr::Slliw(rd, rs1, shamt) => self.set(rd, op::sllw(self.x(rs1), shamt.get().into())),
             Instr::Srliw(rd, rs1, shamt) => self.set(rd, op::srlw(self.x(rs1), shamt.get().into())),
             Instr::Sraiw(rd, rs1, shamt) => self.set(rd, op::sraw(self.x(rs1), shamt.get().into())),
-            Instr::Addw(rd, rs1, rs2) => self.set(rd, op::addw(self.x(rs1), self.x(rs2))),
-            Instr::Subw(rd, rs1, rs2) => self.set(rd, op::subw(self.x(rs1), self.x(rs2))),
-            Instr::Sllw(rd, rs1, rs2) => self.set(rd, op::sllw(self.x(rs1), self.x(rs2))),
-            Instr::Srlw(rd, rs1, rs2) => self.set(rd, op::srlw(self.x(rs1), self.x(rs2))),
-            Instr::Sraw(rd, rs1, rs2) => self.set(rd, op::sraw(self.x(rs1), self.x(rs2))),
             Instr::Fence(_, _, _) => self.pass(),
             Instr::Ecall => self.call(),
             Instr::Ebreak => Step::Fault(FaultKind::Break),
-            Instr::Mul(rd, rs1, rs2) => self.set(rd, op::mul(self.x(rs1), self.x(rs2))),
-            Instr::Mulh(rd, rs1, rs2) => self.set(rd, op::mulh(self.x(rs1), self.x(rs2))),
-            Instr::Mulhsu(rd, rs1, rs2) => self.set(rd, op::mulhsu(self.x(rs1), self.x(rs2))),
-            Instr::Mulhu(rd, rs1, rs2) => self.set(rd, op::mulhu(self.x(rs1), self.x(rs2))),
-            Instr::Div(rd, rs1, rs2) => self.set(rd, op::div(self.x(rs1), self.x(rs2))),
-            Instr::Divu(rd, rs1, rs2) => self.set(rd, op::divu(self.x(rs1), self.x(rs2))),
-            Instr::Rem(rd, rs1, rs2) => self.set(rd, op::rem(self.x(rs1), self.x(rs2))),
-            Instr::Remu(rd, rs1, rs2) => self.set(rd, op::remu(self.x(rs1), self.x(rs2))),
-            Instr::Mulw(rd, rs1, rs2) => self.set(rd, op::mulw(self.x(rs1), self.x(rs2))),
-            Instr::Divw(rd, rs1, rs2) => self.set(rd, op::divw(self.x(rs1), self.x(rs2))),
-            Instr::Divuw(rd, rs1, rs2) => self.set(rd, op::divuw(self.x(rs1), self.x(rs2))),
-            Instr::Remw(rd, rs1, rs2) => self.set(rd, op::remw(self.x(rs1), self.x(rs2))),
-            Instr::Remuw(rd, rs1, rs2) => self.set(rd, op::remuw(self.x(rs1), self.x(rs2))),
         }
     }
 
