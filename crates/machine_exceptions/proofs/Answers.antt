@@ -77,7 +77,7 @@ uncaught_answers made image p n st w wants g here m h ec =
     let is : value ≡ extended (truth (some_travel st.world.uncaught)) = ap (λ k. if k == 0 then 0 else 1) r.exceptions.uncaught ∙ flag_of (st.world.uncaught == 0) in
     record {
       after = counted end;
-      turn = made.goes_on image 10 ec.at end ec.behind ec.calls ec.asks effect;
+      turn = made.goes_on image 10 ec.at end ec.behind ec.calls ec.asks effect refl;
       pc = refl;
       memory = refl;
       registers = set_length ec.behind.regs 10 value ∙ ec.registers;
@@ -147,7 +147,7 @@ terminate_set_run places turns made image p n m st next w o h at calls known =
     let given : argument t 10 ≡ address (setting p m).ground (first_word p m) = ec.kept a0 (λ d. absurd (omega (arith, d))) ∙ first.is in
     record {
       after = counted end;
-      turn = made.goes_on image 11 ec.at end ec.behind ec.calls ec.asks effect;
+      turn = made.goes_on image 11 ec.at end ec.behind ec.calls ec.asks effect refl;
       pc = refl;
       memory = refl;
       registers = ec.registers;
@@ -194,7 +194,7 @@ unexpected_set_run places turns made image p n m st next w o h at calls known =
     let given : argument t 10 ≡ address (setting p m).ground (first_word p m) = ec.kept a0 (λ d. absurd (omega (arith, d))) ∙ first.is in
     record {
       after = counted end;
-      turn = made.goes_on image 12 ec.at end ec.behind ec.calls ec.asks effect;
+      turn = made.goes_on image 12 ec.at end ec.behind ec.calls ec.asks effect refl;
       pc = refl;
       memory = refl;
       registers = ec.registers;

@@ -62,7 +62,7 @@ foreign_left catches made image u base o k token e w enough stands aligned small
     let t : World = asked h.behind v1 in
     let next : World = cleaned_world o k token e t in
     let v2 : World = counted next in
-    let two : Turns image 1 v1 v2 items = made.goes_on image 7 v1 next h.behind h.calls h.asks (λ wish. cleaned_is image wish o k token e w.exceptions t h.kept.runtime.exceptions newest kind by) in
+    let two : Turns image 1 v1 v2 items = made.goes_on image 7 v1 next h.behind h.calls h.asks (λ wish. cleaned_is image wish o k token e w.exceptions t h.kept.runtime.exceptions newest kind by) refl in
     let s2 : State = v2.hart in
     let regs : List ℕ = h.behind.regs in
     let once : List ℕ = with_reg regs 10 0 in

@@ -13,13 +13,13 @@ use Rattle.machine_forms.specs.PlaceCode.{slot_loaded}
 use Rattle.machine_forms.specs.RuntimeCall.{runtime_call}
 use Rattle.machine_pieces.specs.Standing.{Ground, address, PieceAt, PiecesAt}
 use Rattle.machine_pieces.specs.Going.{Goes, Computes}
-use Rattle.machine_pieces.specs.Turning.{Turns, SameRuntime}
+use Rattle.machine_pieces.specs.Turning.{ForcedTurns, Turns, SameRuntime}
 use Rattle.machine_pieces.specs.Laws.{CallsAreTurns}
 use Rattle.machine_pieces.proofs.Stepping.{steps_then}
 use Rattle.machine_pieces.proofs.Going.{kept_low}
 use Rattle.machine_pieces.proofs.Places.{through_address}
 use Rattle.machine_pieces.proofs.Values.{code_after}
-use Rattle.machine_pieces.proofs.Turning.{turns_then, executes_turns}
+use Rattle.machine_pieces.proofs.Turning.{as_forced, forced_then, turns_then, executes_turns}
 use Rattle.machine_stubs.specs.Calls.{asked, CallsAreMade}
 use Rattle.linear_forms.specs.Activation.{State as LinearState}
 use Rattle.machine_simulation.specs.Plan.{Plan, shape, slot_kinds, setting}
@@ -75,6 +75,11 @@ object_loaded p n st w back here s e h holds code at =
 
 -- the runtime call goes on to one world
 pub call_made : CallsAreMade → (image : Image) (g : Ground) (here words number : ℕ) (w : abi.World) (m : State) (ec : AtEcall image g here words number w m) (next : abi.World) →
-    ((wish : ℕ) → call_effect number image wish (asked ec.behind ec.at) ≡ abi.goes next) → Turns image (ec.turns + 1) w (counted next) next.shown
-call_made made image g here words number w m ec next effect =
-    turns_then image ec.turns 1 w ec.at (counted next) [] next.shown ec.runs (made.goes_on image number ec.at next ec.behind ec.calls ec.asks effect)
+    ((wish : ℕ) → call_effect number image wish (asked ec.behind ec.at) ≡ abi.goes next) → next.unwinding ≡ ec.at.unwinding → Turns image (ec.turns + 1) w (counted next) next.shown
+call_made made image g here words number w m ec next effect kept =
+    turns_then image ec.turns 1 w ec.at (counted next) [] next.shown ec.runs (made.goes_on image number ec.at next ec.behind ec.calls ec.asks effect kept)
+
+pub call_unwinds : CallsAreMade → (image : Image) (g : Ground) (here words number : ℕ) (w : abi.World) (m : State) (ec : AtEcall image g here words number w m) (next : abi.World) →
+    ((wish : ℕ) → call_effect number image wish (asked ec.behind ec.at) ≡ abi.goes next) → ForcedTurns image (ec.turns + 1) w (counted next) next.shown
+call_unwinds made image g here words number w m ec next effect =
+    forced_then image ec.turns 1 w ec.at (counted next) [] next.shown (as_forced image ec.turns w ec.at [] ec.runs) (made.unwinds image number ec.at next ec.behind ec.calls ec.asks effect)

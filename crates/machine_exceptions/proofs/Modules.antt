@@ -183,7 +183,7 @@ module_run places turns made image p n st next w o wants e k z replies h at call
     module_is image wish t ∙ module_answers image wish k z replies t value.int given (omega (arith, few, ap length r.replies)) (ap (answer_of k) r.replies ∙ answers) in
     record {
       after = counted end;
-      turn = made.goes_on image 14 ec.at end ec.behind ec.calls ec.asks effect;
+      turn = made.goes_on image 14 ec.at end ec.behind ec.calls ec.asks effect refl;
       pc = refl;
       memory = refl;
       registers = set_length ec.behind.regs 10 (extended z) ∙ ec.registers;

@@ -21,11 +21,11 @@ use Rattle.machine_forms.specs.RuntimeCall.{runtime_call}
 use Rattle.machine_forms.specs.LinearCode.{linear_code}
 use Rattle.machine_forms.specs.Routine.{op_word}
 use Rattle.machine_pieces.specs.Standing.{Ground, address, PiecesAt}
-use Rattle.machine_pieces.specs.Turning.{Turns, Reaches}
+use Rattle.machine_pieces.specs.Turning.{ForcedTurns, Turns, ForcedReaches, Reaches}
 use Rattle.machine_pieces.specs.Laws.{CallsAreTurns}
 use Rattle.machine_pieces.proofs.Fetching.{pieces_split}
 use Rattle.machine_pieces.proofs.Going.{goes_none}
-use Rattle.machine_pieces.proofs.Turning.{turns_then}
+use Rattle.machine_pieces.proofs.Turning.{as_forced, forced_then}
 use Rattle.machine_stubs.specs.Stretches.{StubAt, stub_word}
 use Rattle.machine_stubs.specs.Calls.{asked}
 use Rattle.machine_stubs.specs.Terminates as stubs
@@ -159,10 +159,10 @@ pub record AtHandler (image : Image) (p : Plan) (n m : ℕ) (st : LinearState) (
   pub runtime : RuntimeMatches p st.frames st.world to
   pub end : x to.hart sp + open_bytes p (st.top ∷ st.frames) ≡ stack_end
 
-pub handler_from : CallsTerminate → (image : Image) (p : Plan) (n m : ℕ) (st : LinearState) (w : abi.World) (back : ℕ) (c : AtHandler image p n m st w back) → st.top.function ≡ compiled n → st.world.ending ≡ false → p.hidden ≡ 0 →
+pub handler_reached : CallsTerminate → (image : Image) (p : Plan) (n m : ℕ) (st : LinearState) (w : abi.World) (back : ℕ) (c : AtHandler image p n m st w back) → st.top.function ≡ compiled n → st.world.ending ≡ false → p.hidden ≡ 0 →
     let active = waiting_terminate m ∷ st.top ∷ st.frames in open_bytes p active + (shape p m).size + 0x1000 ≤ 0x100_0000 →
-    Reaches image (c.turns + 11) w c.to.shown (λ u. Matches (opened p m st.world.calls (frame_for p m active)) (in_handler p m st) u)
-handler_from laws image p n m st w back c callee quiet hidden fits =
+    ForcedReaches image (c.turns + 11) w c.to.shown (λ u. Matches (opened p m st.world.calls (frame_for p m active)) (in_handler p m st) u × (u.unwinding ≡ c.to.unwinding))
+handler_reached laws image p n m st w back c callee quiet hidden fits =
     let v : World = st.world in
     let ve : World = ending_world v in
     let active : List Activation = waiting_terminate m ∷ st.top ∷ st.frames in
@@ -172,7 +172,7 @@ handler_from laws image p n m st w back c callee quiet hidden fits =
     let code = (c.memory.unit.functions m c.known.1).0 in
     let even = even_base p t.hart.memory c.memory.unit in
     let calls = subst (λ k. stubs.Terminates image c.number k c.at t) c.known.0 c.calls in
-    let come = laws.calls_the_handler image p.unit p.base c.number first c.at t calls (c.runtime.terminating ∙ quiet) c.may (λ zero. absurd (omega (arith, zero))) (omega (arith, even)) (omega (arith, code.word.below)) in
+    let come = laws.unwinds_to_the_handler image p.unit p.base c.number first c.at t calls (c.runtime.terminating ∙ quiet) c.may (λ zero. absurd (omega (arith, zero))) (omega (arith, even)) (omega (arith, code.word.below)) in
     let v2 : abi.World = come.after in
     let ad = come.holds in
     let stack : ℕ = x t.hart sp in
@@ -195,21 +195,32 @@ handler_from laws image p n m st w back c callee quiet hidden fits =
     let to : LinearState = in_handler p m st in
     let stack3 : x v3.hart sp ≡ frame_low = entered.stack ∙ omega arith in
     let six : op_word (routine p m) 0 ≡ 6 = refl in
-    subst (λ a. Reaches image (c.turns + 11) w t.shown (λ u. Matches (opened p m v.calls a) to u)) low_is (record {
+    subst (λ a. ForcedReaches image (c.turns + 11) w t.shown (λ u. Matches (opened p m v.calls a) to u × (u.unwinding ≡ t.unwinding))) low_is (record {
       turns = c.turns + come.turns + 4;
       few = omega (arith, come.few);
       after = v3;
-      runs = subst (Turns image (c.turns + come.turns + 4) w v3) (append-nil t.shown) (turns_then image (c.turns + come.turns) 4 w v2 v3 t.shown [] (turns_then image c.turns come.turns w c.at v2 [] t.shown c.runs come.runs) entered.runs);
-      holds = record {
-        number = m;
-        back = stub_word p.base terminating 6;
-        runs = refl;
-        registers = entered.registers;
-        pc = entered.pc ∙ omega (arith, six);
-        memory = subst (λ a. MemoryMatches q m to.top.frame to.frames to.world v3.hart.memory a (stub_word p.base terminating 6)) (sym stack3) all;
-        runtime = runtime3;
-      };
+      runs = subst (ForcedTurns image (c.turns + come.turns + 4) w v3) (append-nil t.shown)
+          (forced_then image (c.turns + come.turns) 4 w v2 v3 t.shown [] (forced_then image c.turns come.turns w c.at v2 [] t.shown (as_forced image c.turns w c.at [] c.runs) come.runs) (as_forced image 4 v2 v3 [] entered.runs));
+      holds = (
+        record {
+          number = m;
+          back = stub_word p.base terminating 6;
+          runs = refl;
+          registers = entered.registers;
+          pc = entered.pc ∙ omega (arith, six);
+          memory = subst (λ a. MemoryMatches q m to.top.frame to.frames to.world v3.hart.memory a (stub_word p.base terminating 6)) (sym stack3) all;
+          runtime = runtime3;
+        },
+        entered.runtime.unwinding ∙ ad.kept.runtime.unwinding,
+      );
     })
+
+pub handler_from : CallsTerminate → (image : Image) (p : Plan) (n m : ℕ) (st : LinearState) (w : abi.World) (back : ℕ) (c : AtHandler image p n m st w back) → st.top.function ≡ compiled n → st.world.ending ≡ false → p.hidden ≡ 0 →
+    let active = waiting_terminate m ∷ st.top ∷ st.frames in open_bytes p active + (shape p m).size + 0x1000 ≤ 0x100_0000 → c.to.unwinding ≡ c.at.unwinding →
+    Reaches image (c.turns + 11) w c.to.shown (λ u. Matches (opened p m st.world.calls (frame_for p m active)) (in_handler p m st) u)
+handler_from laws image p n m st w back c callee quiet hidden fits kept =
+    let reached = handler_reached laws image p n m st w back c callee quiet hidden fits in
+    record { turns = reached.turns; few = reached.few; after = reached.after; runs = record { run = reached.runs.run; unwinding = reached.holds.1 ∙ kept ∙ c.runs.unwinding }; holds = reached.holds.0 }
 
 pub handler_begins : CallsAreTurns → CallsTerminate → (image : Image) (p : Plan) (n m : ℕ) (st : LinearState) (w : abi.World) → Matches p st w → (at : AtTerminating image p n st) → st.world.ending ≡ false →
     st.world.installed.terminate_handler ≡ Some m → p.hidden ≡ 0 → let active = waiting_terminate m ∷ st.top ∷ st.frames in open_bytes p active + (shape p m).size + 0x1000 ≤ 0x100_0000 →
@@ -232,7 +243,7 @@ handler_begins turns laws image p n m st w h at quiet installed hidden fits =
       memory = subst (λ ps. MemoryMatches p n st.top.frame st.frames st.world ps (x c.behind sp) h.back) (sym c.memory) (subst (λ a. MemoryMatches p n st.top.frame st.frames st.world w.hart.memory a h.back) (sym c.stack) stood.memory);
       runtime = record { input = r.input; replies = r.replies; last_number = r.last_number; terminating = r.terminating; exceptions = r.exceptions; plan = r.plan };
       end = ap (λ a. a + open_bytes p (st.top ∷ st.frames)) c.stack ∙ stack_at p n st w h.back stood;
-    }) at.runs quiet hidden fits in
+    }) at.runs quiet hidden fits refl in
     record { turns = from.turns; few = omega (arith, from.few, c.few); after = from.after; runs = from.runs; holds = from.holds }
 
 -- ---- and on the machine for linear code

@@ -15,7 +15,7 @@ use Rattle.machine_forms.specs.PlaceCode.{slot_loaded}
 use Rattle.machine_forms.specs.CallCode.{passed, function_called}
 use Rattle.machine_forms.specs.Routine.{op_word}
 use Rattle.machine_forms.specs.LinearCode.{linear_code}
-use Rattle.machine_pieces.specs.Standing.{Ground}
+use Rattle.machine_pieces.specs.Standing.{address, Ground}
 use Rattle.machine_pieces.specs.Frames.{IntAt, AddressAt, Reached}
 use Rattle.machine_pieces.specs.Turning.{Reaches}
 use Rattle.machine_pieces.proofs.Fetching.{pieces_split, pieces_still}
@@ -41,7 +41,7 @@ unexpected_reached : (p : Plan) (n : ℕ) (memory : List Part) → UnitStands p 
 unexpected_reached p n memory h = record { is = ap pos (omega arith); near = λ here inside. (omega (arith, h.few, inside), omega (arith, h.few, inside)) }
 
 called : (image : Image) (p : Plan) (n o s e : ℕ) (z : ℤ) (st : LinearState) (w : abi.World) (back : ℕ) → Stands p n st w back → AtUnexpected p n o s e z st →
-    Reaches image (length (linear_code (shape p n) (unexpected o s))) w [] (CallsUnexpected p n e back z st)
+    Reaches image (length (linear_code (shape p n) (unexpected o s))) w [] (CallsUnexpected p n o s e back z st)
 called image p n o s e z st w back h at =
     let g : Ground = (setting p n).ground in
     let here : ℕ = first_word p n + op_word (routine p n) st.top.place in
@@ -94,6 +94,7 @@ called image p n o s e z st w back h at =
         pc = ap (λ (u : State). u.pc) ran.hart ∙ call.pc;
         registers = ap (λ (u : State). length u.regs) ran.hart ∙ call.registers;
         returns = omega (arith, same ra, call.back, below, own.next);
+        returns_to = same ra ∙ call.back ∙ ap (address g) (omega arith);
         memory = subst (λ ps. MemoryMatches p n st.top.frame st.frames v ps (x ran.after.hart sp) back) (sym memory)
             (subst (λ a. MemoryMatches p n st.top.frame st.frames v s2.memory a back) (sym stack) held2);
         runtime = runtime_stays p st.frames v w ran.after ran.runtime h.runtime;

@@ -6,9 +6,10 @@ use Rattle.cxa_runtime.specs.Raising.{Image}
 use Rattle.cxa_runtime.specs.Run.{run}
 use Rattle.machine_pieces.specs.Turning.{with_items}
 
--- so many turns lead from a world to another and show items, however many turns follow
+-- so many turns lead from a world to another and show items, however many turns follow, and no forced unwind begins in them
 pub record TurnsFor (image : Image) (pick : ℕ → ℕ) (n : ℕ) (w v : World) (items : List Item) : Type 0 where
   pub run : (k : ℕ) → run image pick (n + k) w ≡ with_items items (run image pick k v)
+  pub unwinding : v.unwinding ≡ w.unwinding
 
 -- the turns that match one step, of an operation of so many words
 pub record MatchedFor (image : Image) (pick : ℕ → ℕ) (words : ℕ) (w : World) (items : List Item) (P : World → Type 0) : Type 0 where

@@ -11,11 +11,13 @@ use Rattle.linear_forms.specs.Machine.{step}
 use Rattle.linear_forms.specs.UnitRun.{code_of}
 use Rattle.machine_forms.specs.Registers.{ra, sp}
 use Rattle.machine_forms.specs.LinearCode.{linear_code}
+use Rattle.machine_forms.specs.Routine.{op_word}
+use Rattle.machine_pieces.specs.Standing.{address}
 use Rattle.machine_pieces.specs.Frames.{IntAt, AddressAt}
 use Rattle.machine_pieces.specs.Turning.{Reaches}
 use Rattle.machine_stubs.specs.Stretches.{stub_word}
 use Rattle.machine_stubs.specs.CallUnexpected.{frame, stopped_slot, list_slot}
-use Rattle.machine_simulation.specs.Plan.{Plan, function, shape}
+use Rattle.machine_simulation.specs.Plan.{Plan, function, shape, routine, first_word, setting}
 use Rattle.machine_simulation.specs.Exceptions.{live_in}
 use Rattle.machine_simulation.specs.Matches.{MemoryMatches, RuntimeMatches, Matches}
 use Rattle.machine_simulation.specs.Objects.{HoldsObject}
@@ -40,11 +42,12 @@ in_unexpected n o s st = record {
 }
 
 -- The hart is at the first word of call_unexpected, and the slots of its frame, which will be below sp, hold the object's address and the selector;
--- the frames of the calls, and what the runtime keeps, are those that they were.
-pub record CallsUnexpected (p : Plan) (n e back : ℕ) (z : ℤ) (st : State) (v : abi.World) : Type 0 where
+-- the frames of the calls, and what the runtime keeps, are those that they were. It returns to the word behind the operation.
+pub record CallsUnexpected (p : Plan) (n o s e back : ℕ) (z : ℤ) (st : State) (v : abi.World) : Type 0 where
   pub pc : v.hart.pc ≡ stub_word p.base call_unexpected 0
   pub registers : length v.hart.regs ≡ 32
   pub returns : x v.hart ra < 2 ^ 64
+  pub returns_to : x v.hart ra ≡ address (setting p n).ground (first_word p n + op_word (routine p n) st.top.place + length (linear_code (shape p n) (unexpected o s)))
   pub memory : MemoryMatches p n st.top.frame st.frames st.world v.hart.memory (x v.hart sp) back
   pub runtime : RuntimeMatches p st.frames st.world v
   pub stopped : AddressAt v.hart.memory (x v.hart sp - frame + stopped_slot) (p.at (of_exception e))
@@ -53,4 +56,4 @@ pub record CallsUnexpected (p : Plan) (n e back : ℕ) (z : ℤ) (st : State) (v
 -- One step calls call_unexpected, which is matched by as many turns as the operation has words.
 abbrev pub UnexpectedCalled : Type 0
 UnexpectedCalled = (image : Image) (p : Plan) (n o s e : ℕ) (z : ℤ) (st : State) (w : abi.World) → (h : Matches p st w) → AtUnexpected p n o s e z st →
-    (step (code_of p.unit) st ≡ goes_to (in_unexpected n o s st)) × Reaches image (length (linear_code (shape p n) (unexpected o s))) w [] (CallsUnexpected p n e h.back z st)
+    (step (code_of p.unit) st ≡ goes_to (in_unexpected n o s st)) × Reaches image (length (linear_code (shape p n) (unexpected o s))) w [] (CallsUnexpected p n o s e h.back z st)

@@ -1,7 +1,7 @@
 -- A frame is taken and given back, and jumps and calls go where they say.
-use Rattle.std.proofs.Common.{◌≡◌, ◌≢◌, ◌∙◌, refl, ap, arith, ℕ, zero, suc, ◌+◌, ◌-◌, ◌*◌, ◌/◌, ◌%◌, ◌^◌, ◌<◌, ◌≤◌, ◌==◌, ℤ, pos, negsuc, true, List, [], ◌∷◌, length}
+use Rattle.std.proofs.Common.{◌≡◌, ◌≢◌, ◌∙◌, refl, ap, subst, arith, ℕ, zero, suc, ◌+◌, ◌-◌, ◌*◌, ◌/◌, ◌%◌, ◌^◌, ◌<◌, ◌≤◌, ◌==◌, ℤ, pos, negsuc, Bool, true, false, List, [], ◌∷◌, length}
 use Rattle.std.specs.Prelude.{◌+ℤ◌, ◌-ℤ◌, not, nat_lt}
-use Rattle.std.proofs.lemmas.Bool.{eq-eqb, le-ltb}
+use Rattle.std.proofs.lemmas.Bool.{eq-eqb, le-ltb, lt-ltb}
 use Rattle.std.proofs.lemmas.Bool.Decides.{nat_tests}
 use Rattle.std.proofs.lemmas.Int.{ints}
 use Rattle.rv64_isa.specs.declared.step.Step.TheVariants.{Done}
@@ -12,15 +12,18 @@ use Rattle.rv64_isa.specs.Step.{step_of, next, sets, jumps, branches, stores, x,
 use Rattle.machine_forms.specs.Immediate.{immediate, upper, lower, jump_field}
 use Rattle.machine_forms.specs.Registers.{zero_register, ra, sp, t0}
 use Rattle.machine_forms.specs.Piece.{Target, entry, Piece, instruction, jump_to, upper_part, jump_rest, placed, distance}
+use Rattle.machine_forms.specs.RuntimeCall.{runtime_call, stack_call}
 use Rattle.machine_forms.specs.Shape.{Shape, return_offset, lowest_page, stack_tested, prologue, epilogue}
 use Rattle.machine_pieces.specs.Standing.{Ground, address, PieceAt, PiecesAt}
+use Rattle.machine_pieces.specs.Memory.{MayWrite}
+use Rattle.machine_pieces.specs.Executes.{Executes}
 use Rattle.machine_pieces.specs.Frames.{Reached}
-use Rattle.machine_pieces.specs.Transfers.{HasRoom, HasFrame, Enters, Leaves, Jumps, Calls}
+use Rattle.machine_pieces.specs.Transfers.{HasRoom, LacksRoom, Overflows, HasFrame, Enters, Leaves, Jumps, Calls}
 use Rattle.machine_pieces.specs.Laws.{ControlGoes}
 use Rattle.machine_pieces.proofs.Routines.{op_stands}
 use Rattle.machine_pieces.proofs.Storing.{stores_done, value_written}
 use Rattle.machine_pieces.proofs.Fetching.{piece_done, pieces_still}
-use Rattle.machine_pieces.proofs.Stepping.{one_step, step_then}
+use Rattle.machine_pieces.proofs.Stepping.{one_step, step_then, steps_then}
 use Rattle.machine_pieces.proofs.Registers.{set_length, read_same, read_other}
 use Rattle.machine_pieces.proofs.Going.{next_is}
 use Rattle.machine_pieces.proofs.Places.{near_address, far_address, address_done, reached_from}
@@ -129,22 +132,34 @@ branch_far g here s at aligned below =
     let test : (address g (here + 3) % 4 == 0) ≡ true = eq-eqb (address g (here + 3) % 4) 0 (omega (arith, aligned)) in
     rw (target, test) refl
 
-pub prologue_enters : (g : Ground) (here : ℕ) (f : Shape) (s : State) → PiecesAt s.memory g here (prologue f) → s.pc ≡ address g here → HasRoom f s → Enters g here f s
-prologue_enters g here f s code at room =
+-- a branch that is not taken goes on to the next word
+branch_passed : (g : Ground) (here : ℕ) (s : State) (y : Piece) → PieceAt s.memory g here y → s.pc ≡ address g here → branches s false 6 ≡ (Done, state (address g (here + 1)) s.regs s.memory)
+branch_passed g here s y h at = ap (λ pc. (Done, state pc s.regs s.memory)) (next_is g here y s h at)
+
+-- the frame is taken, and the end of the lowest 4 KiB is in t0
+record Taken (g : Ground) (here : ℕ) (f : Shape) (s : State) : Type 0 where
+  after : State
+  runs : Executes 3 s after
+  pc : after.pc ≡ address g (here + 3)
+  rest : PiecesAt after.memory g (here + 3) (instruction (Bgeu sp t0 6) ∷ runtime_call stack_call)
+  limit : x after t0 ≡ 0x70001000
+  stack : x after sp ≡ x s sp - f.size
+  memory : after.memory ≡ with_value s.memory (x s sp - f.size + return_offset) 8 (x s ra)
+  registers : length after.regs ≡ 32
+  kept : (r : ℕ) → r ≢ sp → r ≢ t0 → x after r ≡ x s r
+
+frame_takes : (g : Ground) (here : ℕ) (f : Shape) (s : State) → PiecesAt s.memory g here (prologue f) → s.pc ≡ address g here → length s.regs ≡ 32 → (f.size < 2 ^ 11) × (f.size % 8 ≡ 0) × (return_offset + 8 ≤ f.size) →
+    x s sp % 8 ≡ 0 → f.size ≤ x s sp → x s sp < 2 ^ 63 → MayWrite s.memory (x s sp - f.size + return_offset) 8 → Taken g here f s
+frame_takes g here f s code at regs size aligned above below may =
     let stack : ℕ = x s sp in
     let low : ℕ = stack - f.size in
     let place : ℕ = low + return_offset in
     let back : ℕ = x s ra in
     let memory : List Part = with_value s.memory place 8 back in
-    let small = room.size.0 in
-    let large = room.size.2 in
-    let even = room.size.1 in
-    let aligned = room.aligned in
-    let above = room.above in
-    let below = room.below in
-    let regs = room.registers in
+    let small = size.0 in
+    let even = size.1 in
     let one : State = set_state g here s sp low in
-    let down : add stack (imm12 (immediate (pos 0 -ℤ pos f.size))) ≡ low = down_address stack f.size small (omega (arith, above)) (omega (arith, below)) in
+    let down : add stack (imm12 (immediate (pos 0 -ℤ pos f.size))) ≡ low = down_address stack f.size small above (omega (arith, below)) in
     let step1 : step_of s ≡ (Done, one)
     = sets_at g here sp low (instruction (Addi sp sp (immediate (pos 0 -ℤ pos f.size)))) s code.0 at (addi_done sp sp (immediate (pos 0 -ℤ pos f.size)) s ∙ ap (sets s sp) down) in
     let sp1 : x one sp ≡ low = read_same s.regs sp low (not_zero sp (omega arith)) (omega (arith, regs)) in
@@ -153,26 +168,65 @@ prologue_enters g here f s code at room =
     let two : State = state (address g (here + 1 + 1)) one.regs memory in
     let step2 : step_of one ≡ (Done, two)
     = piece_done g (here + 1) (instruction (Sd sp ra return_offset)) one code.1.0 refl ∙ sd_done sp ra return_offset one ∙ ap (λ a. stores one 8 a (x one ra)) there ∙ ap (stores one 8 place) ra1
-    ∙ stores_done one 8 place back (eq-eqb (place % 8) 0 (omega (arith, aligned, even, above))) room.may
+    ∙ stores_done one 8 place back (eq-eqb (place % 8) 0 (omega (arith, aligned, even, above))) may
     ∙ ap (λ pc. (Done, state pc one.regs memory)) (next_is g (here + 1) (instruction (Sd sp ra return_offset)) one code.1.0 refl) in
-    let rest = pieces_still s.memory memory g (here + 1 + 1) (stack_tested) (value_written s.memory place 8 back room.may) code.1.1 in
+    let rest = pieces_still s.memory memory g (here + 1 + 1) (stack_tested) (value_written s.memory place 8 back may) code.1.1 in
     let three : State = set_state g (here + 1 + 1) two t0 0x70001000 in
     let step3 : step_of two ≡ (Done, three) = sets_at g (here + 1 + 1) t0 0x70001000 (instruction (Lui t0 lowest_page)) two rest.0 refl (lui_done t0 lowest_page two) in
-    let t03 : x three t0 ≡ 0x70001000 = read_same one.regs t0 0x70001000 (not_zero t0 (omega arith)) (omega (arith, regs, set_length s.regs sp low)) in
-    let sp3 : x three sp ≡ low = read_other one.regs t0 sp 0x70001000 (λ e. absurd (omega (arith, e))) ∙ sp1 in
-    let test : not (nat_lt (x three sp) (x three t0)) ≡ true = enough (x three sp) (x three t0) (omega (arith, t03, sp3, above)) in
-    let four : State = state (address g (here + 1 + 1 + 1 + 3)) three.regs memory in
-    let step4 : step_of three ≡ (Done, four)
-    = piece_done g (here + 1 + 1 + 1) (instruction (Bgeu sp t0 6)) three rest.1.0 refl ∙ bgeu_done sp t0 6 three ∙ ap (λ c. branches three c 6) test
-    ∙ branch_far g (here + 1 + 1 + 1) three refl (rest.1.0.word.aligned) (omega (arith, rest.1.1.1.0.word.below)) in
+    let same : here + 1 + 1 + 1 ≡ here + 3 = omega arith in
     record {
-      after = four;
-      runs = step_then 3 s one four step1 (step_then 2 one two four step2 (step_then 1 two three four step3 (one_step three four step4)));
-      pc = omega arith;
+      after = three;
+      runs = step_then 2 s one three step1 (step_then 1 one two three step2 (one_step two three step3));
+      pc = ap (address g) same;
+      rest = subst (λ k. PiecesAt memory g k (instruction (Bgeu sp t0 6) ∷ runtime_call stack_call)) same rest.1;
+      limit = read_same one.regs t0 0x70001000 (not_zero t0 (omega arith)) (omega (arith, regs, set_length s.regs sp low));
+      stack = read_other one.regs t0 sp 0x70001000 (λ e. absurd (omega (arith, e))) ∙ sp1;
       memory = refl;
       registers = set_length one.regs t0 0x70001000 ∙ set_length s.regs sp low ∙ regs;
-      stack = sp3;
       kept = λ r not_sp not_t0. kept_twice s.regs sp low t0 0x70001000 r not_sp not_t0;
+    }
+
+steps_behind : (s u t : State) → Executes 3 s u → step_of u ≡ (Done, t) → Executes 4 s t
+steps_behind s u t first last = steps_then 3 1 s u t first (one_step u t last)
+
+pub prologue_enters : (g : Ground) (here : ℕ) (f : Shape) (s : State) → PiecesAt s.memory g here (prologue f) → s.pc ≡ address g here → HasRoom f s → Enters g here f s
+prologue_enters g here f s code at room =
+    let taken = frame_takes g here f s code at room.registers room.size room.aligned (omega (arith, room.above)) room.below room.may in
+    let u : State = taken.after in
+    let test : not (nat_lt (x u sp) (x u t0)) ≡ true = enough (x u sp) (x u t0) (omega (arith, taken.limit, taken.stack, room.above)) in
+    let last : State = state (address g (here + 3 + 3)) u.regs u.memory in
+    let step : step_of u ≡ (Done, last)
+    = piece_done g (here + 3) (instruction (Bgeu sp t0 6)) u taken.rest.0 taken.pc ∙ bgeu_done sp t0 6 u ∙ ap (λ c. branches u c 6) test
+    ∙ branch_far g (here + 3) u taken.pc (taken.rest.0.word.aligned) (omega (arith, taken.rest.1.1.0.word.below)) in
+    record {
+      after = last;
+      runs = steps_behind s u last taken.runs step;
+      pc = omega arith;
+      memory = taken.memory;
+      registers = taken.registers;
+      stack = taken.stack;
+      kept = taken.kept;
+    }
+
+-- the stack test does not pass where too little is left
+too_little : (a b : ℕ) → a < b → not (nat_lt a b) ≡ false
+too_little a b less = ap not (lt-ltb a b less)
+
+pub prologue_overflows : (g : Ground) (here : ℕ) (f : Shape) (s : State) → PiecesAt s.memory g here (prologue f) → s.pc ≡ address g here → LacksRoom f s → Overflows g here f s
+prologue_overflows g here f s code at room =
+    let taken = frame_takes g here f s code at room.registers room.size room.aligned (omega (arith, room.above)) (omega (arith, room.short, room.size.0)) room.may in
+    let u : State = taken.after in
+    let test : not (nat_lt (x u sp) (x u t0)) ≡ false = too_little (x u sp) (x u t0) (omega (arith, taken.limit, taken.stack, room.above, room.short)) in
+    let last : State = state (address g (here + 3 + 1)) u.regs u.memory in
+    let step : step_of u ≡ (Done, last)
+    = piece_done g (here + 3) (instruction (Bgeu sp t0 6)) u taken.rest.0 taken.pc ∙ bgeu_done sp t0 6 u ∙ ap (λ c. branches u c 6) test ∙ branch_passed g (here + 3) u (instruction (Bgeu sp t0 6)) taken.rest.0 taken.pc in
+    let same : here + 3 + 1 ≡ here + 4 = omega arith in
+    record {
+      after = last;
+      runs = steps_behind s u last taken.runs step;
+      pc = ap (address g) same;
+      registers = taken.registers;
+      code = subst (λ k. PiecesAt u.memory g k (runtime_call stack_call)) same taken.rest.1;
     }
 
 -- ---- the epilogue
@@ -240,6 +294,7 @@ function_calls g here first u s code at regs reached aligned below =
 pub control_goes : ControlGoes
 control_goes = record {
   enters = prologue_enters;
+  overflows = prologue_overflows;
   leaves = epilogue_leaves;
   jumps = label_jumps;
   calls = λ g here first callee s code at regs reached aligned below. function_calls g here first (entry callee) s code at regs reached aligned below;

@@ -19,7 +19,7 @@ use Rattle.cxa_runtime.specs.Call.{numbered, call_effect}
 use Rattle.cxa_runtime.specs.Run.{Ran, counted, called, stepped, turn, and_more, run}
 use Rattle.machine_pieces.specs.Executes.{when_done, steps as after_steps, Executes}
 use Rattle.machine_pieces.specs.Numbers.{IsInt, extended}
-use Rattle.machine_pieces.specs.Turning.{with_items, Turns, SameRuntime, Stepped, after_step, after_line, after_byte}
+use Rattle.machine_pieces.specs.Turning.{with_items, ForcedTurns, Turns, SameRuntime, Stepped, after_step, after_line, after_byte}
 use Rattle.machine_pieces.proofs.Numbers.{int_stored, small_pos, small_neg}
 
 -- ---- turns one after another
@@ -28,24 +28,34 @@ same_shown : (r : Ran) → r ≡ with_items [] r
 same_shown r = refl
 
 pub no_turns : (image : Image) (w : World) → Turns image 0 w w []
-no_turns image w = record { run = λ pick k. let count : 0 + k ≡ k = omega arith in ap (λ n. run image pick n w) count }
+no_turns image w = record { run = λ pick k. let count : 0 + k ≡ k = omega arith in ap (λ n. run image pick n w) count; unwinding = refl }
 
-pub turns_then : (image : Image) (m n : ℕ) (w v u : World) (first second : List Item) → Turns image m w v first → Turns image n v u second → Turns image (m + n) w u (first ++ second)
-turns_then image m n w v u first second one two = record {
+pub as_forced : (image : Image) (n : ℕ) (w v : World) (items : List Item) → Turns image n w v items → ForcedTurns image n w v items
+as_forced image n w v items h = record { run = h.run }
+
+pub forced_then : (image : Image) (m n : ℕ) (w v u : World) (first second : List Item) → ForcedTurns image m w v first → ForcedTurns image n v u second → ForcedTurns image (m + n) w u (first ++ second)
+forced_then image m n w v u first second one two = record {
   run = λ pick k.
       let count : m + n + k ≡ m + (n + k) = omega arith in
       ap (λ i. run image pick i w) count ∙ one.run pick (n + k) ∙ ap (with_items first) (two.run pick k)
       ∙ ap (λ items. record (run image pick k u) { items = items }) (sym (append_assoc first second (run image pick k u).items));
 }
 
+pub turns_then : (image : Image) (m n : ℕ) (w v u : World) (first second : List Item) → Turns image m w v first → Turns image n v u second → Turns image (m + n) w u (first ++ second)
+turns_then image m n w v u first second one two =
+    record { run = (forced_then image m n w v u first second (as_forced image m w v first one) (as_forced image n v u second two)).run; unwinding = two.unwinding ∙ one.unwinding }
+
 -- one turn that goes on
-pub turn_on : (image : Image) (w v : World) → ((wish : ℕ) → turn image wish w ≡ (On, v)) → Turns image 1 w v v.shown
+pub forced_turn : (image : Image) (w v : World) → ((wish : ℕ) → turn image wish w ≡ (On, v)) → ForcedTurns image 1 w v v.shown
 unfolding run
-turn_on image w v e = record {
+forced_turn image w v e = record {
   run = λ pick k.
       let count : 1 + k ≡ suc k = omega arith in
       ap (λ i. run image pick i w) count ∙ ap (and_more (run image pick k)) (e (pick (w.last_number + 1)));
 }
+
+pub turn_on : (image : Image) (w v : World) → ((wish : ℕ) → turn image wish w ≡ (On, v)) → v.unwinding ≡ w.unwinding → Turns image 1 w v v.shown
+turn_on image w v e kept = record { run = (forced_turn image w v e).run; unwinding = kept }
 
 -- the last turn
 pub turn_ends : (image : Image) (pick : ℕ → ℕ) (k : ℕ) (w v : World) (n : ℤ) → ((wish : ℕ) → turn image wish w ≡ (Ended (end_kinds.Exit n), v)) →
@@ -57,7 +67,7 @@ turn_ends image pick k w v n e = ap (and_more (run image pick k)) (e (pick (w.la
 
 step_turns : (image : Image) (w : World) (s : State) → step_of w.hart ≡ (steps.Done, s) → Turns image 1 w (after_step s w) []
 unfolding turn
-step_turns image w s e = turn_on image w (after_step s w) (λ wish. ap (stepped image wish (record w { shown = [] })) e)
+step_turns image w s e = turn_on image w (after_step s w) (λ wish. ap (stepped image wish (record w { shown = [] })) e) refl
 
 pub same_runtime : (w : World) → SameRuntime w w
 same_runtime w = record { exceptions = refl; terminate_handler = refl; unexpected_handler = refl; last_number = refl; unwinding = refl; input = refl; replies = refl; terminating = refl }
@@ -117,7 +127,7 @@ unfolding turn call_effect numbered
 write_turns image w s z e call value int =
     turn_on image w (after_line z s w)
     (λ wish. ap (stepped image wish (record w { shown = [] })) e ∙ ap (λ n. called w.hart.pc (call_effect n image wish (at_hart s (record w { shown = [] })))) call
-    ∙ ap (λ v. (On, counted (shows (Line v) (at_hart s (record w { shown = [] }))))) (ap as_int value ∙ as_int_extended z int))
+    ∙ ap (λ v. (On, counted (shows (Line v) (at_hart s (record w { shown = [] }))))) (ap as_int value ∙ as_int_extended z int)) refl
 
 -- exit
 pub exit_ends : (image : Image) (pick : ℕ → ℕ) (k : ℕ) (w : World) (s : State) (z : ℤ) → step_of w.hart ≡ (steps.Ecall, s) → reg_of s.regs a7 ≡ 0 → reg_of s.regs a0 ≡ extended z → IsInt z →
@@ -134,11 +144,11 @@ unfolding turn call_effect numbered
 read_turns image w s b bytes e call input =
     let v : World = at_hart s (record w { shown = [] }) in
     turn_on image w (after_byte b bytes s w)
-    (λ wish. ap (stepped image wish (record w { shown = [] })) e ∙ ap (λ n. called w.hart.pc (call_effect n image wish v)) call ∙ ap (λ given. called w.hart.pc (read_from v given)) input)
+    (λ wish. ap (stepped image wish (record w { shown = [] })) e ∙ ap (λ n. called w.hart.pc (call_effect n image wish v)) call ∙ ap (λ given. called w.hart.pc (read_from v given)) input) refl
 
 pub end_turns : (image : Image) (w : World) (s : State) → step_of w.hart ≡ (steps.Ecall, s) → reg_of s.regs a7 ≡ 2 → w.input ≡ [] → Turns image 1 w (counted (gives a0 (extended (negsuc 0)) (at_hart s (record w { shown = [] })))) []
 unfolding turn call_effect numbered
 end_turns image w s e call input =
     let v : World = at_hart s (record w { shown = [] }) in
     turn_on image w (counted (gives a0 (extended (negsuc 0)) v))
-    (λ wish. ap (stepped image wish (record w { shown = [] })) e ∙ ap (λ n. called w.hart.pc (call_effect n image wish v)) call ∙ ap (λ given. called w.hart.pc (read_from v given)) input)
+    (λ wish. ap (stepped image wish (record w { shown = [] })) e ∙ ap (λ n. called w.hart.pc (call_effect n image wish v)) call ∙ ap (λ given. called w.hart.pc (read_from v given)) input) refl

@@ -49,7 +49,7 @@ use Rattle.machine_pieces.specs.Memory.{Written, WordAt, Holds, MayWrite, shape_
 use Rattle.machine_pieces.specs.Standing.{Ground, address, PieceFits, PieceAt, PiecesAt, WordsAt, HaveBits}
 use Rattle.machine_pieces.specs.Going.{Goes, Computes, Gives, passed_over, Stores}
 use Rattle.machine_pieces.specs.Frames.{Setting, byte_of, RootFits, ValueStands, Ready, Reached, location_byte}
-use Rattle.machine_pieces.specs.Transfers.{HasRoom, HasFrame, Enters, Leaves, Jumps, Calls}
+use Rattle.machine_pieces.specs.Transfers.{HasRoom, LacksRoom, Overflows, HasFrame, Enters, Leaves, Jumps, Calls}
 
 -- The fields of a piece's instruction are in their ranges wherever it stands. Where its word stands at the pc, a step does what the
 -- instruction does.
@@ -94,11 +94,13 @@ pub record PlacesAreWritten : Type 0 where
       locate kinds frame p ≡ Some l → location_byte t f (x s sp) l % 4 ≡ 0 → location_byte t f (x s sp) l < 2 ^ 64 → MayWrite s.memory (location_byte t f (x s sp) l) 4 →
       Stores t.ground here (length (place_stored f (register j) (register k) p)) k s (location_byte t f (x s sp) l) z
 
--- A function's prologue takes a frame where the stack has room, and its epilogue gives it back and goes to the return address. A jump to a
+-- A function's prologue takes a frame where the stack has room, and ends the run where it has none above its lowest 4 KiB; its epilogue gives
+-- the frame back and goes to the return address. A jump to a
 -- label comes to the label's word, and a call of a function to the function's first word, with the address behind the call in ra. Where a
 -- routine's pieces stand, those of each operation stand from its first word on.
 pub record ControlGoes : Type 0 where
   pub enters : (g : Ground) (here : ℕ) (f : Shape) (s : State) → PiecesAt s.memory g here (prologue f) → s.pc ≡ address g here → HasRoom f s → Enters g here f s
+  pub overflows : (g : Ground) (here : ℕ) (f : Shape) (s : State) → PiecesAt s.memory g here (prologue f) → s.pc ≡ address g here → LacksRoom f s → Overflows g here f s
   pub leaves : (g : Ground) (here back : ℕ) (f : Shape) (s : State) → PiecesAt s.memory g here (epilogue f) → s.pc ≡ address g here → HasFrame f back s → Leaves f back s
   pub jumps : (g : Ground) (here l : ℕ) (s : State) → PieceAt s.memory g here (jump_to l) → s.pc ≡ address g here → g.places.label l < here + 2 ^ 18 → here < g.places.label l + 2 ^ 18 →
       address g (g.places.label l) < 2 ^ 64 → Jumps g (g.places.label l) s

@@ -3,9 +3,10 @@ use Rattle.std.specs.Prelude.{◌≡◌, ◌≢◌, ℕ, ◌+◌, ◌-◌, ◌%�
 use Rattle.rv64_isa.specs.State.{State, state, with_value}
 use Rattle.rv64_isa.specs.Step.{x}
 use Rattle.machine_forms.specs.Registers.{ra, sp, t0}
+use Rattle.machine_forms.specs.RuntimeCall.{runtime_call, stack_call}
 use Rattle.machine_forms.specs.Shape.{Shape, return_offset}
 use Rattle.machine_pieces.specs.Memory.{MayWrite}
-use Rattle.machine_pieces.specs.Standing.{Ground, address}
+use Rattle.machine_pieces.specs.Standing.{Ground, address, PiecesAt}
 use Rattle.machine_pieces.specs.Executes.{Executes}
 use Rattle.machine_pieces.specs.Frames.{AddressAt}
 
@@ -27,6 +28,23 @@ pub record Enters (g : Ground) (here : ℕ) (f : Shape) (s : State) : Type 0 whe
   pub registers : length after.regs ≡ 32
   pub stack : x after sp ≡ x s sp - f.size
   pub kept : (r : ℕ) → r ≢ sp → r ≢ t0 → x after r ≡ x s r
+
+-- below sp is room for a frame in the stack, but not above its lowest 4 KiB
+pub record LacksRoom (f : Shape) (s : State) : Type 0 where
+  pub registers : length s.regs ≡ 32
+  pub size : (f.size < 2 ^ 11) × (f.size % 8 ≡ 0) × (return_offset + 8 ≤ f.size)
+  pub aligned : x s sp % 8 ≡ 0
+  pub above : 0x70000000 + f.size ≤ x s sp
+  pub short : x s sp < 0x70001000 + f.size
+  pub may : MayWrite s.memory (x s sp - f.size + return_offset) 8
+
+-- the prologue of a function comes to the runtime call that ends the run for want of stack
+pub record Overflows (g : Ground) (here : ℕ) (f : Shape) (s : State) : Type 0 where
+  pub after : State
+  pub runs : Executes 4 s after
+  pub pc : after.pc ≡ address g (here + 4)
+  pub registers : length after.regs ≡ 32
+  pub code : PiecesAt after.memory g (here + 4) (runtime_call stack_call)
 
 -- a frame with a return address stands at sp
 pub record HasFrame (f : Shape) (back : ℕ) (s : State) : Type 0 where

@@ -11,9 +11,15 @@ use Rattle.cxa_runtime.specs.World.{World, at_hart, gives, shows, a0}
 abbrev pub with_items : List Item → Ran → Ran
 with_items items r = record r { items = items ++ r.items }
 
--- so many turns lead from a world to another and show items, whatever slots are chosen and however many turns follow
+-- so many turns lead from a world to another and show items, whatever slots are chosen and however many turns follow; a forced unwind may
+-- begin in them
+pub record ForcedTurns (image : Image) (n : ℕ) (w v : World) (items : List Item) : Type 0 where
+  pub run : (pick : ℕ → ℕ) (k : ℕ) → run image pick (n + k) w ≡ with_items items (run image pick k v)
+
+-- and so it is where none begins
 pub record Turns (image : Image) (n : ℕ) (w v : World) (items : List Item) : Type 0 where
   pub run : (pick : ℕ → ℕ) (k : ℕ) → run image pick (n + k) w ≡ with_items items (run image pick k v)
+  pub unwinding : v.unwinding ≡ w.unwinding
 
 -- at most so many turns lead from a world to one of which this holds, and show items
 pub record Reaches (image : Image) (most : ℕ) (w : World) (items : List Item) (P : World → Type 0) : Type 0 where
@@ -21,6 +27,14 @@ pub record Reaches (image : Image) (most : ℕ) (w : World) (items : List Item) 
   pub few : turns ≤ most
   pub after : World
   pub runs : Turns image turns w after items
+  pub holds : P after
+
+-- and so it is where a forced unwind may begin
+pub record ForcedReaches (image : Image) (most : ℕ) (w : World) (items : List Item) (P : World → Type 0) : Type 0 where
+  pub turns : ℕ
+  pub few : turns ≤ most
+  pub after : World
+  pub runs : ForcedTurns image turns w after items
   pub holds : P after
 
 -- what the runtime keeps beside the hart stays

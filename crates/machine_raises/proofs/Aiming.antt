@@ -7,7 +7,6 @@ use Rattle.rv64_isa.specs.State.{State, Part}
 use Rattle.rv64_isa.specs.Step.{x}
 use Rattle.table_forms.specs.declared.found.Verdict as found_verdict
 use Rattle.table_forms.specs.Fde.{Fde}
-use Rattle.elf_image.specs.Clean.{CleanImage}
 use Rattle.region_forms.specs.World.{World}
 use Rattle.linear_forms.specs.Tables.{Cover, bare, unpadded, padded}
 use Rattle.linear_forms.specs.Verdict.{Verdict, target, no_way, clean, nothing_here, pad_verdict}
@@ -19,10 +18,10 @@ use Rattle.raise_simulation.specs.Opens.{Open, activations, IsFirst, IsBarred, c
 use Rattle.machine_simulation.specs.Plan.{Plan, shape}
 use Rattle.machine_simulation.specs.StubCalls.{StubWaits, DestructorWaits, UnexpectedWaits, LeavingWaits}
 use Rattle.machine_simulation.specs.Calls.{CallsWait}
-use Rattle.machine_raises.specs.Stacks.{IsRunning, InCall}
 use Rattle.machine_raises.specs.Targets.{call_size, target_end}
 use Rattle.machine_raises.proofs.Waiting.{opens_of, tail_of, all_are}
-use Rattle.machine_raises.proofs.Stacks.{all_opens, all_tail}
+use Rattle.machine_raises.proofs.OnStack.{OnStack}
+use Rattle.machine_raises.proofs.Stacks.{top_opens, top_tail}
 
 -- ---- what is found is in front of what bars
 deep : (code : Code) (t : Option ℕ) (os tail : List Activation) (d : ℕ) → found_above code t (os ++ tail) ≡ Some d → found_above code t tail ≡ None → length tail ≤ d
@@ -60,7 +59,7 @@ too_few p d stack (a ∷ fs) le =
     let other : (length fs == d) ≡ false = grind (arith, nat_tests, le) in
     ap (λ b. if b then stack + call_size p a.function else target_end p d (stack + call_size p a.function) fs) other ∙ too_few p d (stack + call_size p a.function) fs (omega (arith, le))
 
-stub_size : (p : Plan) (a : Activation) (v : World) (memory : List Part) (stack back outer : ℕ) → StubWaits p a v memory stack back outer → call_size p a.function ≡ frame_size a.function
+pub stub_size : (p : Plan) (a : Activation) (v : World) (memory : List Part) (stack back outer : ℕ) → StubWaits p a v memory stack back outer → call_size p a.function ≡ frame_size a.function
 stub_size p a v memory stack back outer w = by w.waits
   where
     by : DestructorWaits p a v memory stack back ⊎ UnexpectedWaits p a v memory stack back ⊎ LeavingWaits p a v memory stack back → call_size p a.function ≡ frame_size a.function
@@ -74,7 +73,7 @@ one_more p d many size stack a os fs is count rest =
     ap (λ n. if n == d then stack + size else cfa_with d many (stack + size) os) count ∙ ap (λ r. if length fs == d then stack + size else r) rest
     ∙ sym (ap (λ k. if length fs == d then stack + k else target_end p d (stack + k) fs) is)
 
-counted : (os : List Open) (tail fs : List Activation) → activations os ++ tail ≡ fs → length os + length tail ≡ length fs
+pub counted : (os : List Open) (tail fs : List Activation) → activations os ++ tail ≡ fs → length os + length tail ≡ length fs
 counted os tail fs e = omega (arith, ap length e, length-append (activations os) tail, length-map os (λ o. o.activation))
 
 waiting_end : (p : Plan) (d : ℕ) (fs : List Activation) (v : World) (memory : List Part) (stack back limit : ℕ) (w : CallsWait p fs v memory stack back limit) → length (tail_of p fs v memory stack back limit w) ≤ d →
@@ -93,12 +92,12 @@ waiting_end p d (a ∷ fs) v memory stack back limit (inr (inl (outer, waits, mo
     (waiting_end p d fs v memory (stack + frame_size a.function) outer limit more le)
 waiting_end p d (a ∷ fs) v memory stack back limit (inr (inr w)) le = sym (too_few p d stack (a ∷ fs) le)
 
-module _ (p : Plan) (i : CleanImage) (n back : ℕ) (a : Activation) (fs : List Activation) (v : World) (s : State) (running : IsRunning p i s) (h : InCall p n back a fs v s) where
-  pub whole_end : (d : ℕ) → length (all_tail p i n back a fs v s running h) ≤ d → cfa_with d (length (all_tail p i n back a fs v s running h)) (x s sp) (all_opens p i n back a fs v s running h) ≡ target_end p d (x s sp) (a ∷ fs)
-  unfolding all_opens all_tail
+module _ (p : Plan) (a : Activation) (fs : List Activation) (v : World) (s : State) (h : OnStack p a fs v s) where
+  pub whole_end : (d : ℕ) → length (top_tail p a fs v s h) ≤ d → cfa_with d (length (top_tail p a fs v s h)) (x s sp) (top_opens p a fs v s h) ≡ target_end p d (x s sp) (a ∷ fs)
+  unfolding top_opens top_tail
   whole_end d le =
-      let stack = x s sp + (shape p n).size in
-      let os = opens_of p fs v s.memory stack back a.frame.call h.memory.waiting in
-      let tail = tail_of p fs v s.memory stack back a.frame.call h.memory.waiting in
-      one_more p d (length tail) (shape p n).size (x s sp) a os fs (ap (call_size p) h.runs) (counted os tail fs (all_are p fs v s.memory stack back a.frame.call h.memory.waiting))
-      (waiting_end p d fs v s.memory stack back a.frame.call h.memory.waiting le)
+      let stack = x s sp + h.size in
+      let os = opens_of p fs v s.memory stack h.back h.limit h.waiting in
+      let tail = tail_of p fs v s.memory stack h.back h.limit h.waiting in
+      one_more p d (length tail) h.size (x s sp) a os fs h.called (counted os tail fs (all_are p fs v s.memory stack h.back h.limit h.waiting))
+      (waiting_end p d fs v s.memory stack h.back h.limit h.waiting le)

@@ -18,7 +18,7 @@ use Rattle.region_forms.specs.World.{number_word, World}
 use Rattle.region_forms.specs.Evaluation.{with_some, value_in, words_in}
 use Rattle.region_forms.specs.Effect.{cancels, number_at, if_some}
 use Rattle.linear_forms.specs.Linear.{LinearOp, plain}
-use Rattle.linear_forms.specs.Stub.{compiled}
+use Rattle.linear_forms.specs.Stub.{compiled, terminating}
 use Rattle.linear_forms.specs.Activation.{State as LinearState, goes_to}
 use Rattle.linear_forms.specs.Machine.{step}
 use Rattle.linear_forms.specs.Operation.{performed}
@@ -38,23 +38,23 @@ use Rattle.machine_pieces.specs.Frames.{ValueStands}
 use Rattle.machine_pieces.specs.Laws.{CallsAreTurns, ValuesAreComputed}
 use Rattle.machine_pieces.specs.Turning.{SameRuntime}
 use Rattle.machine_pieces.proofs.Fetching.{pieces_split}
-use Rattle.machine_pieces.proofs.Turning.{turns_then, as_int_extended}
+use Rattle.machine_pieces.proofs.Turning.{as_forced, forced_then, as_int_extended}
 use Rattle.machine_stubs.specs.Calls.{asked, CallsAreMade}
 use Rattle.raise_simulation.specs.Resumes.{ForcedAgree}
 use Rattle.machine_simulation.specs.Plan.{Plan, function, shape, slot_kinds, routine, first_word, setting}
-use Rattle.machine_simulation.specs.Matches.{RuntimeMatches, MemoryMatches, Matches}
-use Rattle.machine_simulation.specs.Operations.{Matched}
-use Rattle.machine_simulation.specs.Returns.{closed}
+use Rattle.machine_simulation.specs.Matches.{RuntimeMatches}
+use Rattle.machine_simulation.specs.Operations.{Matched, ForcedMatched}
 use Rattle.machine_simulation.specs.Runs.{StepAt}
 use Rattle.machine_simulation.proofs.Words.{OperationAt, operation_at}
-use Rattle.machine_simulation.proofs.Matching.{Stands, stands_by, ready_here, runtime_stays}
+use Rattle.machine_simulation.proofs.Matching.{Stands, stands_by, ready_here}
 use Rattle.machine_simulation.proofs.Asked.{value_stands}
 use Rattle.machine_simulation.proofs.Quiet.{step_is, plain_is}
-use Rattle.machine_exceptions.proofs.Ecalls.{ecall_reached, call_made}
-use Rattle.machine_raises.specs.Stacks.{IsRunning, InCall}
+use Rattle.machine_exceptions.proofs.Ecalls.{ecall_reached, call_unwinds}
+use Rattle.machine_raises.specs.Stacks.{IsRunning}
 use Rattle.machine_raises.specs.Pads.{PadsArePlain, FiltersAreInts}
-use Rattle.machine_raises.specs.Cancels.{Cancels, Cancelled, CancelsRun}
-use Rattle.machine_raises.proofs.Throwing.{running_still}
+use Rattle.machine_raises.specs.Cancels.{Cancels, CancelsRun}
+use Rattle.machine_raises.proofs.AtCalls.{call_at, when_asked}
+use Rattle.machine_raises.proofs.Entered.{EntersPad, Arrived, pad_entered_runs, compiled_lives}
 use Rattle.machine_raises.proofs.Forcing.{forced_lands}
 
 cancel_is : (image : Image) (wish : ℕ) (t : abi.World) → call_effect 15 image wish t ≡ cancel image t
@@ -62,13 +62,13 @@ unfolding call_effect numbered
 cancel_is image wish t = refl
 
 -- ---- the step and the pieces
-record CancelOp (p : Plan) (n : ℕ) (v : Value) (st : LinearState) (o : LinearOp) : Type 0 where
-  pieces : linear_code (shape p n) o ≡ (value_code (shape p n) 0 v ++ []) ++ runtime_call 15
-  fits : LinearFits o → 0 + needs v ≤ 15
-  steps : (next : LinearState) → step (code_of p.unit) st ≡ goes_to next →
+pub record CancelOp (p : Plan) (n : ℕ) (v : Value) (st : LinearState) (o : LinearOp) : Type 0 where
+  pub pieces : linear_code (shape p n) o ≡ (value_code (shape p n) 0 v ++ []) ++ runtime_call 15
+  pub fits : LinearFits o → 0 + needs v ≤ 15
+  pub steps : (next : LinearState) → step (code_of p.unit) st ≡ goes_to next →
       performed (code_of p.unit) (if_some (words_in (slot_kinds p n) st.top.frame st.world (argument_then (int_argument v) no_arguments)) (λ given. cancels (number_at given 0) st.world)) st.top st.frames st.world ≡ goes_to next
 
-cancel_op : (p : Plan) (n : ℕ) (v : Value) (st : LinearState) (o : LinearOp) → st.top.function ≡ compiled n → slice_get (function p n).ops st.top.place ≡ Some o → Cancels v o → CancelOp p n v st o
+pub cancel_op : (p : Plan) (n : ℕ) (v : Value) (st : LinearState) (o : LinearOp) → st.top.function ≡ compiled n → slice_get (function p n).ops st.top.place ≡ Some o → Cancels v o → CancelOp p n v st o
 cancel_op p n v st o runs there (inl is) =
     let c : Op = call (builtin Cancel) (argument_then (int_argument v) no_arguments) in
     record {
@@ -84,12 +84,12 @@ cancel_op p n v st o runs there (inr is) =
       steps = λ next e. sym (plain_is p n st c runs) ∙ sym (step_is p n st (plain c) runs (there ∙ ap Some is)) ∙ e;
     }
 
-record CancelStep (p : Plan) (n : ℕ) (v : Value) (st next : LinearState) : Type 0 where
-  value : ℤ
-  is : value_in (slot_kinds p n) st.top.frame st.world v ≡ Some value
-  goes : forced_above (code_of p.unit) value (st.top ∷ st.frames) st.world ≡ goes_to next
+pub record CancelStep (p : Plan) (n : ℕ) (v : Value) (st next : LinearState) : Type 0 where
+  pub value : ℤ
+  pub is : value_in (slot_kinds p n) st.top.frame st.world v ≡ Some value
+  pub goes : forced_above (code_of p.unit) value (st.top ∷ st.frames) st.world ≡ goes_to next
 
-cancel_step : (p : Plan) (n : ℕ) (v : Value) (st next : LinearState) (o : LinearOp) → CancelOp p n v st o → step (code_of p.unit) st ≡ goes_to next → CancelStep p n v st next
+pub cancel_step : (p : Plan) (n : ℕ) (v : Value) (st next : LinearState) (o : LinearOp) → CancelOp p n v st o → step (code_of p.unit) st ≡ goes_to next → CancelStep p n v st next
 cancel_step p n v st next o h e = by (value_in (slot_kinds p n) st.top.frame st.world v) refl (h.steps next e)
   where
     by : (oz : Option ℤ) → value_in (slot_kinds p n) st.top.frame st.world v ≡ oz →
@@ -98,10 +98,14 @@ cancel_step p n v st next o h e = by (value_in (slot_kinds p n) st.top.frame st.
     by (Some z) is got = record { value = z; is = is; goes = got }
 
 -- ---- the turns
-cancel_runs : CallsAreTurns → CallsAreMade → ValuesAreComputed → ForcedAgree → (i : CleanImage) (p : Plan) (n m : ℕ) (st next : LinearState) (w : abi.World) (back : ℕ) (o : LinearOp) (v : Value) → Stands p n st w back → IsRunning p i w.hart →
-    StepAt p st next n o → CancelOp p n v st o → ValueStands (setting p n) (shape p n) (slot_kinds p n) st.top.frame st.world v → (went : CancelStep p n v st next) → PadsArePlain p → FiltersAreInts p → next.top.function ≡ compiled m →
-    (next.world ≡ st.world) × Cancelled p i st next w (length (linear_code (shape p n) o)) went.value
-cancel_runs turns made values agree i p n m st next w back o v h running at op stands went plains ints callee =
+-- so many turns lead to a world of which this holds, where the runtime keeps its exceptions, and the number
+abbrev pub CancelledTo : (i : CleanImage) (w : abi.World) (words : ℕ) (k : ℤ) (R : abi.World → Type 0) → Type 0
+CancelledTo i w words k R = ForcedMatched (program_of i).image words w [] (λ u. R u × (u.exceptions ≡ w.exceptions) × (u.unwinding ≡ Some k))
+
+pub cancel_runs : CallsAreTurns → CallsAreMade → ValuesAreComputed → ForcedAgree → (words : ℕ) (R : Plan → abi.World → Type 0) (i : CleanImage) (p : Plan) (n : ℕ) (st next : LinearState) (w : abi.World) (back : ℕ) (o : LinearOp) (v : Value) →
+    EntersPad i st.top next words R → (next.top.function ≡ terminating → ⊥) → Stands p n st w back → IsRunning p i w.hart → StepAt p st next n o → CancelOp p n v st o → ValueStands (setting p n) (shape p n) (slot_kinds p n) st.top.frame st.world v →
+    (went : CancelStep p n v st next) → PadsArePlain p → FiltersAreInts p → (next.world ≡ st.world) × CancelledTo i w (length (linear_code (shape p n) o) + words) went.value (R p)
+cancel_runs turns made values agree words R i p n st next w back o v enters alive h running at op stands went plains ints =
     let image : Image = (program_of i).image in
     let f : Shape = shape p n in
     let g : Ground = (setting p n).ground in
@@ -120,35 +124,25 @@ cancel_runs turns made values agree i p n m st next w back o v h running at op s
     let value = values.value (setting p n) f (slot_kinds p n) st.top.frame st.world v k 0 here s stands went.is (op.fits (h.memory.unit.registers n st.top.place o at.there)) short parts.0 h.pc (ready_here p n st w back h) in
     let ec = ecall_reached turns image g here (length front) 0 15 w value.computes.goes (omega arith) parts.1 in
     let y : abi.World = record (asked ec.behind ec.at) { unwinding = Some k } in
-    let q = runtime_stays p st.frames st.world w ec.at ec.runtime h.runtime in
+    let c = call_at i image p n st w back g here (length front) 15 value.computes.goes.after h running ec (record { operation = o; there = at.there; word = length front + 1; inside = omega (arith, total); is = ec.pc ∙ omega arith }) in
+    let q = when_asked p st.frames st.world ec.behind ec.at c.runtime in
     let r : RuntimeMatches p st.frames st.world y = record { input = q.input; replies = q.replies; last_number = q.last_number; terminating = q.terminating; exceptions = q.exceptions; plan = q.plan } in
     let is0 : argument (asked ec.behind ec.at) 10 ≡ extended k = ec.kept a0 (λ b. absurd (omega (arith, b))) ∙ value.computes.is in
     let number : as_int (argument (asked ec.behind ec.at) 10) ≡ k = ap as_int is0 ∙ as_int_extended k value.int in
-    let there = running_still p i s ec.behind ec.memory running in
-    let incall : InCall p n back st.top st.frames st.world ec.behind = record {
-      runs = h.runs;
-      registers = ec.registers;
-      goes_on = record { operation = o; there = at.there; word = length front + 1; inside = omega (arith, total); is = ec.pc ∙ omega arith };
-      memory = subst (λ ps. MemoryMatches p n st.top.frame st.frames st.world ps (x ec.behind sp) back) (sym ec.memory)
-          (subst (λ a. MemoryMatches p n st.top.frame st.frames st.world s.memory a back) (sym ec.stack) h.memory);
-    } in
-    let lands = forced_lands p i n back st.top st.frames st.world ec.behind there incall agree y k m next went.goes callee plains ints r in
+    let lands = forced_lands p i st.top st.frames st.world ec.behind c.running c.on agree words R next enters alive y k went.goes plains ints r in
     let to : abi.World = at_pad 0 (pos 0) (at_hart lands.after y) in
     let effect : (wish : ℕ) → call_effect 15 image wish (asked ec.behind ec.at) ≡ abi.goes to = λ wish. cancel_is image wish (asked ec.behind ec.at)
     ∙ ap (λ z. unwinds image z (record (asked ec.behind ec.at) { unwinding = Some z })) number ∙ ap (forced_as image.places k y) lands.installs in
-    let called = call_made made image g here (length front) 15 w value.computes.goes.after ec to effect in
-    let ran : Matched image 2 (counted to) [] (λ u. Matches (closed p next.top.frame.call) next u × SameRuntime y u)
-    = subst (λ z. Matched image 2 (counted (at_pad 0 z (at_hart lands.after y))) [] (λ u. Matches (closed p next.top.frame.call) next u × SameRuntime y u)) lands.chosen lands.ran in (
+    let called = call_unwinds made image g here (length front) 15 w value.computes.goes.after ec to effect in
+    let ran : Matched image words (counted to) [] (λ u. R p u × SameRuntime y u) = subst (λ z. Matched image words (counted (at_pad 0 z (at_hart lands.after y))) [] (λ u. R p u × SameRuntime y u)) lands.chosen lands.ran in (
       lands.world,
       record {
-        ran = record {
-          turns = ec.turns + 1 + ran.turns;
-          few = omega (arith, ec.few, ran.few, total);
-          some = λ some. omega arith;
-          after = ran.after;
-          runs = turns_then image (ec.turns + 1) ran.turns w (counted to) ran.after [] [] called ran.runs;
-          holds = (ran.holds.0, ran.holds.1.exceptions ∙ ec.runtime.exceptions, ran.holds.1.unwinding);
-        };
+        turns = ec.turns + 1 + ran.turns;
+        few = omega (arith, ec.few, ran.few, total);
+        some = λ some. omega arith;
+        after = ran.after;
+        runs = forced_then image (ec.turns + 1) ran.turns w (counted to) ran.after [] [] called (as_forced image ran.turns (counted to) ran.after [] ran.runs);
+        holds = (ran.holds.0, ran.holds.1.exceptions ∙ ec.runtime.exceptions, ran.holds.1.unwinding);
       },
     )
 
@@ -157,5 +151,6 @@ cancels_run turns made values agree i p n m st next w o v h running at is asks p
     let stood = stands_by p n st w h at.runs in
     let op = cancel_op p n v st o at.runs at.there is in
     let went = cancel_step p n v st next o op at.step in
-    let all = cancel_runs turns made values agree i p n m st next w h.back o v stood running at op (value_stands p n st.top.frame st.world w.hart.memory (x w.hart sp) h.back stood.memory.top v asks) went plains ints callee in
-    (ap (λ (u : World). u.items) all.0 ∙ sym (append-nil st.world.items), went.value, went.is, all.1)
+    let all = cancel_runs turns made values agree 2 (Arrived next) i p n st next w h.back o v (pad_entered_runs i st.top next m callee) (compiled_lives next m callee) stood running at op
+    (value_stands p n st.top.frame st.world w.hart.memory (x w.hart sp) h.back stood.memory.top v asks) went plains ints in
+    (ap (λ (u : World). u.items) all.0 ∙ sym (append-nil st.world.items), went.value, went.is, record { ran = all.1 })

@@ -78,7 +78,8 @@ use Rattle.linear_forms.specs.Activation.{Next, at as linear_at, finishes, by_pr
 use Rattle.linear_forms.specs.Search.{found}
 use Rattle.linear_forms.specs.Unwinding.{raised_to, unwind, doomed_by}
 use Rattle.machine_raises.proofs.Doomed.{doomed_runtime}
-use Rattle.machine_raises.proofs.Throwing.{throw_is, throws_as, throw_words, running_still}
+use Rattle.machine_raises.proofs.Throwing.{throw_is, throws_as, throw_words}
+use Rattle.machine_raises.proofs.AtCalls.{running_still}
 use Rattle.machine_raises.specs.Throws.{MayThrow}
 use Rattle.machine_simulation.proofs.Holding.{same_number}
 use Rattle.machine_simulation.proofs.Lines.{matches_alike}
@@ -87,7 +88,7 @@ use Rattle.machine_simulation.proofs.Lines.{matches_alike}
 pub doom_called : CallsAreTurns → RaisesAgree → (i : CleanImage) (p : Plan) (n m s e t : ℕ) (d : Option ℕ) (st : LinearState) (w : abi.World) (back : ℕ) → Stands p n st w back → IsRunning p i w.hart →
     slice_get (function p n).ops st.top.place ≡ Some (plain (throw s t d)) → MayThrow p n st.top.frame s e t d → live_in st.world.live e ≡ Some building → found_above (code_of p.unit) (Some t) (st.top ∷ st.frames) ≡ None →
     st.world.ending ≡ false → st.world.installed.terminate_handler ≡ Some m → (program_of i).image.places.terminate ≡ stub_word p.base terminating 0 →
-    (c : AtHandler (program_of i).image p n m (doomed_state e t d st) w back) × (c.turns ≤ length (linear_code (shape p n) (plain (throw s t d)))) × (c.to.shown ≡ Enter e ∷ [])
+    (c : AtHandler (program_of i).image p n m (doomed_state e t d st) w back) × (c.turns ≤ length (linear_code (shape p n) (plain (throw s t d)))) × (c.to.shown ≡ Enter e ∷ []) × (c.to.unwinding ≡ c.at.unwinding)
 doom_called turns agree i p n m s e t d st w back h running at may being none quiet installed named =
     let image : Image = (program_of i).image in
     let g : Ground = (setting p n).ground in
@@ -150,6 +151,7 @@ doom_called turns agree i p n m s e t d st w back h running at may being none qu
       },
       omega (arith, ec.few, all),
       ap (λ j. Enter j ∷ []) live.has.number,
+      refl,
     )
   where
     by : (image : Image) (y : abi.World) (slot rec k : ℕ) (b : Header) (raised : Raised × State) (s : State) → y.terminating ≡ false → (raised ≡ (answers.Terminate, s)) ⊎ (raised ≡ (answers.NoHandler, s)) →
@@ -188,5 +190,5 @@ dooms_run turns calls agree i p n m s e t d st w h running at quiet installed hi
     let being = building_there st.world e at.being in
     let stood = stands_by p n st w h at.runs in
     let c = doom_called turns agree i p n m s e t d st w h.back stood running at.there at.may being at.lost quiet installed at.named in
-    let from = handler_from calls (program_of i).image p n m (doomed_state e t d st) w h.back c.0 at.runs quiet hidden fits in
+    let from = handler_from calls (program_of i).image p n m (doomed_state e t d st) w h.back c.0 at.runs quiet hidden fits c.3 in
     (doom_step i p n m s e t d st at being quiet installed, record { turns = from.turns; few = omega (arith, from.few, c.1); after = from.after; runs = subst (Turns (program_of i).image from.turns w from.after) c.2 from.runs; holds = from.holds })

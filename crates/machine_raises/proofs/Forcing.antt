@@ -20,7 +20,7 @@ use Rattle.cxa_runtime.specs.Run.{counted}
 use Rattle.eh_run.specs.Program.{program_of}
 use Rattle.region_forms.specs.World.{unwinding, World}
 use Rattle.linear_forms.specs.Linear.{resume}
-use Rattle.linear_forms.specs.Stub.{compiled, terminating}
+use Rattle.linear_forms.specs.Stub.{terminating}
 use Rattle.linear_forms.specs.Activation.{Activation, State as LinearState, Next, goes_to, finishes, by_program}
 use Rattle.linear_forms.specs.Operation.{resumed}
 use Rattle.linear_forms.specs.Forced.{forced_above}
@@ -47,23 +47,24 @@ use Rattle.raise_simulation.specs.Opens.{activations}
 use Rattle.raise_simulation.specs.Raises.{Lands, IsTerminated}
 use Rattle.raise_simulation.specs.Resumes.{ForcedAgree}
 use Rattle.machine_simulation.specs.Plan.{Plan, shape, routine, first_word, setting}
-use Rattle.machine_simulation.specs.Matches.{RuntimeMatches, MemoryMatches, Matches}
+use Rattle.machine_simulation.specs.Matches.{RuntimeMatches}
 use Rattle.machine_simulation.specs.Operations.{Matched}
-use Rattle.machine_simulation.specs.Returns.{closed}
 use Rattle.machine_simulation.specs.Runs.{StepAt}
 use Rattle.machine_simulation.proofs.Words.{operation_at}
-use Rattle.machine_simulation.proofs.Matching.{Stands, stands_by, runtime_stays}
+use Rattle.machine_simulation.proofs.Matching.{Stands, stands_by}
 use Rattle.machine_simulation.proofs.Quiet.{step_is}
-use Rattle.machine_exceptions.proofs.Ecalls.{ecall_reached, call_made}
-use Rattle.machine_raises.specs.Stacks.{IsRunning, InCall}
+use Rattle.machine_exceptions.proofs.Ecalls.{ecall_reached}
+use Rattle.machine_raises.specs.Stacks.{IsRunning}
 use Rattle.machine_raises.specs.Pads.{PadsArePlain, FiltersAreInts}
 use Rattle.machine_raises.specs.Forced.{ForcedAsked, KeepsAll, ForcedRun}
-use Rattle.machine_raises.proofs.Stacks.{all_opens, all_tail, opens_are, stack_unwound}
+use Rattle.machine_raises.proofs.OnStack.{OnStack}
+use Rattle.machine_raises.proofs.AtCalls.{AtCall, call_at, when_asked, then_called}
+use Rattle.machine_raises.proofs.Stacks.{top_opens, top_tail, top_are, top_unwound}
 use Rattle.machine_raises.proofs.Passing.{forced_goes, forced_stops}
 use Rattle.machine_raises.proofs.Selectors.{forced_zero, forced_selects}
 use Rattle.machine_raises.proofs.Passing.{begins_terminating}
-use Rattle.machine_raises.proofs.Throwing.{running_still}
 use Rattle.machine_raises.proofs.Resuming.{resume_is}
+use Rattle.machine_raises.proofs.Entered.{EntersPad, Arrived, pad_entered_runs, compiled_lives}
 use Rattle.machine_raises.proofs.Arriving.{LandsTo, lands_to}
 
 -- 0 comes into a0
@@ -81,79 +82,87 @@ zero_loaded p n st w back here s k h asks code at =
 forced_step : (p : Plan) (n s : ℕ) (k : ℤ) (st next : LinearState) → StepAt p st next n (resume s) → st.top.frame.slots s ≡ unwinding k → forced_above (code_of p.unit) k (st.top ∷ st.frames) st.world ≡ goes_to next
 forced_step p n s k st next at is = sym (ap (λ y. resumed (code_of p.unit) y st.top st.frames st.world) is) ∙ sym (step_is p n st (resume s) at.runs at.there) ∙ at.step
 
-unwinds_so : (image : Image) (y : abi.World) (k : ℤ) → argument y 10 ≡ 0 → y.unwinding ≡ Some k → resume_unwind image y ≡ unwinds image k y
+pub unwinds_so : (image : Image) (y : abi.World) (k : ℤ) → argument y 10 ≡ 0 → y.unwinding ≡ Some k → resume_unwind image y ≡ unwinds image k y
 unwinds_so image y k is on = ap (λ a. if a == 0 then needs y y.unwinding (λ n. unwinds image n y) else resume_object image y) is ∙ ap (λ o. needs y o (λ n. unwinds image n y)) on
 
 -- ---- where the unwinder goes on to
-module _ (p : Plan) (i : CleanImage) (n back : ℕ) (a : Activation) (fs : List Activation) (v : World) (s : State) (running : IsRunning p i s) (h : InCall p n back a fs v s) where
-  pub forced_lands : ForcedAgree → (w : abi.World) (k : ℤ) (m : ℕ) (st : LinearState) → forced_above (code_of p.unit) k (a ∷ fs) v ≡ goes_to st → st.top.function ≡ compiled m → PadsArePlain p → FiltersAreInts p → RuntimeMatches p fs v w →
-      LandsTo p (program_of i).image st v w 0 0 (λ z. z ≡ pos 0) (unwinder.forced_unwind (program_of i).image.fdes s)
-  forced_lands agree w k m st to callee plain ints runtime =
+module _ (p : Plan) (i : CleanImage) (a : Activation) (fs : List Activation) (v : World) (s : State) (running : IsRunning p i s) (h : OnStack p a fs v s) where
+  pub forced_lands : ForcedAgree → (words : ℕ) (R : Plan → abi.World → Type 0) (st : LinearState) → EntersPad i a st words R → (st.top.function ≡ terminating → ⊥) → (w : abi.World) (k : ℤ) → forced_above (code_of p.unit) k (a ∷ fs) v ≡ goes_to st →
+      PadsArePlain p → FiltersAreInts p → RuntimeMatches p fs v w → LandsTo (program_of i).image st words (R p) v w 0 0 0 (λ z. z ≡ pos 0) (unwinder.forced_unwind (program_of i).image.fdes s)
+  forced_lands agree words R st enters live w k to plain ints runtime =
       let code = code_of p.unit in
       let fdes = (program_of i).image.fdes in
-      let opens = all_opens p i n back a fs v s running h in
-      let tail = all_tail p i n back a fs v s running h in
-      let live : st.top.function ≡ terminating → ⊥ = λ b. let both : compiled m ≡ terminating = sym callee ∙ b in cc both in
-      let came : forced_above code k (activations opens ++ tail) v ≡ goes_to st = ap (λ xs. forced_above code k xs v) (opens_are p i n back a fs v s running h) ∙ to in
-      by (unwinder.forced_unwind fdes s) came live (agree code (operation_byte p.unit) fdes k v s (x s sp) opens tail (stack_unwound p i n back a fs v s running h))
+      let opens = top_opens p a fs v s h in
+      let tail = top_tail p a fs v s h in
+      let came : forced_above code k (activations opens ++ tail) v ≡ goes_to st = ap (λ xs. forced_above code k xs v) (top_are p a fs v s h) ∙ to in
+      by (unwinder.forced_unwind fdes s) came (agree code (operation_byte p.unit) fdes k v s (x s sp) opens tail (top_unwound p i a fs v s running h))
     where
       next : Next
-      next = forced_above (code_of p.unit) k (activations (all_opens p i n back a fs v s running h) ++ all_tail p i n back a fs v s running h) v
+      next = forced_above (code_of p.unit) k (activations (top_opens p a fs v s h) ++ top_tail p a fs v s h) v
 
-      by : (result : Raised × State) → next ≡ goes_to st → (st.top.function ≡ terminating → ⊥) →
-          Lands (code_of p.unit) (operation_byte p.unit) (unwinding k) v s (x s sp) (all_opens p i n back a fs v s running h) (all_tail p i n back a fs v s running h) 0 next result
-          ⊎ (IsTerminated v (all_opens p i n back a fs v s running h) (all_tail p i n back a fs v s running h) next × (result ≡ (Terminate, s))) ⊎ ((next ≡ finishes (by_program (exit k)) v) × (result ≡ (NoHandler, s))) →
-          LandsTo p (program_of i).image st v w 0 0 (λ z. z ≡ pos 0) result
-      by result came live (inl lands) =
+      by : (result : Raised × State) → next ≡ goes_to st →
+          Lands (code_of p.unit) (operation_byte p.unit) (unwinding k) v s (x s sp) (top_opens p a fs v s h) (top_tail p a fs v s h) 0 0 next result
+          ⊎ (IsTerminated v (top_opens p a fs v s h) (top_tail p a fs v s h) next × (result ≡ (Terminate, s))) ⊎ ((next ≡ finishes (by_program (exit k)) v) × (result ≡ (NoHandler, s))) →
+          LandsTo (program_of i).image st words (R p) v w 0 0 0 (λ z. z ≡ pos 0) result
+      by result came (inl lands) =
           let goes = forced_goes (code_of p.unit) k v in
-          lands_to p i n back a fs v s running h (program_of i).image (forced_by_table (code_of p.unit)) (λ xs. forced_above (code_of p.unit) k xs v) v w (unwinding k) 0 0 m (λ z. z ≡ pos 0) st result lands goes
-          (forced_stops (code_of p.unit)) (forced_selects (code_of p.unit) k v goes) (forced_zero (code_of p.unit) k v goes) to callee plain ints refl refl (omega arith) runtime refl
-      by result came live (inr (inl (ends, is))) =
+          lands_to p i a fs v s running h words R st enters live (forced_by_table (code_of p.unit)) (λ xs. forced_above (code_of p.unit) k xs v) v w (unwinding k) 0 0 0 (λ z. z ≡ pos 0) result lands goes
+          (forced_stops (code_of p.unit)) (forced_selects (code_of p.unit) k v goes) (forced_zero (code_of p.unit) k v goes) to plain ints refl refl (omega arith) runtime refl
+      by result came (inr (inl (ends, is))) =
           absurd (live (begins_terminating v.installed.terminate_handler (record { function = ends.barring.function; place = 0; frame = ends.barring.frame } ∷ ends.outer) v st (sym ends.terminates ∙ came)))
-      by result came live (inr (inr (ends, is))) = absurd (let both : finishes (by_program (exit k)) v ≡ goes_to st = sym ends ∙ came in cc both)
+      by result came (inr (inr (ends, is))) = absurd (let both : finishes (by_program (exit k)) v ≡ goes_to st = sym ends ∙ came in cc both)
 
 -- ---- the step
-forced_runs : CallsAreTurns → CallsAreMade → ForcedAgree → (i : CleanImage) (p : Plan) (n m s : ℕ) (k : ℤ) (st next : LinearState) (w : abi.World) (back : ℕ) → Stands p n st w back → IsRunning p i w.hart → StepAt p st next n (resume s) →
-    ForcedAsked p n st w s k → PadsArePlain p → FiltersAreInts p → next.top.function ≡ compiled m →
-    (next.world ≡ st.world) × Matched (program_of i).image (length (linear_code (shape p n) (resume s)) + 2) w [] (λ u. Matches (closed p next.top.frame.call) next u × KeepsAll w u)
-forced_runs turns made agree i p n m s k st next w back h running at asks plains ints callee =
+-- at the call, with 0 for the object's address
+pub forced_call : CallsAreMade → ForcedAgree → (pads : ℕ) (R : Plan → abi.World → Type 0) (i : CleanImage) (p : Plan) (k : ℤ) (st next : LinearState) (w : abi.World) (behind : State) → EntersPad i st.top next pads R → (next.top.function ≡ terminating → ⊥) →
+    AtCall p i 9 st.top st.frames st.world w behind → x behind a0 ≡ 0 → w.unwinding ≡ Some k → forced_above (code_of p.unit) k (st.top ∷ st.frames) st.world ≡ goes_to next → PadsArePlain p → FiltersAreInts p →
+    (next.world ≡ st.world) × Matched (program_of i).image (1 + pads) w [] (λ u. R p u × KeepsAll w u)
+forced_call made agree pads R i p k st next w behind enters alive c zero on unwinds plains ints =
     let image : Image = (program_of i).image in
-    let g : Ground = (setting p n).ground in
-    let here : ℕ = first_word p n + op_word (routine p n) st.top.place in
     let v : World = st.world in
-    let own = operation_at p w.hart.memory n st.top.place (resume s) h.memory.unit h.memory.top.known at.there in
-    let first = zero_loaded p n st w back here s k h asks own.code.0 h.pc in
-    let ec = ecall_reached turns image g here 1 0 9 w first.goes (omega arith) own.code.1 in
-    let y : abi.World = asked ec.behind ec.at in
-    let q = runtime_stays p st.frames v w ec.at ec.runtime h.runtime in
-    let r : RuntimeMatches p st.frames v y = record { input = q.input; replies = q.replies; last_number = q.last_number; terminating = q.terminating; exceptions = q.exceptions; plan = q.plan } in
-    let is0 : argument y 10 ≡ 0 = ec.kept a0 (λ b. absurd (omega (arith, b))) ∙ first.is in
-    let there = running_still p i w.hart ec.behind ec.memory running in
-    let incall : InCall p n back st.top st.frames v ec.behind = record {
-      runs = h.runs;
-      registers = ec.registers;
-      goes_on = record { operation = resume s; there = at.there; word = 2; inside = omega arith; is = ec.pc ∙ omega arith };
-      memory = subst (λ ps. MemoryMatches p n st.top.frame st.frames v ps (x ec.behind sp) back) (sym ec.memory)
-          (subst (λ a. MemoryMatches p n st.top.frame st.frames v w.hart.memory a back) (sym ec.stack) h.memory);
-    } in
-    let lands = forced_lands p i n back st.top st.frames v ec.behind there incall agree y k m next (forced_step p n s k st next at asks.is) callee plains ints r in
+    let y : abi.World = asked behind w in
+    let r = when_asked p st.frames v behind w c.runtime in
+    let lands = forced_lands p i st.top st.frames v behind c.running c.on agree pads R next enters alive y k unwinds plains ints r in
     let to : abi.World = at_pad 0 (pos 0) (at_hart lands.after y) in
-    let effect : (wish : ℕ) → call_effect 9 image wish y ≡ abi.goes to = λ wish. resume_is image wish y ∙ unwinds_so image y k is0 (ec.runtime.unwinding ∙ asks.on) ∙ ap (forced_as image.places k y) lands.installs in
-    let called = call_made made image g here 1 9 w first.goes.after ec to effect in
-    let ran : Matched image 2 (counted to) [] (λ u. Matches (closed p next.top.frame.call) next u × SameRuntime y u)
-    = subst (λ z. Matched image 2 (counted (at_pad 0 z (at_hart lands.after y))) [] (λ u. Matches (closed p next.top.frame.call) next u × SameRuntime y u)) lands.chosen lands.ran in (
+    let effect : (wish : ℕ) → call_effect 9 image wish y ≡ abi.goes to = λ wish. resume_is image wish y ∙ unwinds_so image y k zero on ∙ ap (forced_as image.places k y) lands.installs in
+    let called = made.goes_on image 9 w to behind c.calls c.asks effect refl in
+    let ran : Matched image pads (counted to) [] (λ u. R p u × SameRuntime y u) = subst (λ z. Matched image pads (counted (at_pad 0 z (at_hart lands.after y))) [] (λ u. R p u × SameRuntime y u)) lands.chosen lands.ran in (
       lands.world,
       record {
-        turns = ec.turns + 1 + ran.turns;
-        few = omega (arith, ec.few, ran.few);
+        turns = 1 + ran.turns;
+        few = omega (arith, ran.few);
         some = λ some. omega arith;
         after = ran.after;
-        runs = turns_then image (ec.turns + 1) ran.turns w (counted to) ran.after [] [] called ran.runs;
-        holds = (ran.holds.0, record { exceptions = ran.holds.1.exceptions ∙ ec.runtime.exceptions; unwinding = ran.holds.1.unwinding ∙ ec.runtime.unwinding });
+        runs = turns_then image 1 ran.turns w (counted to) ran.after [] [] called ran.runs;
+        holds = (ran.holds.0, record { exceptions = ran.holds.1.exceptions; unwinding = ran.holds.1.unwinding });
       },
     )
 
+pub forced_runs : CallsAreTurns → CallsAreMade → ForcedAgree → (pads : ℕ) (R : Plan → abi.World → Type 0) (i : CleanImage) (p : Plan) (n s : ℕ) (k : ℤ) (st next : LinearState) (w : abi.World) (back : ℕ) → EntersPad i st.top next pads R →
+    (next.top.function ≡ terminating → ⊥) → Stands p n st w back → IsRunning p i w.hart → StepAt p st next n (resume s) → ForcedAsked p n st w s k → PadsArePlain p → FiltersAreInts p →
+    (next.world ≡ st.world) × Matched (program_of i).image (length (linear_code (shape p n) (resume s)) + pads) w [] (λ u. R p u × KeepsAll w u)
+forced_runs turns made agree pads R i p n s k st next w back enters alive h running at asks plains ints =
+    let image : Image = (program_of i).image in
+    let g : Ground = (setting p n).ground in
+    let here : ℕ = first_word p n + op_word (routine p n) st.top.place in
+    let code : ℕ = length (linear_code (shape p n) (resume s)) in
+    let own = operation_at p w.hart.memory n st.top.place (resume s) h.memory.unit h.memory.top.known at.there in
+    let first = zero_loaded p n st w back here s k h asks own.code.0 h.pc in
+    let ec = ecall_reached turns image g here 1 0 9 w first.goes (omega arith) own.code.1 in
+    let c = call_at i image p n st w back g here 1 9 first.goes.after h running ec (record { operation = resume s; there = at.there; word = 2; inside = omega arith; is = ec.pc ∙ omega arith }) in
+    let went = forced_call made agree pads R i p k st next ec.at ec.behind enters alive c (ec.kept a0 (λ b. absurd (omega (arith, b))) ∙ first.is) (ec.runtime.unwinding ∙ asks.on) (forced_step p n s k st next at asks.is) plains ints in
+    let ran = went.1 in
+    let kept : Matched image (1 + pads) ec.at [] (λ u. R p u × KeepsAll w u) = record {
+      turns = ran.turns;
+      few = ran.few;
+      some = ran.some;
+      after = ran.after;
+      runs = ran.runs;
+      holds = (ran.holds.0, record { exceptions = ran.holds.1.exceptions ∙ ec.runtime.exceptions; unwinding = ran.holds.1.unwinding ∙ ec.runtime.unwinding });
+    } in
+    (went.0, then_called image g here 1 9 pads code w first.goes.after (λ u. R p u × KeepsAll w u) ec (omega arith) kept)
+
 pub forced_run : CallsAreTurns → CallsAreMade → ForcedAgree → ForcedRun
 forced_run turns made agree i p n m s k st next w h running at asks plains ints callee =
-    let all = forced_runs turns made agree i p n m s k st next w h.back (stands_by p n st w h at.runs) running at asks plains ints callee in
+    let all = forced_runs turns made agree 2 (Arrived next) i p n s k st next w h.back (pad_entered_runs i st.top next m callee) (compiled_lives next m callee) (stands_by p n st w h at.runs) running at asks plains ints in
     (ap (λ (u : World). u.items) all.0 ∙ sym (append-nil st.world.items), all.1)

@@ -3,7 +3,7 @@ use Rattle.std.proofs.Common.{◌≡◌, ◌∙◌, refl, sym, ap, subst, arith,
 use Rattle.std.specs.Prelude.{◌⊎◌}
 use Rattle.std.specs.List.{AllByRecursion}
 use Rattle.rv64_isa.specs.State.{Part}
-use Rattle.region_forms.specs.World.{nothing, Frame, World}
+use Rattle.region_forms.specs.World.{nothing, World}
 use Rattle.linear_forms.specs.Stub.{compiled, end_catch, call_unexpected}
 use Rattle.linear_forms.specs.Activation.{Activation}
 use Rattle.linear_forms.specs.UnitRun.{code_of}
@@ -20,6 +20,7 @@ use Rattle.machine_simulation.specs.Matches.{RuntimeMatches, MemoryMatches}
 use Rattle.machine_simulation.specs.Returns.{closed}
 use Rattle.machine_simulation.proofs.Closing.{live_before, newer_over, call_narrowed, waits_narrowed, apart_narrowed, objects_narrowed, unit_narrowed, destroyed_nothing, runtime_popped}
 use Rattle.machine_raises.proofs.Waiting.{opens_of, tail_of, all_are}
+use Rattle.machine_raises.proofs.OnStack.{Around}
 use Rattle.machine_raises.proofs.Passing.{Passed, StopsStubs, stub_not_passed}
 
 -- A call among those that wait, where all inside it are passed: it stands, and so do the calls that wait for it.
@@ -40,7 +41,8 @@ same_others x y xs ys e = cc
 pub one_number : (n m : ℕ) → compiled n ≡ compiled m → n ≡ m
 one_number n m e = cc e
 
-not_compiled : (p : Plan) (a : Activation) (v : World) (memory : List Part) (stack back outer m : ℕ) → StubWaits p a v memory stack back outer → a.function ≡ compiled m → ⊥
+-- none of the runtime's own functions that wait is a compiled one
+pub not_compiled : (p : Plan) (a : Activation) (v : World) (memory : List Part) (stack back outer m : ℕ) → StubWaits p a v memory stack back outer → a.function ≡ compiled m → ⊥
 not_compiled p a v memory stack back outer m w callee = by w.waits
   where
     by : DestructorWaits p a v memory stack back ⊎ UnexpectedWaits p a v memory stack back ⊎ LeavingWaits p a v memory stack back → ⊥
@@ -93,17 +95,16 @@ landed p judge m (a ∷ fs) v memory stack back limit (inr (inl (out, waits, mor
     absurd (stub_not_passed p judge a v memory stack back out waits stops (subst (λ x. Passed (code_of p.unit) judge x.activation) (sym same) passed.0))
 
 -- ---- the newest call again
-pub popped_to : (p : Plan) (n m : ℕ) (frame : Frame) (fs rest : List Activation) (a : Activation) (v : World) (memory : List Part) (stack back there out : ℕ) → MemoryMatches p n frame fs v memory stack back →
-    a.frame.call < frame.call → CallStands p m a.frame v memory there out → CallsWait p rest v memory (there + (shape p m).size) out a.frame.call →
-    MemoryMatches (closed p a.frame.call) m a.frame rest v memory there out
-popped_to p n m frame fs rest a v memory stack back there out h less stands waiting =
+pub newest_again : (p : Plan) (m limit : ℕ) (rest : List Activation) (a : Activation) (v : World) (memory : List Part) (stack back : ℕ) → Around p v memory limit → a.frame.call < v.calls → CallStands p m a.frame v memory stack back →
+    CallsWait p rest v memory (stack + (shape p m).size) back a.frame.call → MemoryMatches (closed p a.frame.call) m a.frame rest v memory stack back
+newest_again p m limit rest a v memory stack back h less stands waiting =
     let c : ℕ = a.frame.call in
     let over = newer c in
     let narrows = newer_over c in
     record {
-      top = call_narrowed p over c narrows m a.frame v memory there out (omega arith) stands;
-      newest = omega (arith, less, h.newest);
-      waiting = waits_narrowed p over c narrows rest v memory (there + (shape p m).size) out c (omega arith) waiting;
+      top = call_narrowed p over c narrows m a.frame v memory stack back (omega arith) stands;
+      newest = less;
+      waiting = waits_narrowed p over c narrows rest v memory (stack + (shape p m).size) back c (omega arith) waiting;
       apart = apart_narrowed p over c narrows memory h.apart;
       inside = λ b z live at. h.inside b z (live_before p over b.base live).0 at;
       may = h.may;

@@ -1,6 +1,7 @@
 pub mod Words
 pub mod Saying
 pub mod Waiting
+pub mod OnStack
 pub mod Stacks
 pub mod Pads
 pub mod Passing
@@ -11,10 +12,13 @@ pub mod Replaced
 pub mod Thrown
 pub mod Selectors
 pub mod Aiming
+pub mod Tables
+pub mod Filters
 pub mod Raised
 pub mod Targeted
 pub mod Native
 pub mod ThrowWords
+pub mod AtCalls
 pub mod Throwing
 pub mod Onward
 pub mod Arriving

@@ -71,8 +71,10 @@ use Rattle.machine_exceptions.proofs.Picking.{turns_for, then_for, call_for}
 use Rattle.machine_raises.specs.Stacks.{IsRunning, GoesOnIn, InCall}
 use Rattle.machine_raises.specs.Pads.{PadsArePlain, FiltersAreInts}
 use Rattle.machine_raises.specs.Targets.{target_end}
-use Rattle.machine_raises.specs.Throws.{AimedAt}
-use Rattle.machine_raises.specs.Modules.{RaisedFor, ModulesRaise}
+use Rattle.machine_raises.specs.Throws.{HasAim}
+use Rattle.machine_raises.specs.Modules.{RaisedForTo, ModulesRaise}
+use Rattle.machine_raises.proofs.OnStack.{call_on_stack}
+use Rattle.machine_raises.proofs.Entered.{EntersPad, Arrived, pad_entered_runs, compiled_lives}
 use Rattle.machine_raises.proofs.Targeted.{targeted}
 use Rattle.machine_raises.proofs.ForeignMade.{foreign_world, no_such, foreign_runtime}
 use Rattle.machine_raises.proofs.Raised.{RaiseLands, raise_lands}
@@ -90,9 +92,6 @@ module_fits e wants o (inl s) few = (subst LinearFits s.2 few).0
 module_fits e wants o (inr (inl s)) few = (subst LinearFits s.1 few).0
 module_fits e wants o (inr (inr s)) few = (subst LinearFits s.1 few).0
 
-not_terminating : (m : ℕ) → compiled m ≡ terminating → ⊥
-not_terminating m e = absurd (cc e)
-
 -- ---- the unwinder's answer
 plain_with : (p : Plan) (e slot : ℕ) → PadsArePlain p → PadsArePlain (with_object p e slot)
 plain_with p e slot h m place object selector op =
@@ -100,7 +99,7 @@ plain_with p e slot h m place object selector op =
     (record { inside = both.0.inside; plain = both.0.plain }, record { inside = both.1.inside; plain = both.1.plain })
 
 running_with : (p : Plan) (e slot : ℕ) (i : CleanImage) (s : State) → IsRunning p i s → IsRunning (with_object p e slot) i s
-running_with p e slot i s h = record { image = h.image; lists = h.lists; base = h.base; run = h.run }
+running_with p e slot i s h = record { image = h.image; lists = h.lists; base = h.base; tables = h.tables; run = h.run }
 
 goes_with : (p : Plan) (e slot n place ip : ℕ) → GoesOnIn p n place ip → GoesOnIn (with_object p e slot) n place ip
 goes_with p e slot n place ip h = record { operation = h.operation; there = h.there; word = h.word; inside = h.inside; is = h.is }
@@ -114,10 +113,10 @@ made_in y slot k token left = foreign_made k token slot (left_in y k left)
 abbrev raised_world : abi.World → (slot k token : ℕ) → List Reply → abi.World
 raised_world y slot k token left = with_exceptions (one_uncaught (made_in y slot k token left).exceptions) (made_in y slot k token left)
 
-record ForeignLands (p : Plan) (i : CleanImage) (st next : LinearState) (y : abi.World) (slot k token : ℕ) (left : List Reply) : Type 0 where
+record ForeignLands (p : Plan) (i : CleanImage) (words : ℕ) (R : Plan → abi.World → Type 0) (st next : LinearState) (y : abi.World) (slot k token : ℕ) (left : List Reply) : Type 0 where
   depth : ℕ
   found : found_above (code_of p.unit) (type_at (flies (st.world.last_number + 1) (foreign_world st.world k token left)) (st.world.last_number + 1)) (st.top ∷ st.frames) ≡ Some depth
-  lands : RaiseLands (with_object p (st.world.last_number + 1) slot) i next (flies (st.world.last_number + 1) (foreign_world st.world k token left)) (made_in y slot k token left).exceptions (foreign_object (left_in y k left) k token slot) None
+  lands : RaiseLands (with_object p (st.world.last_number + 1) slot) i words (R (with_object p (st.world.last_number + 1) slot)) next (flies (st.world.last_number + 1) (foreign_world st.world k token left)) (made_in y slot k token left).exceptions (foreign_object (left_in y k left) k token slot) None depth (st.top ∷ st.frames)
       (raised_world y slot k token left) (target_end p depth (x y.hart sp) (st.top ∷ st.frames))
 
 making_with : (p : Plan) (fs : List Activation) (v : World) (y : abi.World) (slot k token : ℕ) (left : List Reply) → RuntimeMatches p fs v y → is_vacant y.exceptions.live slot ≡ true → Making p (v.last_number + 1) slot v (foreign_world v k token left)
@@ -133,10 +132,10 @@ making_with p fs v y slot k token left r vacant = record {
       (apart.0, apart.1, r.plan.size d live, apart.2);
 }
 
-foreign_lands : RaisesAgree → (i : CleanImage) (p : Plan) (n m back : ℕ) (st next : LinearState) (y : abi.World) (slot k token : ℕ) (left : List Reply) → st.top.function ≡ compiled n → length y.hart.regs ≡ 32 → GoesOnIn p n st.top.place y.hart.pc →
+foreign_lands : RaisesAgree → (words : ℕ) (R : Plan → abi.World → Type 0) (i : CleanImage) (p : Plan) (n back : ℕ) (st next : LinearState) (y : abi.World) (slot k token : ℕ) (left : List Reply) → EntersPad i st.top next words R → (next.top.function ≡ terminating → ⊥) → st.top.function ≡ compiled n → length y.hart.regs ≡ 32 → GoesOnIn p n st.top.place y.hart.pc →
     MemoryMatches p n st.top.frame st.frames st.world y.hart.memory (x y.hart sp) back → RuntimeMatches p st.frames st.world y → IsRunning p i y.hart → is_vacant y.exceptions.live slot ≡ true →
-    raise (code_of p.unit) (st.world.last_number + 1) st.top st.frames (foreign_world st.world k token left) ≡ goes_to next → PadsArePlain p → FiltersAreInts p → next.top.function ≡ compiled m → ForeignLands p i st next y slot k token left
-foreign_lands agree i p n m back st next y slot k token left runs registers goes_on memory r running vacant step plains ints callee =
+    raise (code_of p.unit) (st.world.last_number + 1) st.top st.frames (foreign_world st.world k token left) ≡ goes_to next → PadsArePlain p → FiltersAreInts p → ForeignLands p i words R st next y slot k token left
+foreign_lands agree words R i p n back st next y slot k token left enters alive runs registers goes_on memory r running vacant step plains ints =
     let v : World = st.world in
     let e : ℕ = v.last_number + 1 in
     let u0 : World = foreign_world v k token left in
@@ -146,29 +145,30 @@ foreign_lands agree i p n m back st next y slot k token left runs registers goes
     let making = making_with p st.frames v y slot k token left r vacant in
     let incall : InCall q n back st.top st.frames u0 y.hart
     = record { runs = runs; registers = registers; goes_on = goes_with p e slot n st.top.place y.hart.pc goes_on; memory = matches_made p e slot v u0 making n st.top.frame st.frames y.hart.memory (x y.hart sp) back memory } in
-    let goal = targeted (code_of p.unit) e st.top st.frames u0 next step (λ c. not_terminating m (sym callee ∙ c)) in
+    let goal = targeted (code_of p.unit) e st.top st.frames u0 next step alive in
     let none = no_such v.live e v.last_number r.exceptions.numbers refl in
     let type : type_at flew e ≡ None = ap exception_type (exception_is flew.live e (foreign k token) (new_in v.live e (foreign k token) none)) in
     record {
       depth = goal.depth;
       found = goal.found;
-      lands = raise_lands q i n back st.top st.frames u0 y.hart (running_with p e slot i y.hart running) incall agree flew (raised_world y slot k token left) e goal.depth m None (made_in y slot k token left).exceptions
-          (foreign_object (left_in y k left) k token slot) next refl tt type (ap (λ t. found_above (code_of p.unit) t (st.top ∷ st.frames)) (sym type) ∙ goal.found) goal.unwound callee (plain_with p e slot plains) ints refl refl (omega arith)
+      lands = raise_lands q i st.top st.frames u0 y.hart (running_with p e slot i y.hart running) (call_on_stack q n back st.top st.frames u0 y.hart running.base incall) agree words R next enters alive flew (raised_world y slot k token left) e goal.depth None
+          (made_in y slot k token left).exceptions (foreign_object (left_in y k left) k token slot) refl tt type (ap (λ t. found_above (code_of p.unit) t (st.top ∷ st.frames)) (sym type) ∙ goal.found) goal.unwound (plain_with p e slot plains) ints refl refl
+          (omega arith)
           (λ cfa table. foreign_runtime p st.frames v y slot k token left cfa table r vacant) (omega arith, sym (new_at p e slot (of_exception e) refl).at, omega (arith, small));
     }
 
 -- where the exception has its slot
-record RaisedIn (p : Plan) (i : CleanImage) (pick : ℕ → ℕ) (st next : LinearState) (w : abi.World) (k token words : ℕ) (left : List Reply) : Type 0 where
-  slot : ℕ
-  below : slot < slots
-  world : next.world ≡ flies (st.world.last_number + 1) (foreign_world st.world k token left)
-  raised : RaisedFor p (with_object p (st.world.last_number + 1) slot) i pick st next w (st.world.last_number + 1) words (Foreign (st.world.last_number + 1) k token ∷ [])
+pub record RaisedIn (p : Plan) (i : CleanImage) (pick : ℕ → ℕ) (st next : LinearState) (w : abi.World) (k token words : ℕ) (left : List Reply) (R : Plan → abi.World → Type 0) : Type 0 where
+  pub slot : ℕ
+  pub below : slot < slots
+  pub world : next.world ≡ flies (st.world.last_number + 1) (foreign_world st.world k token left)
+  pub raised : RaisedForTo p i pick st next w (st.world.last_number + 1) words (Foreign (st.world.last_number + 1) k token ∷ []) (R (with_object p (st.world.last_number + 1) slot))
 
-module_runs : CallsAreTurns → CallsAreMade → ValuesAreComputed → RaisesAgree → (i : CleanImage) (pick : ℕ → ℕ) (p : Plan) (n m : ℕ) (st next : LinearState) (w : abi.World) (back : ℕ) (o : LinearOp) (wants : Option Place) (e0 : Value) (k token : ℕ)
-    (left : List Reply) → Stands p n st w back → IsRunning p i w.hart → StepAt p st next n o → CallsBuiltin Module (argument_then (int_argument e0) no_arguments) wants o → ValueAsked p n st.top.frame st.world e0 →
-    value_in (slot_kinds p n) st.top.frame st.world e0 ≡ Some (pos k) → slice_get st.world.replies k ≡ Some (Raise token ∷ left) → is_full st.world ≡ false → PadsArePlain p → FiltersAreInts p → next.top.function ≡ compiled m →
-    RaisedIn p i pick st next w k token (length (linear_code (shape p n) o)) left
-module_runs turns made values agree i pick p n m st next w back o wants e0 k token left h running at calls asks is reply free plains ints callee =
+pub module_runs : CallsAreTurns → CallsAreMade → ValuesAreComputed → RaisesAgree → (words : ℕ) (R : Plan → abi.World → Type 0) (i : CleanImage) (pick : ℕ → ℕ) (p : Plan) (n : ℕ) (st next : LinearState) (w : abi.World) (back : ℕ) (o : LinearOp)
+    (wants : Option Place) (e0 : Value) (k token : ℕ) (left : List Reply) → EntersPad i st.top next words R → (next.top.function ≡ terminating → ⊥) → Stands p n st w back → IsRunning p i w.hart → StepAt p st next n o →
+    CallsBuiltin Module (argument_then (int_argument e0) no_arguments) wants o → ValueAsked p n st.top.frame st.world e0 → value_in (slot_kinds p n) st.top.frame st.world e0 ≡ Some (pos k) → slice_get st.world.replies k ≡ Some (Raise token ∷ left) →
+    is_full st.world ≡ false → PadsArePlain p → FiltersAreInts p → RaisedIn p i pick st next w k token (length (linear_code (shape p n) o) + words) left R
+module_runs turns made values agree words R i pick p n st next w back o wants e0 k token left enters alive h running at calls asks is reply free plains ints =
     let image : Image = (program_of i).image in
     let g : Ground = (setting p n).ground in
     let here : ℕ = first_word p n + op_word (routine p n) st.top.place in
@@ -202,13 +202,13 @@ module_runs turns made values agree i pick p n m st next w back o wants e0 k tok
     let memory : MemoryMatches p n st.top.frame st.frames v ec.behind.memory (x ec.behind sp) back
     = subst (λ ps. MemoryMatches p n st.top.frame st.frames v ps (x ec.behind sp) back) (sym ec.memory) (subst (λ a. MemoryMatches p n st.top.frame st.frames v w.hart.memory a back) (sym ec.stack) h.memory) in
     let goes_on : GoesOnIn p n st.top.place ec.behind.pc = record { operation = o; there = at.there; word = length front + 1; inside = omega (arith, total); is = ec.pc ∙ omega arith } in
-    let there : IsRunning p i ec.behind = record { image = running.image; lists = running.lists; base = running.base; run = ap frozen ec.memory ∙ running.run } in
+    let there : IsRunning p i ec.behind = record { image = running.image; lists = running.lists; base = running.base; tables = running.tables; run = ap frozen ec.memory ∙ running.run } in
     let step : raise (code_of p.unit) e st.top st.frames u0 ≡ goes_to next
     = ap (λ c. performed (code_of p.unit) (if c then terminates v.installed.terminate_handler (record v { replies = slice_set v.replies k left }) else raises e u0) st.top st.frames v) (sym free)
     ∙ ap (λ a. performed (code_of p.unit) (replied (slot_kinds p n) wants k a st.top.frame v) st.top st.frames v) (sym reply)
     ∙ ap (λ a. performed (code_of p.unit) (if_some (with_some (with_some a (λ z. Some (number_word z))) (λ word. Some (word ∷ []))) (λ gives. module_called (slot_kinds p n) wants (number_at gives 0) st.top.frame v)) st.top st.frames v) (sym is)
     ∙ op.steps next at.step in
-    let answer = foreign_lands agree i p n m back st next y slot k token left h.runs ec.registers goes_on memory r there vacant step plains ints callee in
+    let answer = foreign_lands agree words R i p n back st next y slot k token left enters alive h.runs ec.registers goes_on memory r there vacant step plains ints in
     let lands = answer.lands in
     let y1 : abi.World = left_in y k left in
     let w1 : abi.World = raised_world y slot k token left in
@@ -221,15 +221,17 @@ module_runs turns made values agree i pick p n m st next w back o wants e0 k tok
     = module_is image wish y ∙ ap (λ a. module_asked image wish y a (slice_get y.replies a)) number ∙ ap (module_asked image wish y k) replies ∙ ap (raised_in image y1 k token) given.1 ∙ lands.effect in
     let count : ec.at.last_number + 1 ≡ e = ap (λ a. a + 1) r.last_number in
     let shown : lands.next.shown ≡ Foreign e k token ∷ [] = lands.shown ∙ ap (λ a. Foreign a k token ∷ []) count in
-    let two : TurnsFor image pick 1 ec.at (counted lands.next) (Foreign e k token ∷ []) = subst (TurnsFor image pick 1 ec.at (counted lands.next)) shown (call_for made image pick 14 ec.at lands.next ec.behind ec.calls ec.asks effect) in
+    let two : TurnsFor image pick 1 ec.at (counted lands.next) (Foreign e k token ∷ []) = subst (TurnsFor image pick 1 ec.at (counted lands.next)) shown (call_for made image pick 14 ec.at lands.next ec.behind ec.calls ec.asks effect lands.unwinding) in
     let after : abi.World = lands.ran.after in
     let new : Header = aimed (target_end p answer.depth (x ec.behind sp) (st.top ∷ st.frames)) lands.table ob.header in
     let inside : slot < length y.exceptions.live = omega (arith, small, mm.sound.slots) in
     let set : header_of w1.exceptions.live slot ≡ Some ob.header = header_changed y.exceptions.live slot (Some ob.header) inside in
     let kept_there : header_of after.exceptions.live slot ≡ Some new
     = ap (λ (z : Exceptions). header_of z.live slot) (lands.ran.holds.1.exceptions ∙ lands.exceptions) ∙ header_changed w1.exceptions.live slot (Some new) (slot_below w1.exceptions.live slot ob.header set) in
-    let aims : AimedAt after e (target_end p answer.depth (x w.hart sp) (st.top ∷ st.frames))
-    = record { slot = slot; has = record { header = new; there = kept_there; number = count }; aimed = ap (λ a. target_end p answer.depth a (st.top ∷ st.frames)) ec.stack } in
+    let aims : HasAim p after e answer.depth (x w.hart sp) (st.top ∷ st.frames) = record {
+      at = record { slot = slot; has = record { header = new; there = kept_there; number = count }; aimed = ap (λ a. target_end p answer.depth a (st.top ∷ st.frames)) ec.stack };
+      table = lands.owned;
+    } in
     record {
       slot = slot;
       below = small;
@@ -252,5 +254,5 @@ module_runs turns made values agree i pick p n m st next w back o wants e0 k tok
 
 pub modules_raise : CallsAreTurns → CallsAreMade → ValuesAreComputed → RaisesAgree → ModulesRaise
 modules_raise turns made values agree i pick p n m st next w o wants e0 k token left h running at calls asks is reply free plains ints callee =
-    let all = module_runs turns made values agree i pick p n m st next w h.back o wants e0 k token left (stands_by p n st w h at.runs) running at calls asks is reply free plains ints callee in
+    let all = module_runs turns made values agree 2 (Arrived next) i pick p n st next w h.back o wants e0 k token left (pad_entered_runs i st.top next m callee) (compiled_lives next m callee) (stands_by p n st w h at.runs) running at calls asks is reply free plains ints in
     (ap (λ (u : World). u.items) all.world, all.slot, all.below, all.raised)

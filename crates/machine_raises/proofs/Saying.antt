@@ -94,7 +94,7 @@ forced_says p i s running =
     }
 
 -- ---- rows
-place_of : (a k ip : ℕ) → a + k < 0x60000000 → ip ≡ a + k + 1 → look_up_place ip false ≡ a + k
+pub place_of : (a k ip : ℕ) → a + k < 0x60000000 → ip ≡ a + k + 1 → look_up_place ip false ≡ a + k
 place_of a k ip low is = omega (arith, low, is)
 
 pub has_row : (p : Plan) (i : CleanImage) (s : State) (f : Function) (place k ip : ℕ) → IsRunning p i s → IsThere p.unit f → IsByteOf p.unit f place k → 8 ≤ k → ip ≡ first_byte p.unit f + k + 1 →

@@ -23,7 +23,7 @@ use Rattle.raise_simulation.specs.Tables.{said}
 use Rattle.raise_simulation.specs.Opens.{Open, activations, calls, Judge, TablesAgree, IsFirst, IsBarred}
 use Rattle.machine_simulation.specs.Plan.{Plan, function, shape, setting}
 use Rattle.machine_simulation.specs.StubCalls.{StubWaits, DestructorWaits, UnexpectedWaits, LeavingWaits}
-use Rattle.machine_simulation.specs.Calls.{CallsWait, stored_behind}
+use Rattle.machine_simulation.specs.Calls.{Waits, CallsWait, stored_behind}
 use Rattle.machine_simulation.specs.Matches.{FrameIs, UnitStands}
 use Rattle.machine_raises.specs.Stacks.{IsRunning, GoesOnIn}
 use Rattle.machine_raises.proofs.Words.{byte_before, calls_a_word}
@@ -83,8 +83,22 @@ compiled_at p n ip a base known callee on =
       is = b.is ∙ ap (λ f. first_byte p.unit f + b.byte + 1) (sym callee);
     }
 
+-- a call that waits goes on behind a word of its operation
+pub waiting_goes_on : (p : Plan) (n : ℕ) (a : Activation) (v : World) (memory : List Part) (stack back outer : ℕ) → p.base ≡ records_end p.unit → UnitStands p memory → Waits p n a v memory stack back outer → GoesOnAt p a back
+waiting_goes_on p n a v memory stack back outer base unit waits =
+    let front = waits.front in
+    let some = calls_a_word (shape p n) waits.op front (unit.registers n a.place waits.op waits.there) waits.calls waits.is in
+    let count = ap length waits.is in
+    compiled_at p n back a base waits.stands.known waits.callee (record {
+      operation = waits.op;
+      there = waits.there;
+      word = length front - 1;
+      inside = omega (arith, count, length-append front (stored_behind (shape p n) waits.op), some);
+      is = waits.returns ∙ ap (address (setting p n).ground) (omega (arith, some));
+    })
+
 -- the k-th word of one of the runtime's own functions, in an operation of it
-stub_at : (p : Plan) (f : Function) (place k ip : ℕ) (a : Activation) → p.base ≡ records_end p.unit → a.function ≡ f → a.place ≡ place → IsThere p.unit f → 3 ≤ k → IsByteOf p.unit f place (4 * k - 1) →
+pub stub_at : (p : Plan) (f : Function) (place k ip : ℕ) (a : Activation) → p.base ≡ records_end p.unit → a.function ≡ f → a.place ≡ place → IsThere p.unit f → 3 ≤ k → IsByteOf p.unit f place (4 * k - 1) →
     ip ≡ stub_word p.base f k → first_byte p.unit f ≡ records_end p.unit + 4 * stub_first f → GoesOnAt p a ip
 stub_at p f place k ip a base callee at there far inside is first = record {
   there = subst (IsThere p.unit) (sym callee) there;
@@ -94,7 +108,7 @@ stub_at p f place k ip a base callee at there far inside is first = record {
   is = omega (arith, is, base, far, first) ∙ ap (λ g. first_byte p.unit g + (4 * k - 1) + 1) (sym callee);
 }
 
-stub_waits_at : (p : Plan) (a : Activation) (v : World) (memory : List Part) (stack back outer : ℕ) → p.base ≡ records_end p.unit → StubWaits p a v memory stack back outer → GoesOnAt p a back
+pub stub_waits_at : (p : Plan) (a : Activation) (v : World) (memory : List Part) (stack back outer : ℕ) → p.base ≡ records_end p.unit → StubWaits p a v memory stack back outer → GoesOnAt p a back
 stub_waits_at p a v memory stack back outer base w = by w.waits
   where
     by : DestructorWaits p a v memory stack back ⊎ UnexpectedWaits p a v memory stack back ⊎ LeavingWaits p a v memory stack back → GoesOnAt p a back
@@ -156,19 +170,9 @@ waiting_stack p i judge thrown s [] v stack back limit running says unit w =
       ends = inl (record { none = refl; outermost = outermost p i s 7 back running (omega arith) is; says = says.start 7 back (omega arith) is });
     }
 waiting_stack p i judge thrown s (a ∷ fs) v stack back limit running says unit (inl (less, n, outer, waits, more)) =
-    let front = waits.front in
     let stands = waits.stands in
-    let some = calls_a_word (shape p n) waits.op front (unit.registers n a.place waits.op waits.there) waits.calls waits.is in
-    let count = ap length waits.is in
-    let on : GoesOnIn p n a.place back = record {
-      operation = waits.op;
-      there = waits.there;
-      word = length front - 1;
-      inside = omega (arith, count, length-append front (stored_behind (shape p n) waits.op), some);
-      is = waits.returns ∙ ap (address (setting p n).ground) (omega (arith, some));
-    } in
     one_more p i judge thrown s a (shape p n).size back stack outer (opens_of p fs v s.memory (stack + (shape p n).size) outer a.frame.call more) (tail_of p fs v s.memory (stack + (shape p n).size) outer a.frame.call more)
-    running says (compiled_at p n back a running.base stands.known waits.callee on) (ap (frame_of p.unit) waits.callee) (big_frame p n (unit.frames n stands.known)) (omega (arith, stands.above)) stands.below stands.saved
+    running says (waiting_goes_on p n a v s.memory stack back outer running.base unit waits) (ap (frame_of p.unit) waits.callee) (big_frame p n (unit.frames n stands.known)) (omega (arith, stands.above)) stands.below stands.saved
     (waiting_stack p i judge thrown s fs v (stack + (shape p n).size) outer a.frame.call running says unit more)
 waiting_stack p i judge thrown s (a ∷ fs) v stack back limit running says unit (inr (inl (outer, waits, more))) =
     let frame = stub_frame_of p a v s.memory stack back outer waits in

@@ -13,7 +13,7 @@ use Rattle.machine_forms.specs.LinearCode.{linear_code}
 use Rattle.machine_simulation.specs.Plan.{Plan, shape, slot_kinds}
 use Rattle.machine_simulation.specs.Asked.{ValueAsked}
 use Rattle.machine_simulation.specs.Matches.{Matches}
-use Rattle.machine_simulation.specs.Operations.{Matched}
+use Rattle.machine_simulation.specs.Operations.{ForcedMatched}
 use Rattle.machine_simulation.specs.Returns.{closed}
 use Rattle.machine_simulation.specs.Runs.{StepAt}
 use Rattle.machine_simulation.specs.Objects.{Shows}
@@ -26,7 +26,7 @@ Cancels v o = (o ≡ plain (call (builtin Cancel) (argument_then (int_argument v
 
 -- the runtime keeps its exceptions, and the number
 pub record Cancelled (p : Plan) (i : CleanImage) (st next : State) (w : abi.World) (words : ℕ) (k : ℤ) : Type 0 where
-  pub ran : Matched (program_of i).image (words + 2) w [] (λ u. Matches (closed p next.top.frame.call) next u × (u.exceptions ≡ w.exceptions) × (u.unwinding ≡ Some k))
+  pub ran : ForcedMatched (program_of i).image (words + 2) w [] (λ u. Matches (closed p next.top.frame.call) next u × (u.exceptions ≡ w.exceptions) × (u.unwinding ≡ Some k))
 
 -- A step that begins a forced unwind, and comes to a pad of a compiled function.
 abbrev pub CancelsRun : Type 0

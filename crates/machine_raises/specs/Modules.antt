@@ -31,14 +31,16 @@ use Rattle.machine_simulation.specs.Objects.{with_object, Shows}
 use Rattle.machine_exceptions.specs.Picks.{MatchedFor}
 use Rattle.machine_raises.specs.Stacks.{IsRunning}
 use Rattle.machine_raises.specs.Pads.{PadsArePlain, FiltersAreInts}
-use Rattle.machine_raises.specs.Targets.{target_end}
-use Rattle.machine_raises.specs.Throws.{AimedAt}
+use Rattle.machine_raises.specs.Throws.{HasAim}
 
--- as `Raised`, of an exception that is new, for the slots that are picked
-pub record RaisedFor (p q : Plan) (i : CleanImage) (pick : ℕ → ℕ) (st next : State) (w : abi.World) (e words : ℕ) (items : List Item) : Type 0 where
+-- as `RaisedTo`, of an exception that is new, for the slots that are picked
+pub record RaisedForTo (p : Plan) (i : CleanImage) (pick : ℕ → ℕ) (st next : State) (w : abi.World) (e words : ℕ) (items : List Item) (R : abi.World → Type 0) : Type 0 where
   pub depth : ℕ
   pub found : found_above (code_of p.unit) (type_at next.world e) (st.top ∷ st.frames) ≡ Some depth
-  pub ran : MatchedFor (program_of i).image pick (words + 2) w items (λ u. Matches (closed q next.top.frame.call) next u × AimedAt u e (target_end p depth (x w.hart sp) (st.top ∷ st.frames)))
+  pub ran : MatchedFor (program_of i).image pick words w items (λ u. R u × HasAim p u e depth (x w.hart sp) (st.top ∷ st.frames))
+
+abbrev pub RaisedFor : (p q : Plan) (i : CleanImage) (pick : ℕ → ℕ) (st next : State) (w : abi.World) (e words : ℕ) (items : List Item) → Type 0
+RaisedFor p q i pick st next w e words items = RaisedForTo p i pick st next w e (words + 2) items (λ u. Matches (closed q next.top.frame.call) next u)
 
 -- A step that calls a module which raises, where fewer than 1,024 exceptions are live, and comes to a pad of a compiled function. The exception
 -- has its object in a slot that was vacant.

@@ -2,11 +2,12 @@
 use Rattle.std.specs.Prelude.{◌≡◌, ℕ, ◌+◌, ◌<◌, List, ◌∷◌, ◌++◌, length, slice_get, Option, Some}
 use Rattle.rv64_isa.specs.State.{State}
 use Rattle.rv64_isa.specs.Step.{x}
+use Rattle.table_forms.specs.Fde.{fde_for}
 use Rattle.table_forms.specs.Verdict.{forced}
 use Rattle.elf_image.specs.Clean.{CleanImage}
 use Rattle.eh_run.specs.Program.{program_of}
 use Rattle.region_forms.specs.World.{World}
-use Rattle.linear_forms.specs.Linear.{LinearOp}
+use Rattle.linear_forms.specs.Linear.{LinearOp, UnitCode}
 use Rattle.linear_forms.specs.Stub.{compiled}
 use Rattle.linear_forms.specs.Activation.{Activation}
 use Rattle.linear_forms.specs.UnitRun.{code_of}
@@ -18,18 +19,24 @@ use Rattle.machine_pieces.specs.Standing.{address}
 use Rattle.table_verdicts.specs.Types.{thrown_as}
 use Rattle.table_verdicts.specs.Asked.{ListsNameTypes}
 use Rattle.image_tables.specs.Read.{IsImageOf}
-use Rattle.image_tables.specs.Functions.{records_end, operation_at}
+use Rattle.image_tables.specs.Functions.{records_end, first_byte, operation_at}
 use Rattle.image_tables.specs.TableLaws.{IsRunOf}
 use Rattle.raise_simulation.specs.Verdicts.{judged_by, forced_by_table}
-use Rattle.raise_simulation.specs.Opens.{Open, activations, StackStands}
+use Rattle.raise_simulation.specs.Opens.{Open, activations, StackStands, table_in}
 use Rattle.machine_simulation.specs.Plan.{Plan, function, shape, routine, first_word, setting}
 use Rattle.machine_simulation.specs.Matches.{MemoryMatches}
 
--- A hart that runs the image of a plan's unit, which begins where the plan says. So does the image of every checked program's unit.
+-- the address of a function's exception table, which the frame of its first byte names; 0 where it has none
+abbrev pub table_of : UnitCode → CleanImage → ℕ → ℕ
+table_of u i n = table_in (fde_for (program_of i).image.fdes (first_byte u (compiled n)))
+
+-- A hart that runs the image of a plan's unit, which begins where the plan says, and has its tables there. So does the image of every checked
+-- program's unit.
 pub record IsRunning (p : Plan) (i : CleanImage) (s : State) : Type 0 where
   pub image : IsImageOf p.unit i
   pub lists : ListsNameTypes p.unit
   pub base : p.base ≡ records_end p.unit
+  pub tables : (n : ℕ) → n < length p.unit.functions → p.tables n ≡ table_of p.unit i n
   pub run : IsRunOf i s
 
 -- an address behind a word of an operation of a compiled function

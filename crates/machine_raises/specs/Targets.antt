@@ -1,5 +1,5 @@
--- Where the frame of a raise's target ends.
-use Rattle.std.specs.Prelude.{ℕ, ◌+◌, ◌==◌, List, [], ◌∷◌, length, if◌then◌else◌}
+-- The target of a raise: which call it is, and where its frame ends.
+use Rattle.std.specs.Prelude.{ℕ, ◌+◌, ◌==◌, List, [], ◌∷◌, length, Option, Some, None, if◌then◌else◌}
 use Rattle.linear_forms.specs.Stub.{Function, compiled, end_catch, terminating, call_unexpected}
 use Rattle.linear_forms.specs.Activation.{Activation}
 use Rattle.machine_stubs.specs.Stretches.{frame_size}
@@ -16,3 +16,8 @@ call_size p call_unexpected = frame_size call_unexpected
 abbrev pub target_end : Plan → (d stack : ℕ) → List Activation → ℕ
 target_end p d stack [] = 0
 target_end p d stack (a ∷ fs) = if length fs == d then stack + call_size p a.function else target_end p d (stack + call_size p a.function) fs
+
+-- the function of the call below which d calls wait
+abbrev pub target_call : (d : ℕ) → List Activation → Option Function
+target_call d [] = None
+target_call d (a ∷ fs) = if length fs == d then Some a.function else target_call d fs

@@ -50,7 +50,7 @@ use Rattle.machine_simulation.proofs.Entered.{CalleeEntered, callee_entered, giv
 -- ---- what is passed
 
 -- the object's address, then the arguments
-all_pass : AddressesAreComputed → (p : Plan) (n : ℕ) (frame : Frame) (fs : List Activation) (v : World) (back here : ℕ) (object : Option Place) (args : Arguments) (given : List Word) (s : State) →
+pub all_pass : AddressesAreComputed → (p : Plan) (n : ℕ) (frame : Frame) (fs : List Activation) (v : World) (back here : ℕ) (object : Option Place) (args : Arguments) (given : List Word) (s : State) →
     MemoryMatches p n frame fs v s.memory (x s sp) back → length s.regs ≡ 32 → s.pc ≡ address (setting p n).ground here →
     PiecesAt s.memory (setting p n).ground here (object_passed (shape p n) object ++ arguments_passed (shape p n) (before object) args) →
     length (object_passed (shape p n) object ++ arguments_passed (shape p n) (before object) args) < 2 ^ 18 → ObjectStands p n frame object → ArgumentsStand p n frame v args →

@@ -10,7 +10,7 @@ use Rattle.region_forms.specs.Evaluation.{Location, locate, address_of}
 use Rattle.linear_forms.specs.Linear.{LinearOp, plain, label, jump, jump_zero}
 use Rattle.machine_forms.specs.Shape.{slot_offset}
 use Rattle.machine_pieces.specs.Frames.{RootFits, ValueStands}
-use Rattle.machine_pieces.specs.Turning.{Turns}
+use Rattle.machine_pieces.specs.Turning.{ForcedTurns, Turns}
 use Rattle.machine_simulation.specs.Plan.{Plan, shape, slot_kinds, setting}
 use Rattle.machine_simulation.specs.Extents.{AddressStands, LocationStands}
 
@@ -52,4 +52,13 @@ pub record Matched (image : Image) (words : ℕ) (w : World) (items : List Item)
   pub some : 0 < words → 0 < turns
   pub after : World
   pub runs : Turns image turns w after items
+  pub holds : P after
+
+-- and so it is where a forced unwind may begin
+pub record ForcedMatched (image : Image) (words : ℕ) (w : World) (items : List Item) (P : World → Type 0) : Type 0 where
+  pub turns : ℕ
+  pub few : turns ≤ words
+  pub some : 0 < words → 0 < turns
+  pub after : World
+  pub runs : ForcedTurns image turns w after items
   pub holds : P after

@@ -7,7 +7,7 @@ use Rattle.cxa_runtime.specs.World.{World}
 use Rattle.cxa_runtime.specs.Raising.{Image}
 use Rattle.cxa_runtime.specs.Call.{call_effect}
 use Rattle.cxa_runtime.specs.Run.{called, counted, stepped, turn}
-use Rattle.machine_pieces.proofs.Turning.{turn_on}
+use Rattle.machine_pieces.proofs.Turning.{forced_turn, turn_on}
 use Rattle.machine_stubs.specs.Calls.{asked, CallsAreMade}
 
 made : (image : Image) (wish number : ℕ) (w : World) (behind : State) → step_of w.hart ≡ (Ecall, behind) → x behind 17 ≡ number → turn image wish w ≡ called w.hart.pc (call_effect number image wish (asked behind w))
@@ -17,5 +17,6 @@ made image wish number w behind e is = ap (stepped image wish (record w { shown 
 pub calls_are_made : CallsAreMade
 calls_are_made = record {
   made = made;
-  goes_on = λ image number w next behind e is effect. turn_on image w (counted next) (λ wish. made image wish number w behind e is ∙ ap (called w.hart.pc) (effect wish));
+  goes_on = λ image number w next behind e is effect kept. turn_on image w (counted next) (λ wish. made image wish number w behind e is ∙ ap (called w.hart.pc) (effect wish)) kept;
+  unwinds = λ image number w next behind e is effect. forced_turn image w (counted next) (λ wish. made image wish number w behind e is ∙ ap (called w.hart.pc) (effect wish));
 }

@@ -55,7 +55,7 @@ end_catch_comes_back image u base o left e w enough stands aligned small newest 
     let t : World = asked h.behind v1 in
     let next : World = left_world o e t in
     let v2 : World = counted next in
-    let two : Turns image 1 v1 v2 items = calls_are_made.goes_on image 7 v1 next h.behind h.calls h.asks (λ wish. left_is image wish o left e w.exceptions t h.kept.runtime.exceptions newest by nothing) in
+    let two : Turns image 1 v1 v2 items = calls_are_made.goes_on image 7 v1 next h.behind h.calls h.asks (λ wish. left_is image wish o left e w.exceptions t h.kept.runtime.exceptions newest by nothing) refl in
     let s2 : State = v2.hart in
     let regs : List ℕ = h.behind.regs in
     let once : List ℕ = with_reg regs 10 0 in

@@ -68,7 +68,7 @@ end_catch_destroys = record {
       let h1 = one.holds in
       let v2 : World = counted (left_world o destructor e (asked h1.behind v1)) in
       let two : Turns image 1 v1 v2 (Leave n ∷ Destroy n ∷ []) = calls_are_made.goes_on image 7 v1 (left_world o destructor e (asked h1.behind v1)) h1.behind h1.calls h1.asks
-      (λ wish. left_is image wish o type destructor e w.exceptions (asked h1.behind v1) h1.kept.runtime.exceptions newest kind by) in
+      (λ wish. left_is image wish o type destructor e w.exceptions (asked h1.behind v1) h1.kept.runtime.exceptions newest kind by) refl in
       let s2 : State = v2.hart in
       let g2 = given u base end_catch 4 up 48 object destructor up h1.behind h1.stands h1.pointer in
       let low_is : low ≡ x s2 2 - 8 = omega (arith, g2.pointer, enough) in
@@ -121,7 +121,7 @@ end_catch_destroys = record {
       let v2 : World = counted next in
       let s2 : State = v2.hart in
       let two : Turns image 1 v1 v2 (Free o.header.number ∷ []) = calls_are_made.goes_on image 4 v1 next h1.behind h1.calls h1.asks
-      (λ wish. freed_by image wish object o w.exceptions t h1.kept.runtime.exceptions h1.holds.1 there) in
+      (λ wish. freed_by image wish object o w.exceptions t h1.kept.runtime.exceptions h1.holds.1 there) refl in
       let saved2 : AddressAt s2.memory (x s2 2 + 8) back = subst (λ a. AddressAt s2.memory (a + 8) back) (sym h1.pointer) (subst (λ ps. AddressAt ps (low + 8) back) (sym h1.holds.0) saved) in
       let three = end_catch_runs.returns image u base back v2 (subst (λ a. Stands u base end_catch 16 a 48 s2) (sym h1.pointer) h1.stands) saved2 aligned small in
       let v3 : World = three.after in

@@ -185,8 +185,12 @@ end_catch_runs = record {
       let w3 = walk_load p 2 34 10 2 40 (low + 40) object (λ r. x s r) m2 (omega arith) (omega arith) w2 (word_at stands 22 refl) (up low 40 (omega arith) (omega (arith, below))) object_kept in
       let w4 = walk_addi p 3 35 17 0 4 4 file3 m2 (omega arith) (omega arith) w3 (word_at stands 23 refl) (small_number 4 (omega arith)) in
       let out = walk_out p 4 36 file4 m2 w4 (word_at stands 24 refl) in
-      ends_out image p u base end_catch w 4 4 4 25 low file4 m2 (λ t. (x t 10 ≡ object) × AddressAt t.memory (low + 24) flying) refl refl stands.code (omega arith) out refl refl
-      (out.hart.regs 10, subst (λ ps. AddressAt ps (low + 24) flying) (sym out.hart.memory) flying_kept);
+      ends_out image p u base end_catch w 4 4 4 25 low file4 m2 (λ t. (x t 10 ≡ object) × AddressAt t.memory (low + 24) flying × BackStays low s.memory t.memory) refl refl stands.code (omega arith) out refl refl (
+        out.hart.regs 10,
+        subst (λ ps. AddressAt ps (low + 24) flying) (sym out.hart.memory) flying_kept,
+        λ b h. subst (λ ps. AddressAt ps (low + 8) b) (sym out.hart.memory)
+            (slot_stays low 16 (x s 11) 8 b m1 (inr (omega arith)) (slot_stays low 24 flying 8 b s.memory (inr (omega arith)) h)),
+      );
   resumes = λ image u base flying w stands held.
       let s : State = w.hart in
       let low : ℕ = x s 2 in

@@ -116,7 +116,7 @@ end_catch_frees image u base o type e w enough stands aligned small newest kind 
     let h1 = one.holds in
     let v2 : World = counted (left_world o 0 e (asked h1.behind v1)) in
     let two : Turns image 1 v1 v2 (Leave n ∷ Destroy n ∷ []) = calls_are_made.goes_on image 7 v1 (left_world o 0 e (asked h1.behind v1)) h1.behind h1.calls h1.asks
-    (λ wish. left_is image wish o type 0 e w.exceptions (asked h1.behind v1) h1.kept.runtime.exceptions newest kind by) in
+    (λ wish. left_is image wish o type 0 e w.exceptions (asked h1.behind v1) h1.kept.runtime.exceptions newest kind by) refl in
     let s2 : State = v2.hart in
     let g2 = given u base end_catch 4 low 48 object 0 low h1.behind h1.stands h1.pointer in
     let three = end_catch_runs.frees_at_once image u base object v2 (subst (λ a. Stands u base end_catch 4 a 48 s2) (sym g2.pointer) g2.stands) g2.first (λ z. absurd (omega (arith, z))) (omega (arith, slot_small)) g2.second in
@@ -126,7 +126,7 @@ end_catch_frees image u base o type e w enough stands aligned small newest kind 
     let same3 : t3.exceptions ≡ left_exceptions o e = h3.kept.runtime.exceptions in
     let v4 : World = counted (with_exceptions (freed o.slot t3.exceptions) (shows (Free n) t3)) in
     let four : Turns image 1 v3 v4 (Free n ∷ []) = calls_are_made.goes_on image 4 v3 (with_exceptions (freed o.slot t3.exceptions) (shows (Free n) t3)) h3.behind h3.calls h3.asks
-    (λ wish. freed_is image wish o e t3 same3 h3.holds.0 inside slot_small) in
+    (λ wish. freed_is image wish o e t3 same3 h3.holds.0 inside slot_small) refl in
     let s4 : State = v4.hart in
     let pointer4 : x s4 2 ≡ low = h3.pointer ∙ g2.pointer in
     let held2 : AddressAt s2.memory (x s2 2 + 8) back = subst (λ a. AddressAt s2.memory (a + 8) back) (sym g2.pointer) h1.holds in

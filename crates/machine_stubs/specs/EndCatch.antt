@@ -48,7 +48,7 @@ pub record EndCatchRuns : Type 0 where
       Reaches image 4 w [] (AtAddress back (low + frame_size end_catch) low (frame_size end_catch) w (λ t. (t.memory ≡ s.memory) × (x t a0 ≡ 0)))
   pub frees_on_the_way : (image : Image) (u : UnitCode) (base object flying : ℕ) (w : World) → let s = w.hart in let low = x s sp in
       Stands u base end_catch 20 low (frame_size end_catch) s → x s a0 ≡ flying → flying < 2 ^ 64 → AddressAt s.memory (low + object_slot) object →
-      Reaches image 4 w [] (AtRuntimeCall u base end_catch free_call 25 low low (frame_size end_catch) w (λ t. (x t a0 ≡ object) × AddressAt t.memory (low + flying_slot) flying))
+      Reaches image 4 w [] (AtRuntimeCall u base end_catch free_call 25 low low (frame_size end_catch) w (λ t. (x t a0 ≡ object) × AddressAt t.memory (low + flying_slot) flying × BackStays low s.memory t.memory))
   pub resumes : (image : Image) (u : UnitCode) (base flying : ℕ) (w : World) → let s = w.hart in let low = x s sp in
       Stands u base end_catch 25 low (frame_size end_catch) s → AddressAt s.memory (low + flying_slot) flying →
       Reaches image 2 w [] (AtRuntimeCall u base end_catch resume_call 28 low low (frame_size end_catch) w (λ t. (t.memory ≡ s.memory) × (x t a0 ≡ flying)))

@@ -13,7 +13,7 @@ use Rattle.cxa_runtime.specs.Terminate.{at_stub, terminates}
 use Rattle.linear_forms.specs.Linear.{UnitCode}
 use Rattle.linear_forms.specs.Stub.{terminating}
 use Rattle.machine_forms.specs.Registers.{ra, sp, a0, a7}
-use Rattle.machine_pieces.specs.Turning.{Reaches}
+use Rattle.machine_pieces.specs.Turning.{Reaches, ForcedReaches}
 use Rattle.machine_stubs.specs.Stretches.{StubAt, stub_word, frame_size, Room, AtAddress}
 use Rattle.machine_stubs.specs.Calls.{asked}
 
@@ -37,11 +37,15 @@ abbrev pub sent : RuntimeRecord → ℕ → World → World
 sent places handler t = counted (record t { hart = at_stub places handler t.hart; terminating = true })
 
 -- Where a runtime call terminates, the handler is called within seven turns; without one the run aborts within eight, and at once where
--- terminate is running already. What the call has shown is shown.
+-- terminate is running already. What the call has shown is shown. So it is too where the call begins a forced unwind.
 pub record CallsTerminate : Type 0 where
   pub calls_the_handler : (image : Image) (u : UnitCode) (base number handler : ℕ) (w t : World) → let low = x t.hart sp - frame_size terminating in
-      Terminates image number handler w t → t.terminating ≡ false → MayTerminate u base image t → handler ≢ 0 → handler % 4 ≡ 0 → handler < 2 ^ 64 →
+      Terminates image number handler w t → t.terminating ≡ false → MayTerminate u base image t → handler ≢ 0 → handler % 4 ≡ 0 → handler < 2 ^ 64 → t.unwinding ≡ w.unwinding →
       Reaches image 7 w t.shown
+      (AtAddress handler low low (frame_size terminating) (sent image.places handler t) (λ s. (x s ra ≡ stub_word base terminating 6) × (x s a0 ≡ handler)))
+  pub unwinds_to_the_handler : (image : Image) (u : UnitCode) (base number handler : ℕ) (w t : World) → let low = x t.hart sp - frame_size terminating in
+      Terminates image number handler w t → t.terminating ≡ false → MayTerminate u base image t → handler ≢ 0 → handler % 4 ≡ 0 → handler < 2 ^ 64 →
+      ForcedReaches image 7 w t.shown
       (AtAddress handler low low (frame_size terminating) (sent image.places handler t) (λ s. (x s ra ≡ stub_word base terminating 6) × (x s a0 ≡ handler)))
   pub aborts : (image : Image) (pick : ℕ → ℕ) (n : ℕ) (u : UnitCode) (base number : ℕ) (w t : World) → Terminates image number 0 w t → t.terminating ≡ false → MayTerminate u base image t → 8 ≤ n →
       ((run image pick n w).items ≡ t.shown) × ((run image pick n w).end ≡ Aborted)

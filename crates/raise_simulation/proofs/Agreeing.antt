@@ -24,7 +24,7 @@ use Rattle.linear_forms.specs.Unwinding.{unwound_above}
 use Rattle.raise_simulation.specs.OpenCalls.{IsOutermost, outer_ip, outer_sp, frames_of, frame_behind}
 use Rattle.raise_simulation.specs.Tables.{said}
 use Rattle.raise_simulation.specs.Verdicts.{judged_by}
-use Rattle.raise_simulation.specs.Opens.{Open, Judge, activations, calls, IsFirst, IsBarred, StackStands, cfa_with}
+use Rattle.raise_simulation.specs.Opens.{Open, Judge, activations, calls, IsFirst, IsBarred, StackStands, cfa_with, table_with}
 use Rattle.raise_simulation.specs.Raises.{Lands}
 use Rattle.raise_simulation.proofs.Outward.{IsFrame, end_of}
 use Rattle.raise_simulation.proofs.Walking.{all, first_is, stack_step}
@@ -95,7 +95,7 @@ towards_target s fdes thrown g abi_verdicts.Terminate handles = absurd handles
 
 pub found : (code : Code) (at : Function → ℕ → ℕ) (fdes : List Fde) (thrown : Thrown) (e d : ℕ) (w : World) (s : State) (sp : ℕ) (opens : List Open) (tail : List Activation) →
     StackStands code at (λ a. judged_by code a (type_at w e)) fdes thrown s sp opens tail → found_above code (type_at w e) (activations opens ++ tail) ≡ Some d →
-    Lands code at (flying e d) w s sp opens tail (cfa_with d (length tail) sp opens) (unwound_above code d e (activations opens ++ tail) w) (raise fdes thrown s)
+    Lands code at (flying e d) w s sp opens tail (cfa_with d (length tail) sp opens) (table_with fdes d (length tail) s.pc opens) (unwound_above code d e (activations opens ++ tail) w) (raise fdes thrown s)
 found code at fdes thrown e d w s sp opens tail st is =
     let judge : Judge = λ a. judged_by code a (type_at w e) in
     let k = walked_all code at judge fdes thrown s sp opens tail st in
@@ -104,7 +104,7 @@ found code at fdes thrown e d w s sp opens tail st is =
     let h = first_is s sp st.pointer in
     let f = search code at fdes thrown (type_at w e) s tail rest d opens (first_frame s) sp h st.stand st.agree none is in
     let c = lands code at fdes thrown s tail rest e d w opens (first_frame s) sp h st.stand st.agree none is in
-    let to : Target = record { cfa = cfa_with d (length tail) sp opens; lsda = f.table } in
+    let to : Target = record { cfa = cfa_with d (length tail) sp opens; lsda = table_with fdes d (length tail) s.pc opens } in
     let pad : ℕ = at c.landing.activation.function c.pad in
     record {
       inner = c.inner;
@@ -116,7 +116,6 @@ found code at fdes thrown e d w s sp opens tail st is =
       covers = c.covers;
       selector = c.selector;
       enters = c.enters;
-      table = f.table;
       after = installed c.frame pad s;
       installs = raise_goes fdes thrown s (Some f.frame) (first_is_in code at judge fdes thrown s sp opens tail k goals.Target (Some f.frame) f.first)
           ∙ ap (towards s fdes thrown f.frame) f.says ∙ towards_target s fdes thrown f.frame f.verdict f.handles ∙ ap (entered s fdes thrown) f.target

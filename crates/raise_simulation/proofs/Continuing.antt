@@ -23,7 +23,7 @@ use Rattle.linear_forms.specs.Forced.{forced_at, forced_above}
 use Rattle.raise_simulation.specs.OpenCalls.{outer_ip, outer_sp, frames_of, frame_behind}
 use Rattle.raise_simulation.specs.Tables.{said}
 use Rattle.raise_simulation.specs.Verdicts.{in_words, judged_by, forced_by_table}
-use Rattle.raise_simulation.specs.Opens.{Open, Judge, activations, calls, IsFirst, IsBarred, StackStands, cfa_with}
+use Rattle.raise_simulation.specs.Opens.{Open, Judge, activations, calls, IsFirst, IsBarred, StackStands, cfa_with, table_with}
 use Rattle.raise_simulation.specs.Raises.{Lands, IsTerminated, RaisesAgree}
 use Rattle.raise_simulation.specs.Resumes.{IsTarget, ResumesAgree, ForcedAgree}
 use Rattle.raise_simulation.proofs.Walking.{first_is}
@@ -37,7 +37,7 @@ pub raises_agree : RaisesAgree
 raises_agree = record {
   found = λ code at fdes thrown t e d w s sp opens tail st is.
       subst (λ u. StackStands code at (λ a. judged_by code a u) fdes thrown s sp opens tail → (found_above code u (activations opens ++ tail) ≡ Some d →
-      Lands code at (flying e d) w s sp opens tail (cfa_with d (length tail) sp opens) (unwound_above code d e (activations opens ++ tail) w) (raise fdes thrown s))) is
+      Lands code at (flying e d) w s sp opens tail (cfa_with d (length tail) sp opens) (table_with fdes d (length tail) s.pc opens) (unwound_above code d e (activations opens ++ tail) w) (raise fdes thrown s))) is
       (λ st. found code at fdes thrown e d w s sp opens tail st) st;
   lost = lost;
 }
@@ -64,7 +64,7 @@ goes_on_barred s g false cfa = refl
 
 abbrev Outcomes : (code : Code) (at : Function → ℕ → ℕ) (fdes : List Fde) (thrown : Thrown) (e d cfa : ℕ) (w : World) (s : State) (sp : ℕ) (opens : List Open) (tail : List Activation) → Type 0
 Outcomes code at fdes thrown e d cfa w s sp opens tail =
-    Lands code at (flying e d) w s sp opens tail cfa (unwound_above code d e (activations opens ++ tail) w) (resume fdes thrown cfa s)
+    Lands code at (flying e d) w s sp opens tail cfa 0 (unwound_above code d e (activations opens ++ tail) w) (resume fdes thrown cfa s)
     ⊎ (IsTerminated w opens tail (unwound_above code d e (activations opens ++ tail) w) × (resume fdes thrown cfa s ≡ (answers.Terminate, s))) ⊎ (unwound_above code d e (activations opens ++ tail) w ≡ finishes fault w)
 
 as_outcomes : (code : Code) (at : Function → ℕ → ℕ) (fdes : List Fde) (thrown : Thrown) (e d cfa : ℕ) (w : World) (s : State) (sp : ℕ) (opens : List Open) (tail : List Activation) →
@@ -83,7 +83,6 @@ as_outcomes code at fdes thrown e d cfa w s sp opens tail st k (inl c) =
       covers = c.covers;
       selector = c.selector;
       enters = c.enters;
-      table = 0;
       after = installed c.frame pad s;
       installs = resume_goes fdes thrown cfa s c.frame (first_is_in code at (λ a. judged_by code a (type_at w e)) fdes thrown s sp opens tail k (goals.UpTo cfa) (Some c.frame) c.first)
           ∙ ap (resumed_at s fdes cfa c.frame) c.says ∙ goes_on_words s c.frame (is_at fdes cfa c.frame) cfa pad c.verdict c.selector c.given c.ready;
@@ -151,7 +150,7 @@ forced_agree code at fdes n w s sp opens tail st =
 
     by : Forced code at fdes s tail rest n w (forced_above code n (activations opens ++ tail) w) (first_frame s) sp opens →
         IsFirst fdes (said s fdes forced) (outer_ip s.pc (calls opens)) tail ⊎ IsBarred code (said s fdes forced) (outer_ip s.pc (calls opens)) tail →
-        Lands code at (unwinding n) w s sp opens tail 0 (forced_above code n (activations opens ++ tail) w) (forced_unwind fdes s)
+        Lands code at (unwinding n) w s sp opens tail 0 0 (forced_above code n (activations opens ++ tail) w) (forced_unwind fdes s)
         ⊎ (IsTerminated w opens tail (forced_above code n (activations opens ++ tail) w) × (forced_unwind fdes s ≡ (answers.Terminate, s)))
         ⊎ ((forced_above code n (activations opens ++ tail) w ≡ finishes (by_program (exit n)) w) × (forced_unwind fdes s ≡ (answers.NoHandler, s)))
     by (inl c) ends =
@@ -166,7 +165,6 @@ forced_agree code at fdes n w s sp opens tail st =
           covers = c.covers;
           selector = c.selector;
           enters = c.enters;
-          table = 0;
           after = installed c.frame pad s;
           installs = forced_goes fdes s (Some c.frame) (first_in_all (Some c.frame) c.first) ∙ ap (stops_at s c.frame (at_cfa 0)) c.says ∙ stops_words s c.frame pad c.verdict c.selector c.given;
           in_frame = in_frame s c.frame pad (outer_sp sp (calls c.inner)) st.registers c.is_frame;

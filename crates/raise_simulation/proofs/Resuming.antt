@@ -45,7 +45,7 @@ above_first s fdes ip sp many (o ∷ inner) stopping outer stand =
     omega (arith, some, is, more)
 
 is_target_frame : (s : State) (fdes : List Fde) (f : Frame) (sp cfa : ℕ) (o : Open) → IsFrame f sp → CallsStand s fdes f.pc sp (o.call ∷ []) → (b : Bool) → (sp + o.call.size == cfa) ≡ b → is_at fdes cfa f ≡ b
-is_target_frame s fdes f sp cfa o h stand b is = ap (is_with_cfa cfa) (target_is s fdes f sp o.call h stand.0).1 ∙ is
+is_target_frame s fdes f sp cfa o h stand b is = ap (is_with_cfa cfa) (target_is s fdes f sp o.call h stand.0) ∙ is
 
 module _ (code : Code) (at : Function → ℕ → ℕ) (fdes : List Fde) (thrown : Thrown) (s : State) (tail : List Activation) (rest : List Frame) (e cfa : ℕ) (w : World) where
   -- a frame that is entered for a cleanup is not the target

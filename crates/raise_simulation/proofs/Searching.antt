@@ -19,7 +19,7 @@ use Rattle.linear_forms.specs.Search.{found_by, found_at, found_above}
 use Rattle.raise_simulation.specs.OpenCalls.{CallsStand, outward, frames_of}
 use Rattle.raise_simulation.specs.Tables.{said}
 use Rattle.raise_simulation.specs.Verdicts.{in_words, told_of, judged_by, cover_of}
-use Rattle.raise_simulation.specs.Opens.{Open, activations, calls, TablesAgree, cfa_with}
+use Rattle.raise_simulation.specs.Opens.{Open, activations, calls, TablesAgree, cfa_with, table_at, table_with}
 use Rattle.raise_simulation.proofs.Outward.{IsFrame, outward_frame}
 use Rattle.raise_simulation.proofs.Asking.{verdict_is, target_is, stops_here, passes_here}
 
@@ -73,6 +73,17 @@ nearest d many sp o os is =
     let same : (length os + many == d) ≡ true = grind (arith, nat_tests, is) in
     ap (λ b. if b then sp + o.call.size else cfa_with d many (sp + o.call.size) os) same
 
+-- and its table
+farther_table : (fdes : List Fde) (d many ip : ℕ) (o : Open) (os : List Open) → d < length os + many → table_with fdes d many ip (o ∷ os) ≡ table_with fdes d many o.call.back os
+farther_table fdes d many ip o os out =
+    let other : (length os + many == d) ≡ false = grind (arith, nat_tests, out) in
+    ap (λ b. if b then table_at fdes ip else table_with fdes d many o.call.back os) other
+
+nearest_table : (fdes : List Fde) (d many ip : ℕ) (o : Open) (os : List Open) → length os + many ≡ d → table_with fdes d many ip (o ∷ os) ≡ table_at fdes ip
+nearest_table fdes d many ip o os is =
+    let same : (length os + many == d) ≡ true = grind (arith, nat_tests, is) in
+    ap (λ b. if b then table_at fdes ip else table_with fdes d many o.call.back os) same
+
 module _ (code : Code) (at : Function → ℕ → ℕ) (fdes : List Fde) (thrown : Thrown) (t : Option ℕ) (s : State) (tail : List Activation) (rest : List Frame) where
   -- the frame of the target
   pub record TargetFound (d : ℕ) (f : Frame) (sp : ℕ) (opens : List Open) : Type 0 where
@@ -81,8 +92,7 @@ module _ (code : Code) (at : Function → ℕ → ℕ) (fdes : List Fde) (thrown
     pub verdict : abi.Verdict
     pub says : verdict_of s fdes thrown frame ≡ verdict
     pub handles : IsHandling verdict
-    pub table : ℕ
-    pub target : target_at fdes frame ≡ Some (record { cfa = cfa_with d (length tail) sp opens; lsda = table })
+    pub target : target_at fdes frame ≡ Some (record { cfa = cfa_with d (length tail) sp opens; lsda = table_with fdes d (length tail) f.pc opens })
 
   pub search : (d : ℕ) (opens : List Open) (f : Frame) (sp : ℕ) → IsFrame f sp → CallsStand s fdes f.pc sp (calls opens) →
       TablesAgree code at (λ a. judged_by code a t) (said s fdes thrown) f.pc opens → found_above code t tail ≡ None → found_above code t (activations opens ++ tail) ≡ Some d → TargetFound d f sp opens
@@ -106,8 +116,8 @@ module _ (code : Code) (at : Function → ℕ → ℕ) (fdes : List Fde) (thrown
             verdict = more.verdict;
             says = more.says;
             handles = more.handles;
-            table = more.table;
-            target = more.target ∙ ap (λ n. Some (record { cfa = n; lsda = more.table })) (sym (farther d (length tail) sp o os out));
+            target = more.target ∙ ap (λ n. Some (record { cfa = n; lsda = table_with fdes d (length tail) o.call.back os })) (sym (farther d (length tail) sp o os out))
+                ∙ ap (λ a. Some (record { cfa = cfa_with d (length tail) sp (o ∷ os); lsda = a })) (sym (farther_table fdes d (length tail) f.pc o os out));
           }
 
       by_verdict : (found_above code t (activations os ++ tail) ≡ Some d → TargetFound d (outward f sp o.call) (sp + o.call.size) os) → (p : ℕ) (v : Verdict) → verdict_of s fdes thrown f ≡ in_words (at a.function p) v → found_by v (length (activations os ++ tail)) (found_above code t (activations os ++ tail)) ≡ Some d → TargetFound d f sp (o ∷ os)
@@ -120,8 +130,8 @@ module _ (code : Code) (at : Function → ℕ → ℕ) (fdes : List Fde) (thrown
             verdict = in_words (at a.function p) (target n);
             says = is;
             handles = words_handle (at a.function p) n;
-            table = here.0;
-            target = here.1 ∙ ap (λ n. Some (record { cfa = n; lsda = here.0 })) (sym (nearest d (length tail) sp o os depth));
+            target = here ∙ ap (λ n. Some (record { cfa = n; lsda = table_at fdes f.pc })) (sym (nearest d (length tail) sp o os depth))
+                ∙ ap (λ a. Some (record { cfa = cfa_with d (length tail) sp (o ∷ os); lsda = a })) (sym (nearest_table fdes d (length tail) f.pc o os depth));
           }
       by_verdict next p no_way is found = absurd (cc found)
       by_verdict next p clean is found = passes next (abi_verdicts.Cleanup (at a.function p)) is refl found

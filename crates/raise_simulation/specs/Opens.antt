@@ -1,8 +1,8 @@
 -- Open calls of linear code on the machine's stack, and what is outward of them.
-use Rattle.std.specs.Prelude.{⊤, ◌≡◌, ◌⊎◌, ℕ, ◌+◌, ◌==◌, ℤ, false, List, [], ◌∷◌, map, length, if◌then◌else◌}
+use Rattle.std.specs.Prelude.{⊤, ◌≡◌, ◌⊎◌, ℕ, ◌+◌, ◌==◌, ℤ, false, List, [], ◌∷◌, map, length, Option, Some, None, if◌then◌else◌}
 use Rattle.table_forms.specs.declared.found.Verdict as abi
 use Rattle.table_forms.specs.declared.found.Verdict.TheVariants as abi_verdicts
-use Rattle.table_forms.specs.Fde.{Fde}
+use Rattle.table_forms.specs.Fde.{Fde, fde_for}
 use Rattle.table_forms.specs.Verdict.{Thrown, look_up_place}
 use Rattle.rv64_isa.specs.State.{State, reg_of}
 use Rattle.linear_forms.specs.Tables.{bare}
@@ -62,3 +62,16 @@ pub record StackStands (code : Code) (at : Function → ℕ → ℕ) (judge : Ju
 abbrev pub cfa_with : (depth many sp : ℕ) → List Open → ℕ
 cfa_with d many sp [] = 0
 cfa_with d many sp (o ∷ os) = if length os + many == d then sp + o.call.size else cfa_with d many (sp + o.call.size) os
+
+-- the address of the exception table that the frame information names for a place where a call goes on; 0 where it names none
+abbrev pub table_in : Option Fde → ℕ
+table_in None = 0
+table_in (Some fde) = fde.lsda
+
+abbrev pub table_at : List Fde → ℕ → ℕ
+table_at fdes ip = table_in (fde_for fdes (look_up_place ip false))
+
+-- that of the open call below which so many calls wait, where `many` are behind these, of which the first goes on at ip
+abbrev pub table_with : List Fde → (depth many ip : ℕ) → List Open → ℕ
+table_with fdes d many ip [] = 0
+table_with fdes d many ip (o ∷ os) = if length os + many == d then table_at fdes ip else table_with fdes d many o.call.back os

@@ -14,7 +14,7 @@ use Rattle.linear_forms.specs.Search.{found_above}
 use Rattle.linear_forms.specs.Unwinding.{pad_entered, terminated_in, unwound_above}
 use Rattle.raise_simulation.specs.OpenCalls.{outer_sp}
 use Rattle.raise_simulation.specs.Verdicts.{cover_of, judged_by}
-use Rattle.raise_simulation.specs.Opens.{Open, activations, calls, StackStands, cfa_with}
+use Rattle.raise_simulation.specs.Opens.{Open, activations, calls, StackStands, cfa_with, table_with}
 
 -- a state in which control has entered a pad of the frame at sp
 pub record InFrame (pad sp : ℕ) (old new : State) : Type 0 where
@@ -24,8 +24,8 @@ pub record InFrame (pad sp : ℕ) (old new : State) : Type 0 where
   pub memory : new.memory ≡ old.memory
 
 -- Control comes to a landing pad of one of the open calls: linear code enters it with a word and a selector, and the unwinder installs it, with the
--- canonical frame address of its target.
-pub record Lands (code : Code) (at : Function → ℕ → ℕ) (word : Word) (w : World) (s : State) (sp : ℕ) (opens : List Open) (tail : List Activation) (cfa : ℕ) (next : Next) (result : Raised × State) : Type 0 where
+-- canonical frame address and the exception table of its target.
+pub record Lands (code : Code) (at : Function → ℕ → ℕ) (word : Word) (w : World) (s : State) (sp : ℕ) (opens : List Open) (tail : List Activation) (cfa table : ℕ) (next : Next) (result : Raised × State) : Type 0 where
   pub inner : List Open
   pub landing : Open
   pub outer : List Open
@@ -35,7 +35,6 @@ pub record Lands (code : Code) (at : Function → ℕ → ℕ) (word : Word) (w 
   pub covers : cover_of code landing.activation ≡ padded pad chain
   pub selector : ℤ
   pub enters : next ≡ pad_entered (fetch code landing.activation.function pad) word selector landing.activation.function pad landing.activation.frame (activations outer ++ tail) w
-  pub table : ℕ
   pub after : State
   pub installs : result ≡ (answers.Install (at landing.activation.function pad) selector cfa table, after)
   pub in_frame : InFrame (at landing.activation.function pad) (outer_sp sp (calls inner)) s after
@@ -53,7 +52,7 @@ pub record IsTerminated (w : World) (opens : List Open) (tail : List Activation)
 pub record RaisesAgree : Type 0 where
   pub found : (code : Code) (at : Function → ℕ → ℕ) (fdes : List Fde) (thrown : Thrown) (t : Option ℕ) (e d : ℕ) (w : World) (s : State) (sp : ℕ) (opens : List Open) (tail : List Activation) →
       StackStands code at (λ a. judged_by code a t) fdes thrown s sp opens tail → type_at w e ≡ t → found_above code t (activations opens ++ tail) ≡ Some d →
-      Lands code at (flying e d) w s sp opens tail (cfa_with d (length tail) sp opens) (unwound_above code d e (activations opens ++ tail) w) (raise fdes thrown s)
+      Lands code at (flying e d) w s sp opens tail (cfa_with d (length tail) sp opens) (table_with fdes d (length tail) s.pc opens) (unwound_above code d e (activations opens ++ tail) w) (raise fdes thrown s)
   pub lost : (code : Code) (at : Function → ℕ → ℕ) (fdes : List Fde) (thrown : Thrown) (t : Option ℕ) (s : State) (sp : ℕ) (opens : List Open) (tail : List Activation) →
       StackStands code at (λ a. judged_by code a t) fdes thrown s sp opens tail → found_above code t (activations opens ++ tail) ≡ None →
       (raise fdes thrown s ≡ (answers.Terminate, s)) ⊎ (raise fdes thrown s ≡ (answers.NoHandler, s))

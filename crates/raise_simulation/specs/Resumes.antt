@@ -36,12 +36,12 @@ abbrev pub ResumesAgree : Type 0
 ResumesAgree = (code : Code) (at : Function → ℕ → ℕ) (fdes : List Fde) (thrown : Thrown) (t : Option ℕ) (e d : ℕ) (w : World) (s : State) (sp : ℕ) (opens : List Open) (tail : List Activation) →
     StackStands code at (λ a. judged_by code a t) fdes thrown s sp opens tail → type_at w e ≡ t → IsTarget code t d (length tail) opens →
     let next = unwound_above code d e (activations opens ++ tail) w in let cfa = cfa_with d (length tail) sp opens in let result = resume fdes thrown cfa s in
-    Lands code at (flying e d) w s sp opens tail cfa next result ⊎ (IsTerminated w opens tail next × (result ≡ (answers.Terminate, s))) ⊎ (next ≡ finishes fault w)
+    Lands code at (flying e d) w s sp opens tail cfa 0 next result ⊎ (IsTerminated w opens tail next × (result ≡ (answers.Terminate, s))) ⊎ (next ≡ finishes fault w)
 
 -- A forced unwind comes to the pad that the one of linear code enters next, or to the call out of which nothing may come, or to the end of the stack.
 abbrev pub ForcedAgree : Type 0
 ForcedAgree = (code : Code) (at : Function → ℕ → ℕ) (fdes : List Fde) (n : ℤ) (w : World) (s : State) (sp : ℕ) (opens : List Open) (tail : List Activation) →
     StackStands code at (forced_by_table code) fdes forced s sp opens tail →
     let next = forced_above code n (activations opens ++ tail) w in let result = forced_unwind fdes s in
-    Lands code at (unwinding n) w s sp opens tail 0 next result ⊎ (IsTerminated w opens tail next × (result ≡ (answers.Terminate, s)))
+    Lands code at (unwinding n) w s sp opens tail 0 0 next result ⊎ (IsTerminated w opens tail next × (result ≡ (answers.Terminate, s)))
     ⊎ ((next ≡ finishes (by_program (exit n)) w) × (result ≡ (answers.NoHandler, s)))

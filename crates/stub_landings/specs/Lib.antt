@@ -1,0 +1,5 @@
+pub mod Rests
+pub mod OwnCalls
+pub mod StubStacks
+pub mod Landings
+pub mod OwnRaises
