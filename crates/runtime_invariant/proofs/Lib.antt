@@ -1,0 +1,4 @@
+pub mod Unwinding
+pub mod Memory
+pub mod Calls
+pub mod Aims

@@ -1,0 +1,3 @@
+pub mod Overflow
+pub mod Calls
+pub mod Taken
