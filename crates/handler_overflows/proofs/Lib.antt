@@ -1,0 +1,4 @@
+pub mod Called
+pub mod Origins
+pub mod Raising
+pub mod Unwinding

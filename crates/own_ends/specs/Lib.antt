@@ -1,0 +1,9 @@
+pub mod Callers
+pub mod Leaving
+pub mod Left
+pub mod Destroying
+pub mod Flights
+pub mod Resumes
+pub mod Overflow
+pub mod Unwinds
+pub mod Canceled

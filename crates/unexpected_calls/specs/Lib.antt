@@ -1,0 +1,15 @@
+pub mod Begins
+pub mod Terminates
+pub mod Leaves
+pub mod Lists
+pub mod Thrown
+pub mod Unlisted
+pub mod Allowed
+pub mod Goes
+pub mod Doomed
+pub mod Bad
+pub mod BadDoomed
+pub mod Refused
+pub mod Overflow
+pub mod TerminateOverflow
+pub mod ListKept
