@@ -1,0 +1,77 @@
+-- Where main begins in an image.
+use Rattle.std.proofs.Common.{◌≡◌, ℕ, zero, suc, ◌<◌, ◌^◌, List, [], ◌∷◌, refl, sym, ap, ◌∙◌, arith, ℤ, true}
+use Rattle.std.specs.List.{AllByRecursion}
+use Rattle.eh_outer.specs.Domain.{is_int}
+use Rattle.eh_outer.specs.declared.module.Reply.{Reply}
+use Rattle.cxx_ast.specs.Plain.{Checked}
+use Rattle.elf_image.specs.Clean.{CleanImage}
+use Rattle.image_forms.specs.Placed.{code_at}
+use Rattle.linear_forms.specs.UnitRun.{code_of, first_state}
+use Rattle.source_bounds.specs.Compiled.{unit_for, emitted_for}
+use Rattle.machine_forms.specs.Routine.{op_word}
+use Rattle.cxa_runtime.specs.Raising.{Image}
+use Rattle.cxa_runtime.specs.Run.{run}
+use Rattle.cxa_runtime.specs.World as abi
+use Rattle.eh_run.specs.Program.{program_of}
+use Rattle.machine_pieces.specs.Numbers.{IsInt}
+use Rattle.machine_pieces.specs.Turning.{Turns}
+use Rattle.machine_simulation.specs.Plan.{routine}
+use Rattle.machine_simulation.specs.Bytes.{AreBytes}
+use Rattle.machine_simulation.specs.Matches.{Matches}
+use Rattle.machine_simulation.specs.Beginning.{StandsBefore, MainBegins}
+use Rattle.checked_units.specs.Images.{ImagesBegin}
+use Rattle.whole_runs.specs.Turns.{Invariant}
+use Rattle.whole_runs.specs.Steps.{FollowsOn}
+use Rattle.whole_runs.specs.Runs.{Starts}
+use Rattle.whole_runs.proofs.Following.{runs_follow_steps}
+use Rattle.compiled_runs.specs.Compiled.{FollowedImagesAreCompiled}
+use Rattle.compiled_runs.specs.Starts.{plan_of_main, Started, ImagesStart, ImagesAreCompiled}
+
+-- without a turn a world stays as it is
+no_turns : (image : Image) (w v : abi.World) (n : ℕ) → n ≡ 0 → Turns image n w v [] → v ≡ w
+unfolding run
+no_turns image w v zero e h = let same : run image (λ k. k) 0 w ≡ run image (λ k. k) 0 v = h.run (λ k. k) 0 in sym (ap (λ r. r.world) same)
+no_turns image w v (suc n) e h = absurd (cc e)
+
+-- some turn is needed from the first word of an image to main's
+module _ (p : Checked) (i : CleanImage) (tables : ℕ → ℕ) (input : List ℕ) (replies : List (List Reply)) (before : StandsBefore (unit_for p) (code_at (emitted_for p)) tables (program_of i).hart)
+    (turns : ℕ) (after : abi.World) (runs : Turns (program_of i).image turns (abi.begins (program_of i).hart input replies) after [])
+    (matches : Matches (plan_of_main p tables) (first_state (unit_for p) input replies) after) where
+  not_there : turns ≡ 0 → ⊥
+  not_there none =
+      let same : after ≡ abi.begins (program_of i).hart input replies = no_turns (program_of i).image (abi.begins (program_of i).hart input replies) after turns none runs in
+      let pc : after.hart.pc ≡ code_at (emitted_for p) = ap (λ w. w.hart.pc) same ∙ before.pc in
+      let six : op_word (routine (plan_of_main p tables) matches.number) 0 ≡ 6 = refl in
+      omega (arith, pc, six, matches.pc)
+
+  some_turns : (n : ℕ) → turns ≡ n → 0 < n
+  some_turns zero e = absurd (not_there e)
+  some_turns (suc n) e = omega arith
+
+pub images_start : ImagesBegin → MainBegins → ImagesStart
+images_start images_begin main_begins p checked i tables stands input replies =
+    let before = images_begin p checked i tables stands in
+    let m = main_begins (program_of i).image (unit_for p) (code_at (emitted_for p)) tables (program_of i).hart input replies before in
+    record { turns = m.turns; some = some_turns p i tables input replies before m.turns m.after m.runs m.holds m.turns refl; few = m.few; after = m.after; runs = m.runs; matches = m.holds }
+
+-- an invariant that holds where main begins holds where a run does
+pub starts_where : (p : Checked) (i : CleanImage) (tables : ℕ → ℕ) (pick : ℕ → ℕ) (input : List ℕ) (replies : List (List Reply)) (S : Invariant) (s : Started p i tables input replies)
+    → S s.turns (first_state (unit_for p) input replies) s.after → Starts (program_of i).image pick S (first_state (unit_for p) input replies) (abi.begins (program_of i).hart input replies)
+starts_where p i tables pick input replies S s stands =
+    record { fresh = refl; turns = s.turns; some = s.some; after = s.after; made = record { run = λ k. s.runs.run pick k }; stands = stands }
+
+pub images_are_compiled : FollowedImagesAreCompiled → ImagesStart → ImagesAreCompiled
+images_are_compiled compiled start p checked i tables stands goes_on =
+    compiled p checked i (λ pick input replies given steps.
+    let s = start p checked i tables stands input replies in
+    runs_follow_steps (program_of i).image pick (code_of (unit_for p)) (2 ^ 40) (first_state (unit_for p) input replies) (abi.begins (program_of i).hart input replies)
+    (starts_where p i tables pick input replies (FollowsOn (program_of i).image pick (code_of (unit_for p)) (2 ^ 40)) s (goes_on pick input replies given s)) steps)
+
+-- what is given are bytes
+pub given_bytes : (input : List ℕ) → AllByRecursion (λ b. b < 256) input → AreBytes input
+given_bytes [] h = tt
+given_bytes (b ∷ bytes) h = (h.0, given_bytes bytes h.1)
+
+-- and what modules answer are ints of 32 bits, and tokens of 32 bits
+pub given_int : (z : ℤ) → is_int z ≡ true → IsInt z
+given_int z h = h

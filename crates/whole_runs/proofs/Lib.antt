@@ -1,0 +1,9 @@
+pub mod Deepening
+pub mod Turning
+pub mod Arriving
+pub mod Staying
+pub mod Counts
+pub mod Single
+pub mod Pieces
+pub mod Rounds
+pub mod Following
