@@ -1,5 +1,5 @@
 -- What is called, from the function that is found for it, and the value of a call that is done.
-use Rattle.std.proofs.Common.{◌≡◌, ◌∙◌, ℕ, ℤ, pos, Bool, true, false, List, [], Option, Some, None, map, refl, sym, subst, Result as CodeResult}
+use Rattle.std.proofs.Common.{◌≡◌, ◌∙◌, ℕ, ℤ, pos, Bool, false, List, [], Option, Some, None, map, refl, sym, subst, Result as CodeResult}
 use Rattle.std.specs.Prelude.{◌==◌}
 use Rattle.cxx_ast.specs.declared.types.Param.{Param}
 use Rattle.cxx_ast.specs.declared.types.Ty.{Ty}

@@ -1,5 +1,5 @@
 -- Statements, from their parts: what is assigned, tested and declared.
-use Rattle.std.proofs.Common.{◌≡◌, ◌∙◌, ℕ, zero, suc, ℤ, pos, negsuc, Bool, true, false, List, ◌∷◌, Option, refl, ap, sym, subst, Ok, Result as CodeResult}
+use Rattle.std.proofs.Common.{◌≡◌, ◌∙◌, ℕ, zero, suc, ℤ, pos, negsuc, true, false, List, ◌∷◌, Option, refl, ap, sym, subst, Ok, Result as CodeResult}
 use Rattle.std.specs.Prelude.{if◌then◌else◌}
 use Rattle.cxx_ast.specs.declared.name.Name.{Name}
 use Rattle.cxx_ast.specs.declared.types.Param.{Param}
@@ -9,7 +9,7 @@ use Rattle.meaning_forms.specs.Class.{class_named, class_type}
 use Rattle.meaning_forms.specs.Part.{Part, unset}
 use Rattle.meaning_forms.specs.World.{World, Reference, whole, written}
 use Rattle.meaning_forms.specs.Context.{Context}
-use Rattle.meaning_forms.specs.Outcome.{Action, Flow, done, new_object, normal, pure, write, ◌>>=◌, ◌>>◌}
+use Rattle.meaning_forms.specs.Outcome.{Action, Flow, done, new_object, normal, pure, write, ◌>>◌}
 use Rattle.meaning_forms.specs.Running.{Running}
 use Rattle.meaning_forms.specs.Frame.{Frame, Variable, bound_as, local_number, lvalue, with_parameter, with_variable}
 use Rattle.meaning_forms.specs.Scope.{after_scope, scope}

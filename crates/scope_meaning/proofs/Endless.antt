@@ -4,12 +4,12 @@ use Rattle.std.specs.Prelude.{nat_le, if◌then◌else◌}
 use Rattle.cxx_ast.specs.Plain.{Checked}
 use Rattle.meaning_forms.specs.World.{World, Reference}
 use Rattle.meaning_forms.specs.Context.{Context}
-use Rattle.meaning_forms.specs.Outcome.{Action, Result, stop, deep, change, ◌>>=◌, ◌>>◌}
-use Rattle.meaning_forms.specs.Running.{Running, Callee, Argument}
+use Rattle.meaning_forms.specs.Outcome.{Action, stop, deep, change, ◌>>◌}
+use Rattle.meaning_forms.specs.Running.{Callee, Argument}
 use Rattle.meaning_forms.specs.Statement.{spend, spend_turn}
 use Rattle.meaning_forms.specs.Call.{call_with, run_callee, running, open_call, opened, after_call}
-use Rattle.meaning_forms.proofs.Turns.{Spends, call_with-spends}
-use Rattle.meaning_forms.proofs.Fuel.{Same, Agree, run_callee-same, call_with-enough}
+use Rattle.meaning_forms.proofs.Turns.{call_with-spends}
+use Rattle.meaning_forms.proofs.Fuel.{Agree, run_callee-same, call_with-enough}
 use Rattle.scope_flow.specs.Always.{full_call, always}
 
 agree : (p : Checked) (n : ℕ) → Agree n (call_with p 128 n) (full_call p)

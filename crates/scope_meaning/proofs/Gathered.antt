@@ -1,7 +1,7 @@
 -- Arguments that are gathered from left to right.
 use Rattle.std.proofs.Common.{◌≡◌, ◌∙◌, List, [], ◌∷◌, ◌++◌, drop, refl, ap, sym, append_assoc}
 use Rattle.cxx_ast.specs.declared.types.Ty.{Ty}
-use Rattle.cxx_ast.specs.Plain.{Expression, Expressions, no_expressions, expression_then}
+use Rattle.cxx_ast.specs.Plain.{Expression, Expressions, expression_then}
 use Rattle.meaning_forms.specs.World.{World}
 use Rattle.meaning_forms.specs.Context.{Context}
 use Rattle.meaning_forms.specs.Outcome.{Result, done, stopped, pure, continued, ◌>>=◌}

@@ -4,11 +4,11 @@ use Rattle.std.specs.List.{find}
 use Rattle.cxx_ast.specs.declared.name.Name.{Name}
 use Rattle.cxx_ast.specs.declared.types.Ty.{Ty}
 use Rattle.cxx_ast.specs.declared.statement.Handler.{Handler}
-use Rattle.cxx_ast.specs.Plain.{Statements, Handlers}
+use Rattle.cxx_ast.specs.Plain.{Statements}
 use Rattle.cxx_ast.specs.View.{statements_of}
 use Rattle.meaning_forms.specs.Class.{ObjectType}
 use Rattle.meaning_forms.specs.World.{World, Reference, Exception, exception_at, exception_type, type_at}
-use Rattle.meaning_forms.specs.Context.{Context, Clause, try_block, guarded_by, handling}
+use Rattle.meaning_forms.specs.Context.{Context, try_block, guarded_by, handling}
 use Rattle.meaning_forms.specs.Outcome.{Action, Result, done, stopped, thrown, Flow, pure, continued}
 use Rattle.meaning_forms.specs.Guard.{matches}
 use Rattle.meaning_forms.specs.Running.{Running}

@@ -1,11 +1,9 @@
 -- A reply of a module changes no more of the modules than the replies still to come; a cleanup no more than what they keep.
-use Rattle.std.proofs.Common.{◌≡◌, ◌∙◌, ℕ, zero, suc, List, [], ◌∷◌, map, Option, Some, None, refl, ap, sym, Ok, Err, Result as CodeResult}
-use Rattle.std.specs.Result.{result_ok}
-use Rattle.std.specs.Prelude.{◌++◌, length, nat_lt, slice_get, pos, unwrap_or, if◌then◌else◌}
+use Rattle.std.proofs.Common.{◌≡◌, ◌∙◌, ℕ, zero, suc, List, [], ◌∷◌, map, Some, None, refl, ap, sym}
+use Rattle.std.specs.Prelude.{◌++◌, length, nat_lt, pos, unwrap_or, if◌then◌else◌}
 use Rattle.eh_outer.specs.declared.module.Reply.{Reply}
 use Rattle.eh_outer.specs.declared.module.Reply.TheVariants.{Value}
 use Rattle.eh_outer.specs.Module.{ModuleView, cleaned, replied}
-use Rattle.foreign_host.specs.declared.host.NoModule.{NoModule}
 use Rattle.run_items.specs.declared.item.Item.{Item}
 use Rattle.run_items.specs.declared.item.Item.TheVariants.{Line, Make, Foreign, Enter, Leave, Destroy, Free, Clean}
 use Rattle.foreign_host.specs.Host.{changed_at, reply_at}

@@ -14,3 +14,4 @@ pub mod Parted
 pub mod Thrown
 pub mod Declared
 pub mod Ran
+pub mod Shallower

@@ -1,5 +1,5 @@
 -- A call, from what is done in it.
-use Rattle.std.proofs.Common.{◌≡◌, ℕ, ℤ, Bool, true, false, List, refl, ap, sym, subst, Ok, Err, Result as CodeResult}
+use Rattle.std.proofs.Common.{◌≡◌, ℤ, Bool, true, false, List, refl, ap, sym, subst, Ok, Err, Result as CodeResult}
 use Rattle.std.specs.Prelude.{nat_le, if◌then◌else◌}
 use Rattle.cxx_ast.specs.Plain.{Checked}
 use Rattle.meaning_forms.specs.World.{World, Reference}

@@ -1,10 +1,10 @@
 -- The parts of an object: how one is built, and all of them in turn.
-use Rattle.std.proofs.Common.{◌≡◌, ◌∙◌, ℕ, ◌+◌, ℤ, pos, List, [], ◌∷◌, Option, Some, None, refl, ap, sym, subst, Ok, Result as CodeResult}
+use Rattle.std.proofs.Common.{◌≡◌, ◌∙◌, ℕ, ◌+◌, ℤ, pos, List, ◌∷◌, Option, Some, None, ap, sym, subst, Ok, Result as CodeResult}
 use Rattle.cxx_ast.specs.Plain.{Initialiser, Expressions}
 use Rattle.meaning_forms.specs.Class.{ObjectType, int_type, class_type}
 use Rattle.meaning_forms.specs.World.{World, Reference, part, written}
 use Rattle.meaning_forms.specs.Context.{Context}
-use Rattle.meaning_forms.specs.Outcome.{Action, Flow, done, read, write, ◌>>=◌, ◌>>◌}
+use Rattle.meaning_forms.specs.Outcome.{Action, Flow, done, read, write, ◌>>=◌}
 use Rattle.meaning_forms.specs.Running.{Running}
 use Rattle.meaning_forms.specs.Frame.{Frame}
 use Rattle.meaning_forms.specs.Scope.{after_part, after_scope, until_complete}
@@ -14,7 +14,7 @@ use Rattle.meaning_forms.specs.Call.{build_parts, copy_part, default_part, destr
 use Rattle.scope_world.specs.declared.outcome.Halt.{Halt}
 use Rattle.scope_world.specs.declared.outcome.Flow.{Flow as CodeFlow}
 use Rattle.scope_world.specs.Gives.{Gives, GivesBy, Halts, flow_of}
-use Rattle.scope_flow.proofs.Passing.{halts_continued, halts_next, gives_next, gives_by_next}
+use Rattle.scope_flow.proofs.Passing.{halts_continued, gives_next, gives_by_next}
 
 -- an int is set
 set_so : (x y : Reference) (n : ℤ) (w v : World) → x ≡ y → v ≡ written w x n → write y n w ≡ done tt v

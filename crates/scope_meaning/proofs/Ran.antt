@@ -1,5 +1,5 @@
 -- A run tells the program's meaning, and what it leaves of the modules.
-use Rattle.std.proofs.Common.{◌≡◌, ◌∙◌, ℕ, suc, ℤ, List, [], ◌∷◌, map, Option, Some, None, refl, ap, sym, subst, Ok, Err, Result as CodeResult}
+use Rattle.std.proofs.Common.{◌≡◌, ◌∙◌, ℕ, ℤ, List, [], ◌∷◌, map, Option, Some, None, refl, ap, sym, subst, Ok, Err, Result as CodeResult}
 use Rattle.std.specs.Prelude.{IfSome}
 use Rattle.cxx_ast.specs.Plain.{Checked}
 use Rattle.eh_outer.specs.declared.module.Reply.{Reply}
@@ -11,7 +11,7 @@ use Rattle.meaning_forms.specs.World.{World, Live, nowhere}
 use Rattle.meaning_forms.specs.Context.{no_context}
 use Rattle.meaning_forms.specs.Outcome.{Result, thrown, cancelled, ended, exit, aborted, undefined, out_of_turns, deep}
 use Rattle.meaning_forms.specs.Running.{function}
-use Rattle.meaning_forms.specs.Meaning.{MainOutcome, Meaning, returned, stopped_by, after_main, first_world, global_object, meaning_of, program_meaning}
+use Rattle.meaning_forms.specs.Meaning.{MainOutcome, returned, stopped_by, after_main, first_world, global_object, meaning_of, program_meaning}
 use Rattle.scope_world.specs.declared.object.Part.{Part as CodePart, Cell}
 use Rattle.scope_world.specs.declared.outcome.Halt.{Halt}
 use Rattle.scope_world.specs.declared.outcome.Halt.TheVariants.{Thrown, Cancelled, Exited, Aborted, Undefined, OutOfTurns, Deep, NoMemory}

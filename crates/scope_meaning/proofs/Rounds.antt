@@ -1,5 +1,5 @@
 -- The rounds of a loop.
-use Rattle.std.proofs.Common.{◌≡◌, ◌∙◌, ℕ, zero, suc, ℤ, pos, Bool, true, false, Option, Some, None, refl, ap, sym, subst, Ok, Err, Result as CodeResult}
+use Rattle.std.proofs.Common.{◌≡◌, ◌∙◌, ℕ, zero, suc, ℤ, pos, Option, Some, None, refl, ap, sym, subst, Ok, Err}
 use Rattle.std.specs.Prelude.{if◌then◌else◌}
 use Rattle.cxx_ast.specs.Plain.{Statement, Statements, no_statements, statement_then}
 use Rattle.meaning_forms.specs.World.{World}

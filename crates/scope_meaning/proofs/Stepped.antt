@@ -1,10 +1,9 @@
 -- Statements one after the other.
-use Rattle.std.proofs.Common.{◌≡◌, ◌∙◌, ℕ, ℤ, Bool, true, false, refl, ap, sym, Option, Some, None}
-use Rattle.std.specs.Prelude.{if◌then◌else◌}
+use Rattle.std.proofs.Common.{◌≡◌, ◌∙◌, ℤ, false, refl, ap, sym, Option, Some, None}
 use Rattle.cxx_ast.specs.Plain.{Expression, Statement, block, empty, if_else, while, return, break, continue, throw, try, assign, evaluate, local_int, local_ref, local_object, Statements, statement_then}
 use Rattle.meaning_forms.specs.World.{World}
 use Rattle.meaning_forms.specs.Context.{Context}
-use Rattle.meaning_forms.specs.Outcome.{Action, Result, done, stopped, Flow, normal, breaks, continues, returns, pure, continued, write}
+use Rattle.meaning_forms.specs.Outcome.{Action, Result, done, stopped, Flow, normal, returns, pure, continued, write}
 use Rattle.meaning_forms.specs.Running.{Running}
 use Rattle.meaning_forms.specs.Frame.{Frame, lvalue}
 use Rattle.meaning_forms.specs.Expression.{value_of}

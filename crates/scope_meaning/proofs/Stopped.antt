@@ -2,15 +2,14 @@
 use Rattle.std.proofs.Common.{◌≡◌, ℕ, ◌+◌, Bool, true, false, List, [], ◌∷◌, Option, Some, None, refl}
 use Rattle.std.specs.Prelude.{if◌then◌else◌}
 use Rattle.cxx_ast.specs.Plain.{Expression}
-use Rattle.run_items.specs.declared.item.Item.TheVariants.{Enter, Make}
 use Rattle.meaning_forms.specs.Class.{contains}
 use Rattle.meaning_forms.specs.World.{World, Exception, building, native, foreign, exception_at, type_at, nowhere}
 use Rattle.meaning_forms.specs.Context.{Context, barrier, guarded_by, handling}
-use Rattle.meaning_forms.specs.Outcome.{Action, Flow, Result, done, stopped, Stop, thrown, cancelled, ended, undefined, out_of_turns, deep, aborted, stop, continued}
+use Rattle.meaning_forms.specs.Outcome.{Action, Flow, Result, done, stopped, thrown, cancelled, ended, undefined, out_of_turns, deep, aborted, stop, continued}
 use Rattle.meaning_forms.specs.Guard.{is_doomed}
 use Rattle.meaning_forms.specs.Running.{Running, function}
 use Rattle.meaning_forms.specs.Terminate.{terminate, terminate_with, run_terminate_handler, after_terminate_handler, enter_and_terminate, terminate_because}
-use Rattle.meaning_forms.specs.Throw.{raise_exception, throw_new, rethrow_newest, new_exception, after_building, is_full, keep}
+use Rattle.meaning_forms.specs.Throw.{raise_exception, throw_new, rethrow_newest, after_building, is_full, keep}
 use Rattle.meaning_forms.specs.Frame.{Frame}
 use Rattle.meaning_forms.specs.Statement.{throwing, operand_thrown}
 use Rattle.scope_flow.proofs.Raising.{thrown_anew}

@@ -1,12 +1,10 @@
 -- The object of a `throw`, from its operand.
 use Rattle.std.proofs.Common.{◌≡◌, ◌∙◌, ℕ, Option, Some, None, refl, ap, sym, subst, Ok, Result as CodeResult}
 use Rattle.cxx_ast.specs.declared.name.Bound.{Bound}
-use Rattle.cxx_ast.specs.declared.name.Bound.TheVariants.{Free, Class, Global, Func, Local, Field, Method, Builtin as BuiltinBound}
-use Rattle.cxx_ast.specs.declared.name.Builtin.TheVariants.{WriteInt, ReadByte, Exit, Module, Cancel, Terminate, SetTerminate, SetUnexpected, Uncaught, BadException}
 use Rattle.cxx_ast.specs.declared.name.Name.{Name}
 use Rattle.std.proofs.Common.{List}
 use Rattle.cxx_ast.specs.Plain.{Expression, Expressions, call, std_call}
-use Rattle.meaning_forms.specs.Class.{class_type, int_type}
+use Rattle.meaning_forms.specs.Class.{class_type}
 use Rattle.meaning_forms.specs.Part.{Part, part_type, unset}
 use Rattle.meaning_forms.specs.World.{World, Reference, part_of, whole}
 use Rattle.meaning_forms.specs.Context.{Context}

@@ -10,7 +10,7 @@ use Rattle.scope_world.specs.Program.{function_or_none}
 use Rattle.meaning_forms.specs.Class.{ObjectType, parts_of}
 use Rattle.meaning_forms.specs.Context.{Context}
 use Rattle.meaning_forms.specs.Outcome.{Action, Flow}
-use Rattle.meaning_forms.specs.Running.{Running, constructor}
+use Rattle.meaning_forms.specs.Running.{Running}
 use Rattle.meaning_forms.specs.Frame.{Frame}
 use Rattle.meaning_forms.specs.Call.{body_of, default_part, copy_part, initial_part, initialiser_for, construction, destroy_parts}
 

@@ -55,10 +55,6 @@ impl<
 /// The most calls that are open at once.
 const MOST_OPEN: u64 = 128;
 
-/// How deep an evaluation goes in one call: deeper than the 64 levels that a checked tree has, the 192 variables that a checked function
-/// has room for, and the 256 parts that an object of a checked class has, together.
-pub const ROOM: u32 = 600;
-
 /// A call, which spends a turn, unless it would be one more than may be open.
 #[tactic(auto, using(crate::proofs::Opened::call_deep, crate::proofs::Opened::call_unspent, crate::proofs::Opened::call_done))]
 pub fn call<G: Outside>(
@@ -242,7 +238,7 @@ fn run_implicit<G: Outside, C: Calls<G>>(
         parameters: &[],
         locals: &Locals::None,
     };
-    build_parts(calls, c, w, plan, &frame, 0, types.as_slice(), None, ROOM)
+    build_parts(calls, c, w, plan, &frame, 0, types.as_slice(), None)
 }
 
 #[tactic(auto, using(scope_flow::proofs::Passing::passing, crate::proofs::Called::destroyed_plainly, crate::proofs::Called::destroyed_so, crate::proofs::Called::parts_destroyed))]
@@ -264,7 +260,7 @@ fn run_destructor<G: Outside, C: Calls<G>>(
     match destructor_place(c.program, class) {
         None => {
             let types = parts_of(c.alloc, c.program, class)?;
-            destroy_parts(calls, c, w, &frame, 0, types.as_slice(), None, ROOM)
+            destroy_parts(calls, c, w, &frame, 0, types.as_slice(), None)
         }
         Some(place) => {
             let function = method_at(c.program, class, place);

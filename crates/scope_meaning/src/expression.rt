@@ -38,13 +38,12 @@ fn passed_value<G: Outside, C: Calls<G>>(
     w: &mut World<G>,
     frame: &Frame<'_>,
     e: &Expr,
-    room: u32,
 ) -> Result<Argument, Halt>
     requires { C.answers calls.now c.now.depth }
     ensures some { (t : TyMeant) (types : List TyMeant) → rules.is_reference t ≡ false → GivesBy argument_of (rules.passed (always (checked_of c.now.program.now)) (frame_of frame.now) (t ∷ types) (expression_of e.now) (rules.value_of (always (checked_of c.now.program.now)) (frame_of frame.now) (expression_of e.now) (context_of c.now)) (world_of G.told c.now.depth w.old)) result (world_of G.told c.now.depth w.new) }
     ensures none { GivesBy argument_of (rules.passed (always (checked_of c.now.program.now)) (frame_of frame.now) [] (expression_of e.now) (rules.value_of (always (checked_of c.now.program.now)) (frame_of frame.now) (expression_of e.now) (context_of c.now)) (world_of G.told c.now.depth w.old)) result (world_of G.told c.now.depth w.new) }
 {
-    Ok(Argument::Value(value_of(calls, c, w, frame, e, room)?))
+    Ok(Argument::Value(value_of(calls, c, w, frame, e)?))
 }
 
 // The argument for the first of the parameters.
@@ -57,7 +56,6 @@ fn passed<G: Outside, C: Calls<G>>(
     frame: &Frame<'_>,
     parameters: Parameters<'_>,
     e: &Expr,
-    room: u32,
 ) -> Result<Argument, Halt>
     requires { C.answers calls.now c.now.depth }
     ensures { GivesBy argument_of (rules.passed (always (checked_of c.now.program.now)) (frame_of frame.now) (parameter_types_of parameters.entry) (expression_of e.now) (rules.value_of (always (checked_of c.now.program.now)) (frame_of frame.now) (expression_of e.now) (context_of c.now)) (world_of G.told c.now.depth w.old)) result (world_of G.told c.now.depth w.new) }
@@ -65,11 +63,11 @@ fn passed<G: Outside, C: Calls<G>>(
     match parameters {
         Parameters::CopyOf(class) => Ok(passed_object(c, w, frame, class, e)?),
         Parameters::Of(parameters) => match parameters.first() {
-            None => passed_value(calls, c, w, frame, e, room),
+            None => passed_value(calls, c, w, frame, e),
             Some(first) => match &first.ty {
                 Ty::ObjectRef(_, name) => Ok(passed_object(c, w, frame, class_named(name), e)?),
                 Ty::IntRef(_) => Ok(Argument::Place(lvalue(c, w, frame, names_of(e))?)),
-                _ => passed_value(calls, c, w, frame, e, room),
+                _ => passed_value(calls, c, w, frame, e),
             },
         },
     }
@@ -85,7 +83,6 @@ fn arguments<G: Outside, C: Calls<G>>(
     frame: &Frame<'_>,
     es: &[Expr],
     parameters: Parameters<'_>,
-    room: u32,
 ) -> Result<Vec<Argument>, Halt>
     requires { C.answers calls.now c.now.depth }
     ensures { GivesBy (λ v. map argument_of v.items) (rules.arguments (always (checked_of c.now.program.now)) (frame_of frame.now) (expressions_of es.now) (parameter_types_of parameters.entry) (context_of c.now) (world_of G.told c.now.depth w.old)) result (world_of G.told c.now.depth w.new) }
@@ -94,7 +91,7 @@ fn arguments<G: Outside, C: Calls<G>>(
     let mut wanted = parameters;
     let mut rest = es;
     'arguments: while let Some((first, others)) = rest.split_first() {
-        let argument = passed(calls, c, w, frame, wanted, first, room)?;
+        let argument = passed(calls, c, w, frame, wanted, first)?;
         given.push(argument)?;
         wanted = wanted.behind();
         rest = others;
@@ -113,12 +110,11 @@ fn module_called<G: Outside, C: Calls<G>>(
     frame: &Frame<'_>,
     es: &[Expr],
     parameters: Parameters<'_>,
-    room: u32,
 ) -> Result<i32, Halt>
     requires { C.answers calls.now c.now.depth }
     ensures { Gives (rules.builtin (always (checked_of c.now.program.now)) Module (expressions_of es.now) (rules.arguments (always (checked_of c.now.program.now)) (frame_of frame.now) (expressions_of es.now) (parameter_types_of parameters.entry) (context_of c.now)) (context_of c.now) (world_of G.told c.now.depth w.old)) result (world_of G.told c.now.depth w.new) }
 {
-    let given = arguments(calls, c, w, frame, es, parameters, room)?;
+    let given = arguments(calls, c, w, frame, es, parameters)?;
     call_numbered_module(calls, c, w, given.as_slice())
 }
 
@@ -133,25 +129,24 @@ fn builtin<G: Outside, C: Calls<G>>(
     which: Builtin,
     es: &[Expr],
     parameters: Parameters<'_>,
-    room: u32,
 ) -> Result<i32, Halt>
     requires { C.answers calls.now c.now.depth }
     ensures { Gives (rules.builtin (always (checked_of c.now.program.now)) which (expressions_of es.now) (rules.arguments (always (checked_of c.now.program.now)) (frame_of frame.now) (expressions_of es.now) (parameter_types_of parameters.entry) (context_of c.now)) (context_of c.now) (world_of G.told c.now.depth w.old)) result (world_of G.told c.now.depth w.new) }
 {
     match which {
         Builtin::WriteInt => {
-            let given = arguments(calls, c, w, frame, es, parameters, room)?;
+            let given = arguments(calls, c, w, frame, es, parameters)?;
             w.emit(Item::Line(value_at(given.as_slice(), 0)))?;
             Ok(0)
         }
         Builtin::ReadByte => Ok(w.read_byte()),
         Builtin::Exit => {
-            let given = arguments(calls, c, w, frame, es, parameters, room)?;
+            let given = arguments(calls, c, w, frame, es, parameters)?;
             Err(Halt::Exited(value_at(given.as_slice(), 0)))
         }
-        Builtin::Module => module_called(calls, c, w, frame, es, parameters, room),
+        Builtin::Module => module_called(calls, c, w, frame, es, parameters),
         Builtin::Cancel => {
-            let given = arguments(calls, c, w, frame, es, parameters, room)?;
+            let given = arguments(calls, c, w, frame, es, parameters)?;
             Err(Halt::Cancelled(value_at(given.as_slice(), 0)))
         }
         Builtin::Terminate => Err(terminate(calls, c, w)),
@@ -180,25 +175,24 @@ fn called<G: Outside, C: Calls<G>>(
     object: &[Name],
     es: &[Expr],
     parameters: Parameters<'_>,
-    room: u32,
 ) -> Result<i32, Halt>
     requires { C.answers calls.now c.now.depth }
     ensures { Gives (rules.called (always (checked_of c.now.program.now)) (frame_of frame.now) bound object.now (expressions_of es.now) (rules.arguments (always (checked_of c.now.program.now)) (frame_of frame.now) (expressions_of es.now) (parameter_types_of parameters.entry) (context_of c.now)) (context_of c.now) (world_of G.told c.now.depth w.old)) result (world_of G.told c.now.depth w.new) }
 {
     match bound {
         Bound::Func(n) => {
-            let given = arguments(calls, c, w, frame, es, parameters, room)?;
+            let given = arguments(calls, c, w, frame, es, parameters)?;
             call_function(calls, c, w, n, given.as_slice())
         }
         Bound::Method(class, place) => {
-            let given = arguments(calls, c, w, frame, es, parameters, room)?;
+            let given = arguments(calls, c, w, frame, es, parameters)?;
             call_method(calls, c, w, frame, class, place, object, given.as_slice())
         }
         Bound::Builtin(Builtin::Module) => {
-            let given = arguments(calls, c, w, frame, es, parameters, room)?;
+            let given = arguments(calls, c, w, frame, es, parameters)?;
             call_numbered_module(calls, c, w, given.as_slice())
         }
-        Bound::Builtin(which) => builtin(calls, c, w, frame, which, es, parameters, room),
+        Bound::Builtin(which) => builtin(calls, c, w, frame, which, es, parameters),
         _ => Ok(0),
     }
 }
@@ -213,7 +207,6 @@ fn called_by_name<G: Outside, C: Calls<G>>(
     frame: &Frame<'_>,
     names: &[Name],
     es: &[Expr],
-    room: u32,
 ) -> Result<i32, Halt>
     requires { C.answers calls.now c.now.depth }
     ensures { Gives (rules.value_of (always (checked_of c.now.program.now)) (frame_of frame.now) (call names.now (expressions_of es.now)) (context_of c.now) (world_of G.told c.now.depth w.old)) result (world_of G.told c.now.depth w.new) }
@@ -221,7 +214,7 @@ fn called_by_name<G: Outside, C: Calls<G>>(
     let bound = callee_bound(names);
     let object = receiver(names);
     let parameters = parameters_for(c.program, bound);
-    called(calls, c, w, frame, bound, object, es, parameters, room)
+    called(calls, c, w, frame, bound, object, es, parameters)
 }
 
 // An operator on two operands; `&&` and `||` evaluate their right side only where it decides.
@@ -236,16 +229,15 @@ fn operated<G: Outside, C: Calls<G>>(
     op: BinaryOp,
     left: &Expr,
     right: &Expr,
-    room: u32,
 ) -> Result<i32, Halt>
     requires { C.answers calls.now c.now.depth }
     ensures { Gives (rules.value_of (always (checked_of c.now.program.now)) (frame_of frame.now) (binary op (expression_of left.now) (expression_of right.now)) (context_of c.now) (world_of G.told c.now.depth w.old)) result (world_of G.told c.now.depth w.new) }
 {
-    let x = value_of(calls, c, w, frame, left, room)?;
+    let x = value_of(calls, c, w, frame, left)?;
     match decided(op, x) {
         Some(value) => Ok(value),
         None => {
-            let y = value_of(calls, c, w, frame, right, room)?;
+            let y = value_of(calls, c, w, frame, right)?;
             binary_value(op, x, y)
         }
     }
@@ -260,31 +252,27 @@ pub fn value_of<G: Outside, C: Calls<G>>(
     w: &mut World<G>,
     frame: &Frame<'_>,
     e: &Expr,
-    room: u32,
 ) -> Result<i32, Halt>
     requires { C.answers calls.now c.now.depth }
     ensures { Gives (rules.value_of (always (checked_of c.now.program.now)) (frame_of frame.now) (expression_of e.now) (context_of c.now) (world_of G.told c.now.depth w.old)) result (world_of G.told c.now.depth w.new) }
 {
-    let Some(room) = room.checked_sub(1) else {
-        return Err(Halt::NoMemory);
-    };
     match e {
         Expr::Number(value, _) => Ok(*value),
         Expr::Path(it) => read_named(c, w, frame, it.path.as_slice()),
-        Expr::Paren(inner, _) => value_of(calls, c, w, frame, inner, room),
+        Expr::Paren(inner, _) => value_of(calls, c, w, frame, inner),
         Expr::Unary(op, inner, _) => {
-            let x = value_of(calls, c, w, frame, inner, room)?;
+            let x = value_of(calls, c, w, frame, inner)?;
             unary_value(*op, x)
         }
-        Expr::Binary(op, left, right) => operated(calls, c, w, frame, *op, left, right, room),
+        Expr::Binary(op, left, right) => operated(calls, c, w, frame, *op, left, right),
         Expr::Call(callee, es) => {
             let names = callee.path.as_slice();
-            called_by_name(calls, c, w, frame, names, es.as_slice(), room)
+            called_by_name(calls, c, w, frame, names, es.as_slice())
         }
         Expr::StdCall(name, es, _) => {
             let es = es.as_slice();
             let none = Parameters::Of(&[]);
-            called(calls, c, w, frame, name.bound, &[], es, none, room)
+            called(calls, c, w, frame, name.bound, &[], es, none)
         }
     }
 }
@@ -296,14 +284,13 @@ pub fn initial_value<G: Outside, C: Calls<G>>(
     w: &mut World<G>,
     frame: &Frame<'_>,
     es: &[Expr],
-    room: u32,
 ) -> Result<i32, Halt>
     requires { C.answers calls.now c.now.depth }
     ensures { Gives (call_rules.initial_value (always (checked_of c.now.program.now)) (frame_of frame.now) (expressions_of es.now) (context_of c.now) (world_of G.told c.now.depth w.old)) result (world_of G.told c.now.depth w.new) }
 {
     match es.first() {
         None => Ok(0),
-        Some(e) => value_of(calls, c, w, frame, e, room),
+        Some(e) => value_of(calls, c, w, frame, e),
     }
 }
 
@@ -317,14 +304,13 @@ pub fn construct<G: Outside, C: Calls<G>>(
     class: u32,
     es: &[Expr],
     target: &Reference,
-    room: u32,
 ) -> Result<(), Halt>
     requires { C.answers calls.now c.now.depth }
     ensures { Gives (rules.construct (always (checked_of c.now.program.now)) (frame_of frame.now) class (expressions_of es.now) (reference_of target.now) (context_of c.now) (world_of G.told c.now.depth w.old)) result (world_of G.told c.now.depth w.new) }
 {
     let which = constructor_chosen(c, w, frame, class, es)?;
     let parameters = constructor_parameters(c.program, class, which);
-    let given = arguments(calls, c, w, frame, es, parameters, room)?;
+    let given = arguments(calls, c, w, frame, es, parameters)?;
     calls.call(
         c,
         w,

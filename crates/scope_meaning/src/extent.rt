@@ -10,7 +10,6 @@ ghost use Rattle.scope_world.specs.Seen.{world_of};
 ghost use Rattle.scope_flow.specs.Always.{always};
 ghost use Rattle.scope_meaning.specs.Asked.{extent_of};
 
-use crate::calls::ROOM;
 use crate::parts::{Plan, build_parts, destroy_parts};
 use crate::statement::statements;
 use cxx_ast::declaration::Func;
@@ -39,25 +38,15 @@ fn run_extent<G: Outside, C: Calls<G>>(
     ensures { GivesBy flow_of (extent_of (always (checked_of c.now.program.now)) extent (function_or_none (option_map (λ x. x.now) function.entry)) (frame_of frame.now) (context_of c.now) (world_of G.told c.now.depth w.old)) result (world_of G.told c.now.depth w.new) }
 {
     match extent {
-        Extent::Body => statements(calls, c, w, frame, body_of(function), ROOM),
+        Extent::Body => statements(calls, c, w, frame, body_of(function)),
         Extent::Construction(class) => {
             let types = parts_of(c.alloc, c.program, class)?;
             let plan = Plan::Declared(function);
-            build_parts(
-                calls,
-                c,
-                w,
-                &plan,
-                frame,
-                0,
-                types.as_slice(),
-                function,
-                ROOM,
-            )
+            build_parts(calls, c, w, &plan, frame, 0, types.as_slice(), function)
         }
         Extent::Destruction(class) => {
             let types = parts_of(c.alloc, c.program, class)?;
-            destroy_parts(calls, c, w, frame, 0, types.as_slice(), function, ROOM)
+            destroy_parts(calls, c, w, frame, 0, types.as_slice(), function)
         }
     }
 }

@@ -26,7 +26,6 @@ pub fn try_block<G: Outside, C: Calls<G>>(
     frame: &Frame<'_>,
     body: &[Stmt],
     handlers: &[Handler],
-    room: u32,
 ) -> Result<Flow, Halt>
     requires { C.answers calls.now c.now.depth }
     ensures { GivesBy flow_of (tried (always (checked_of c.now.program.now)) (statements_of body.now) (handler_rules.clauses_of (handlers_of handlers.now)) (handlers_of handlers.now) (frame_of frame.now) (context_of c.now) (world_of G.told c.now.depth w.old)) result (world_of G.told c.now.depth w.new) }
@@ -36,10 +35,10 @@ pub fn try_block<G: Outside, C: Calls<G>>(
         guards: &guards,
         ..*c
     };
-    match statements(calls, &inner, w, frame, body, room) {
+    match statements(calls, &inner, w, frame, body) {
         Ok(flow) => Ok(flow),
         Err(halt) => match halt {
-            Halt::Thrown(number) => caught(calls, c, w, frame, handlers, number, room),
+            Halt::Thrown(number) => caught(calls, c, w, frame, handlers, number),
             _ => Err(halt),
         },
     }
@@ -56,14 +55,13 @@ fn caught<G: Outside, C: Calls<G>>(
     frame: &Frame<'_>,
     handlers: &[Handler],
     number: u64,
-    room: u32,
 ) -> Result<Flow, Halt>
     requires { C.answers calls.now c.now.depth }
     ensures { GivesBy flow_of (rules.caught (always (checked_of c.now.program.now)) (handlers_of handlers.now) (frame_of frame.now) (context_of c.now) number (world_of G.told c.now.depth w.old)) result (world_of G.told c.now.depth w.new) }
 {
     let thrown = w.exception(number).ty();
     match handler_for(c.program, handlers, thrown) {
-        Some(handler) => handle(calls, c, w, frame, handler, number, room),
+        Some(handler) => handle(calls, c, w, frame, handler, number),
         None => Err(Halt::Thrown(number)),
     }
 }
@@ -79,7 +77,6 @@ fn handle<G: Outside, C: Calls<G>>(
     frame: &Frame<'_>,
     handler: &Handler,
     number: u64,
-    room: u32,
 ) -> Result<Flow, Halt>
     requires { C.answers calls.now c.now.depth }
     ensures { GivesBy flow_of (handler_rules.handle (always (checked_of c.now.program.now)) number handler.now.ty handler.now.name (λ f e. rules.statements (always (checked_of c.now.program.now)) (statements_of handler.now.body.items) f e) (frame_of frame.now) (context_of c.now) (world_of G.told c.now.depth w.old)) result (world_of G.told c.now.depth w.new) }
@@ -90,7 +87,7 @@ fn handle<G: Outside, C: Calls<G>>(
         handled: &handled,
         ..*c
     };
-    let outcome = handler_body(calls, &inside, w, frame, handler, &parameter, room);
+    let outcome = handler_body(calls, &inside, w, frame, handler, &parameter);
     after_handler(calls, c, w, number, outcome)
 }
 
@@ -105,7 +102,6 @@ fn handler_body<G: Outside, C: Calls<G>>(
     frame: &Frame<'_>,
     handler: &Handler,
     parameter: &Reference,
-    room: u32,
 ) -> Result<Flow, Halt>
     requires { C.answers calls.now c.now.depth }
     ensures { GivesBy flow_of (handler_done (always (checked_of c.now.program.now)) handler.now.ty handler.now.name (statements_of handler.now.body.items) (reference_of parameter.now) (frame_of frame.now) (context_of c.now) (world_of G.told c.now.depth w.old)) result (world_of G.told c.now.depth w.new) }
@@ -119,7 +115,6 @@ fn handler_body<G: Outside, C: Calls<G>>(
         &handler.name,
         at,
         handler.body.as_slice(),
-        room,
     );
     let leaving = Leaving::Object(own_type(&handler.ty), parameter);
     after_scope(calls, c, w, &leaving, outcome)

@@ -7,6 +7,7 @@ mod calls;
 mod expression;
 mod extent;
 mod handling;
+mod levels;
 mod lookup;
 mod modules;
 mod parts;

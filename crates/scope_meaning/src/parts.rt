@@ -117,7 +117,6 @@ fn initial_part<G: Outside, C: Calls<G>>(
     target: &Reference,
     initialiser: Option<&[Expr]>,
     ty: ObjectType,
-    room: u32,
 ) -> Result<(), Halt>
     requires { C.answers calls.now c.now.depth }
     ensures { (i : ℕ) → (reference_of target.now) ≡ part_meant i (reference_of frame.now.this.now) → Gives (call_rules.initial_part (always (checked_of c.now.program.now)) (frame_of frame.now) (context_of c.now) i (option_of (λ x. expressions_of x.now) initialiser.entry) (type_of ty) (world_of G.told c.now.depth w.old)) result (world_of G.told c.now.depth w.new) }
@@ -126,12 +125,12 @@ fn initial_part<G: Outside, C: Calls<G>>(
         (None, ObjectType::Int) => Ok(()),
         (None, ObjectType::Class(class)) => default_object(calls, c, w, class, target),
         (Some(arguments), ObjectType::Int) => {
-            let value = initial_value(calls, c, w, frame, arguments, room)?;
+            let value = initial_value(calls, c, w, frame, arguments)?;
             w.write(target, value);
             Ok(())
         }
         (Some(arguments), ObjectType::Class(class)) => {
-            construct(calls, c, w, frame, class, arguments, target, room)
+            construct(calls, c, w, frame, class, arguments, target)
         }
     }
 }
@@ -145,7 +144,6 @@ fn build_part<G: Outside, C: Calls<G>>(
     frame: &Frame<'_>,
     place: u64,
     ty: ObjectType,
-    room: u32,
 ) -> Result<(), Halt>
     requires { C.answers calls.now c.now.depth }
     ensures { Gives (building_of (always (checked_of c.now.program.now)) plan.now (frame_of frame.now) (context_of c.now) place (type_of ty) (world_of G.told c.now.depth w.old)) result (world_of G.told c.now.depth w.new) }
@@ -159,7 +157,7 @@ fn build_part<G: Outside, C: Calls<G>>(
         }
         Plan::Declared(function) => {
             let initialiser = initialiser_for(c.program, initialisers_of(*function), place);
-            initial_part(calls, c, w, frame, &target, initialiser, ty, room)
+            initial_part(calls, c, w, frame, &target, initialiser, ty)
         }
     }
 }
@@ -176,20 +174,19 @@ pub fn build_parts<G: Outside, C: Calls<G>>(
     place: u64,
     types: &[ObjectType],
     body: Option<&Func>,
-    room: u32,
 ) -> Result<Flow, Halt>
     requires { C.answers calls.now c.now.depth }
     ensures parts { GivesBy flow_of (call_rules.build_parts (always (checked_of c.now.program.now)) (building_of (always (checked_of c.now.program.now)) plan.now (frame_of frame.now) (context_of c.now)) (reference_of frame.now.this.now) place (map type_of types.now) (context_of c.now) (call_rules.body_of (always (checked_of c.now.program.now)) (function_or_none (option_map (λ x. x.now) body.entry)) (frame_of frame.now) (context_of c.now)) (world_of G.told c.now.depth w.old)) result (world_of G.told c.now.depth w.new) }
 {
-    let (Some(next), Some(room)) = (place.checked_add(1), room.checked_sub(1)) else {
+    let Some(next) = place.checked_add(1) else {
         return Err(Halt::NoMemory);
     };
     let Some((ty, types)) = types.split_first() else {
-        return statements(calls, c, w, frame, body_of(body), room);
+        return statements(calls, c, w, frame, body_of(body));
     };
-    build_part(calls, c, w, plan, frame, place, *ty, room)?;
+    build_part(calls, c, w, plan, frame, place, *ty)?;
     let target = frame.this.part(c.alloc, place)?;
-    let outcome = build_parts(calls, c, w, plan, frame, next, types, body, room);
+    let outcome = build_parts(calls, c, w, plan, frame, next, types, body);
     after_part(calls, c, w, &Leaving::Object(*ty, &target), outcome)
 }
 
@@ -203,18 +200,17 @@ pub fn destroy_parts<G: Outside, C: Calls<G>>(
     place: u64,
     types: &[ObjectType],
     body: Option<&Func>,
-    room: u32,
 ) -> Result<Flow, Halt>
     requires { C.answers calls.now c.now.depth }
     ensures parts { GivesBy flow_of (call_rules.destroy_parts (always (checked_of c.now.program.now)) (reference_of frame.now.this.now) place (map type_of types.now) (context_of c.now) (call_rules.body_of (always (checked_of c.now.program.now)) (function_or_none (option_map (λ x. x.now) body.entry)) (frame_of frame.now) (context_of c.now)) (world_of G.told c.now.depth w.old)) result (world_of G.told c.now.depth w.new) }
 {
-    let (Some(next), Some(room)) = (place.checked_add(1), room.checked_sub(1)) else {
+    let Some(next) = place.checked_add(1) else {
         return Err(Halt::NoMemory);
     };
     let Some((ty, types)) = types.split_first() else {
-        return statements(calls, c, w, frame, body_of(body), room);
+        return statements(calls, c, w, frame, body_of(body));
     };
     let target = frame.this.part(c.alloc, place)?;
-    let outcome = destroy_parts(calls, c, w, frame, next, types, body, room);
+    let outcome = destroy_parts(calls, c, w, frame, next, types, body);
     after_scope(calls, c, w, &Leaving::Object(*ty, &target), outcome)
 }

@@ -12,6 +12,7 @@ ghost use Rattle.scope_meaning.specs.Mean.{IsRun, Tells, meant};
 ghost use Rattle.scope_meaning.specs.Modules.{cleaned_by, kept_of, rests_of};
 
 use crate::calls::call;
+use crate::levels::is_shallow;
 use crate::modules::{Begins, Modules};
 use crate::{Item, MeanEnd, NoMemory};
 use cxx_ast::program::Checked;
@@ -139,8 +140,8 @@ fn run<M: Module>(
 /// The meaning of a program with an input, modules, turns to spend, and at most 128 open calls.
 ///
 /// The modules give the replies that the meaning takes, and clean the tokens of its cleanups in order, as far as their room goes. After
-/// want of memory they hold what the calls so far left. Memory is wanting also where one call would go more than 600 levels deep, of
-/// blocks, operators, variables and parts of its object, which is more than a source has that was read and checked.
+/// want of memory they hold what the calls so far left. A program in which a call would go more than 600 levels deep, of blocks, operators,
+/// variables and parts of its object, is not begun: no source that was read and checked has one.
 ///
 /// ```rust
 /// let meaning = mean(alloc, &checked, b"", &mut modules, 1_000)?;
@@ -157,6 +158,9 @@ pub fn mean<M: Module>(
     ensures replies { IfOk result (λ answer. rests_of (map M.view modules.new.items) ≡ (meant (checked_of program.now) input.now (map M.view modules.old.items) turns).replies) }
     ensures cleaned { IfOk result (λ answer. map kept_of (map M.view modules.new.items) ≡ map kept_of (cleaned_by answer.items.items (map M.view modules.old.items))) }
 {
+    if !is_shallow(program) {
+        return Err(NoMemory);
+    }
     let objects = global_objects(alloc, program.globals.as_slice())?;
     let input = Vec::from_slice(alloc, input)?;
     let outside = mem::replace(modules, Vec::new(alloc));

@@ -29,14 +29,13 @@ pub fn local_cell<G: Outside, C: Calls<G>>(
     w: &mut World<G>,
     frame: &Frame<'_>,
     e: &Option<Expr>,
-    room: u32,
 ) -> Result<usize, Halt>
     requires { C.answers calls.now c.now.depth }
     ensures { Gives (rules.local_cell (always (checked_of c.now.program.now)) (frame_of frame.now) (option_of expression_of e.now) (context_of c.now) (world_of G.told c.now.depth w.old)) result (world_of G.told c.now.depth w.new) }
 {
     match e {
         None => Ok(w.new_object(Part::Cell(None))?),
-        Some(e) => int_object(calls, c, w, frame, e, room),
+        Some(e) => int_object(calls, c, w, frame, e),
     }
 }
 
@@ -62,7 +61,6 @@ pub fn returning<G: Outside, C: Calls<G>>(
     w: &mut World<G>,
     frame: &Frame<'_>,
     e: &Option<Expr>,
-    room: u32,
 ) -> Result<Flow, Halt>
     requires { C.answers calls.now c.now.depth }
     ensures { GivesBy flow_of (rules.returning (always (checked_of c.now.program.now)) (frame_of frame.now) (option_of expression_of e.now) (context_of c.now) (world_of G.told c.now.depth w.old)) result (world_of G.told c.now.depth w.new) }
@@ -70,7 +68,7 @@ pub fn returning<G: Outside, C: Calls<G>>(
     match e {
         None => Ok(Flow::Returns(None)),
         Some(e) => {
-            let value = value_of(calls, c, w, frame, e, room)?;
+            let value = value_of(calls, c, w, frame, e)?;
             Ok(Flow::Returns(Some(value)))
         }
     }
@@ -84,12 +82,11 @@ pub fn evaluate<G: Outside, C: Calls<G>>(
     w: &mut World<G>,
     frame: &Frame<'_>,
     e: &Expr,
-    room: u32,
 ) -> Result<Flow, Halt>
     requires { C.answers calls.now c.now.depth }
     ensures { GivesBy flow_of (plainly (always (checked_of c.now.program.now)) (evaluate (expression_of e.now)) (frame_of frame.now) (context_of c.now) (world_of G.told c.now.depth w.old)) result (world_of G.told c.now.depth w.new) }
 {
-    value_of(calls, c, w, frame, e, room)?;
+    value_of(calls, c, w, frame, e)?;
     Ok(Flow::Normal)
 }
 
@@ -103,12 +100,11 @@ pub fn assign<G: Outside, C: Calls<G>>(
     frame: &Frame<'_>,
     names: &[Name],
     e: &Expr,
-    room: u32,
 ) -> Result<Flow, Halt>
     requires { C.answers calls.now c.now.depth }
     ensures { GivesBy flow_of (assigned (always (checked_of c.now.program.now)) names.now (expression_of e.now) (frame_of frame.now) (context_of c.now) (world_of G.told c.now.depth w.old)) result (world_of G.told c.now.depth w.new) }
 {
-    let value = value_of(calls, c, w, frame, e, room)?;
+    let value = value_of(calls, c, w, frame, e)?;
     let at = lvalue(c, w, frame, names)?;
     w.write(&at, value);
     Ok(Flow::Normal)

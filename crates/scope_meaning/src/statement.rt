@@ -31,7 +31,7 @@ use scope_world::{
 use std::slice;
 
 // Whether a statement declares a variable.
-fn declares(it: &Stmt) -> bool
+pub fn declares(it: &Stmt) -> bool
     ensures { result ≡ declares (statement_of it.now) }
 {
     matches!(
@@ -56,7 +56,6 @@ pub fn statements<G: Outside, C: Calls<G>>(
     w: &mut World<G>,
     frame: &Frame<'_>,
     body: &[Stmt],
-    room: u32,
 ) -> Result<Flow, Halt>
     requires { C.answers calls.now c.now.depth }
     ensures { GivesBy flow_of (rules.statements (always (checked_of c.now.program.now)) (statements_of body.now) (frame_of frame.now) (context_of c.now) (world_of G.told c.now.depth w.old)) result (world_of G.told c.now.depth w.new) }
@@ -64,9 +63,9 @@ pub fn statements<G: Outside, C: Calls<G>>(
     let mut rest = body;
     'statements: while let Some((first, others)) = rest.split_first() {
         if declares(first) {
-            return declaration(calls, c, w, frame, first, others, room);
+            return declaration(calls, c, w, frame, first, others);
         }
-        match statement(calls, c, w, frame, first, room)? {
+        match statement(calls, c, w, frame, first)? {
             Flow::Normal => {}
             flow => return Ok(flow),
         }
@@ -87,7 +86,6 @@ fn with_variable<G: Outside, C: Calls<G>>(
     name: &Name,
     at: Reference,
     body: &[Stmt],
-    room: u32,
 ) -> Result<Flow, Halt>
     requires { C.answers calls.now c.now.depth }
     ensures { GivesBy flow_of (rules.statements (always (checked_of c.now.program.now)) (statements_of body.now) (frame_rules.with_variable name.now (reference_of at) (frame_of frame.now)) (context_of c.now) (world_of G.told c.now.depth w.old)) result (world_of G.told c.now.depth w.new) }
@@ -98,7 +96,7 @@ fn with_variable<G: Outside, C: Calls<G>>(
         locals: &locals,
         ..*frame
     };
-    statements(calls, c, w, &inner, body, room)
+    statements(calls, c, w, &inner, body)
 }
 
 /// Statements with a parameter in reach, if it has a name.
@@ -112,18 +110,17 @@ pub fn with_parameter<G: Outside, C: Calls<G>>(
     name: &Option<Name>,
     at: Reference,
     body: &[Stmt],
-    room: u32,
 ) -> Result<Flow, Halt>
     requires { C.answers calls.now c.now.depth }
     ensures { GivesBy flow_of (rules.statements (always (checked_of c.now.program.now)) (statements_of body.now) (frame_rules.with_parameter name.now (reference_of at) (frame_of frame.now)) (context_of c.now) (world_of G.told c.now.depth w.old)) result (world_of G.told c.now.depth w.new) }
 {
     match name {
-        Some(name) => with_variable(calls, c, w, frame, name, at, body, room),
-        None => statements(calls, c, w, frame, body, room),
+        Some(name) => with_variable(calls, c, w, frame, name, at, body),
+        None => statements(calls, c, w, frame, body),
     }
 }
 
-// A declaration, and the rest of its block, which is its scope; a deeper one than the room is for is want of memory.
+// A declaration, and the rest of its block, which is its scope.
 #[inline(never)]
 #[cycle(statements)]
 #[tactic(auto, using(scope_flow::proofs::Passing::passing, crate::proofs::Declared::int_declared, crate::proofs::Declared::reference_declared, crate::proofs::Declared::object_declared))]
@@ -134,27 +131,23 @@ fn declaration<G: Outside, C: Calls<G>>(
     frame: &Frame<'_>,
     first: &Stmt,
     rest: &[Stmt],
-    room: u32,
 ) -> Result<Flow, Halt>
     requires { C.answers calls.now c.now.depth }
     ensures { GivesBy flow_of (rules.statement (always (checked_of c.now.program.now)) (statement_of first.now) (λ f. rules.statements (always (checked_of c.now.program.now)) (statements_of rest.now) f (context_of c.now)) (frame_of frame.now) (context_of c.now) (world_of G.told c.now.depth w.old)) result (world_of G.told c.now.depth w.new) }
 {
-    let Some(room) = room.checked_sub(1) else {
-        return Err(Halt::NoMemory);
-    };
     match first {
         Stmt::LocalInt(name, e) => {
-            let object = local_cell(calls, c, w, frame, e, room)?;
+            let object = local_cell(calls, c, w, frame, e)?;
             let at = Reference::whole(c.alloc, object);
-            with_variable(calls, c, w, frame, name, at, rest, room)
+            with_variable(calls, c, w, frame, name, at, rest)
         }
         Stmt::LocalRef(parameter, it) => {
             let at = bound_to(c, w, frame, &parameter.ty, it.path.as_slice())?;
-            with_parameter(calls, c, w, frame, &parameter.name, at, rest, room)
+            with_parameter(calls, c, w, frame, &parameter.name, at, rest)
         }
         Stmt::LocalObject(class, name, es) => {
             let class = class_named(class);
-            local_object(calls, c, w, frame, class, name, es.as_slice(), rest, room)
+            local_object(calls, c, w, frame, class, name, es.as_slice(), rest)
         }
         _ => Err(Halt::NoMemory),
     }
@@ -173,16 +166,15 @@ fn local_object<G: Outside, C: Calls<G>>(
     name: &Name,
     es: &[Expr],
     rest: &[Stmt],
-    room: u32,
 ) -> Result<Flow, Halt>
     requires { C.answers calls.now c.now.depth }
     ensures { GivesBy flow_of (object_scoped (always (checked_of c.now.program.now)) class name.now (expressions_of es.now) (statements_of rest.now) (frame_of frame.now) (context_of c.now) (world_of G.told c.now.depth w.old)) result (world_of G.told c.now.depth w.new) }
 {
     let object = unset_object(c, w, class)?;
     let target = Reference::whole(c.alloc, object);
-    construct(calls, c, w, frame, class, es, &target, room)?;
+    construct(calls, c, w, frame, class, es, &target)?;
     let at = Reference::whole(c.alloc, object);
-    let outcome = with_variable(calls, c, w, frame, name, at, rest, room);
+    let outcome = with_variable(calls, c, w, frame, name, at, rest);
     let leaving = Leaving::Object(ObjectType::Class(class), &target);
     after_scope(calls, c, w, &leaving, outcome)
 }
@@ -198,16 +190,15 @@ fn round<G: Outside, C: Calls<G>>(
     frame: &Frame<'_>,
     test: &Expr,
     body: &Stmt,
-    room: u32,
 ) -> Result<Option<Flow>, Halt>
     requires { C.answers calls.now c.now.depth }
     ensures { (n : ℕ) → RoundGives (rules.loop (suc n) (expression_rules.value_of (always (checked_of c.now.program.now)) (frame_of frame.now) (expression_of test.now) (context_of c.now)) (rules.statement (always (checked_of c.now.program.now)) (statement_of body.now) (λ g. outcome_rules.pure outcome_rules.normal) (frame_of frame.now) (context_of c.now)) (world_of G.told c.now.depth w.old)) (rules.loop n (expression_rules.value_of (always (checked_of c.now.program.now)) (frame_of frame.now) (expression_of test.now) (context_of c.now)) (rules.statement (always (checked_of c.now.program.now)) (statement_of body.now) (λ g. outcome_rules.pure outcome_rules.normal) (frame_of frame.now) (context_of c.now))) result (world_of G.told c.now.depth w.new) }
 {
     w.spend_turn()?;
-    if value_of(calls, c, w, frame, test, room)? == 0 {
+    if value_of(calls, c, w, frame, test)? == 0 {
         return Ok(Some(Flow::Normal));
     }
-    match statements(calls, c, w, frame, one(body), room)? {
+    match statements(calls, c, w, frame, one(body))? {
         Flow::Normal => Ok(None),
         Flow::Continues => Ok(None),
         Flow::Breaks => Ok(Some(Flow::Normal)),
@@ -225,17 +216,16 @@ fn while_loop<G: Outside, C: Calls<G>>(
     frame: &Frame<'_>,
     test: &Expr,
     body: &Stmt,
-    room: u32,
 ) -> Result<Flow, Halt>
     requires { C.answers calls.now c.now.depth }
     ensures { GivesBy flow_of (rules.loop (suc w.old.turns) (expression_rules.value_of (always (checked_of c.now.program.now)) (frame_of frame.now) (expression_of test.now) (context_of c.now)) (rules.statement (always (checked_of c.now.program.now)) (statement_of body.now) (λ g. outcome_rules.pure outcome_rules.normal) (frame_of frame.now) (context_of c.now)) (world_of G.told c.now.depth w.old)) result (world_of G.told c.now.depth w.new) }
 {
     for _ in 0..w.turns {
-        if let Some(flow) = round(calls, c, w, frame, test, body, room)? {
+        if let Some(flow) = round(calls, c, w, frame, test, body)? {
             return Ok(flow);
         }
     }
-    match round(calls, c, w, frame, test, body, room)? {
+    match round(calls, c, w, frame, test, body)? {
         Some(flow) => Ok(flow),
         None => Err(Halt::OutOfTurns),
     }
@@ -251,18 +241,17 @@ fn chosen<G: Outside, C: Calls<G>>(
     w: &mut World<G>,
     frame: &Frame<'_>,
     it: &Stmt,
-    room: u32,
 ) -> Result<Flow, Halt>
     requires { C.answers calls.now c.now.depth }
     ensures { GivesBy flow_of (plainly (always (checked_of c.now.program.now)) (statement_of it.now) (frame_of frame.now) (context_of c.now) (world_of G.told c.now.depth w.old)) result (world_of G.told c.now.depth w.new) }
 {
     match it {
         Stmt::If(e, yes, no) => {
-            if value_of(calls, c, w, frame, e, room)? != 0 {
-                return statements(calls, c, w, frame, one(yes), room);
+            if value_of(calls, c, w, frame, e)? != 0 {
+                return statements(calls, c, w, frame, one(yes));
             }
             match no {
-                Some(no) => statements(calls, c, w, frame, one(no), room),
+                Some(no) => statements(calls, c, w, frame, one(no)),
                 None => Ok(Flow::Normal),
             }
         }
@@ -270,7 +259,7 @@ fn chosen<G: Outside, C: Calls<G>>(
     }
 }
 
-// A statement that declares nothing; one deeper than the room is for, or any other, is want of memory.
+// A statement that declares nothing; any other is want of memory.
 #[inline(never)]
 #[cycle(statements)]
 #[tactic(auto, using(scope_flow::proofs::Passing::passing, crate::proofs::Rows::statement_rows))]
@@ -280,36 +269,24 @@ fn statement<G: Outside, C: Calls<G>>(
     w: &mut World<G>,
     frame: &Frame<'_>,
     it: &Stmt,
-    room: u32,
 ) -> Result<Flow, Halt>
     requires { C.answers calls.now c.now.depth }
     ensures { GivesBy flow_of (plainly (always (checked_of c.now.program.now)) (statement_of it.now) (frame_of frame.now) (context_of c.now) (world_of G.told c.now.depth w.old)) result (world_of G.told c.now.depth w.new) }
 {
-    let Some(room) = room.checked_sub(1) else {
-        return Err(Halt::NoMemory);
-    };
     match it {
-        Stmt::Block(body) => statements(calls, c, w, frame, body.as_slice(), room),
+        Stmt::Block(body) => statements(calls, c, w, frame, body.as_slice()),
         Stmt::Empty => Ok(Flow::Normal),
-        Stmt::If(_, _, _) => chosen(calls, c, w, frame, it, room),
-        Stmt::While(e, body) => while_loop(calls, c, w, frame, e, body, room),
-        Stmt::Return(_, e) => returning(calls, c, w, frame, e, room),
+        Stmt::If(_, _, _) => chosen(calls, c, w, frame, it),
+        Stmt::While(e, body) => while_loop(calls, c, w, frame, e, body),
+        Stmt::Return(_, e) => returning(calls, c, w, frame, e),
         Stmt::Break(_) => Ok(Flow::Breaks),
         Stmt::Continue(_) => Ok(Flow::Continues),
-        Stmt::Throw(_, e) => throwing(calls, c, w, frame, e, room),
+        Stmt::Throw(_, e) => throwing(calls, c, w, frame, e),
         Stmt::Try(body, handlers) => {
-            try_block(
-                calls,
-                c,
-                w,
-                frame,
-                body.as_slice(),
-                handlers.as_slice(),
-                room,
-            )
+            try_block(calls, c, w, frame, body.as_slice(), handlers.as_slice())
         }
-        Stmt::Assign(target, e) => assign(calls, c, w, frame, target.path.as_slice(), e, room),
-        Stmt::Call(e) => evaluate(calls, c, w, frame, e, room),
+        Stmt::Assign(target, e) => assign(calls, c, w, frame, target.path.as_slice(), e),
+        Stmt::Call(e) => evaluate(calls, c, w, frame, e),
         Stmt::LocalInt(_, _) | Stmt::LocalRef(_, _) | Stmt::LocalObject(_, _, _) => {
             Err(Halt::NoMemory)
         }

@@ -25,12 +25,11 @@ pub fn int_object<G: Outside, C: Calls<G>>(
     w: &mut World<G>,
     frame: &Frame<'_>,
     e: &Expr,
-    room: u32,
 ) -> Result<usize, Halt>
     requires { C.answers calls.now c.now.depth }
     ensures { Gives (statement_rules.int_thrown (always (checked_of c.now.program.now)) (frame_of frame.now) (expression_of e.now) (context_of c.now) (world_of G.told c.now.depth w.old)) result (world_of G.told c.now.depth w.new) }
 {
-    let value = value_of(calls, c, w, frame, e, room)?;
+    let value = value_of(calls, c, w, frame, e)?;
     Ok(w.new_object(Part::Cell(Some(value)))?)
 }
 
@@ -43,7 +42,6 @@ fn object_thrown<G: Outside, C: Calls<G>>(
     frame: &Frame<'_>,
     class: u32,
     es: &[Expr],
-    room: u32,
 ) -> Result<usize, Halt>
     requires { C.answers calls.now c.now.depth }
     ensures { Gives (statement_rules.object_thrown (always (checked_of c.now.program.now)) (frame_of frame.now) class (expressions_of es.now) (context_of c.now) (world_of G.told c.now.depth w.old)) result (world_of G.told c.now.depth w.new) }
@@ -58,7 +56,6 @@ fn object_thrown<G: Outside, C: Calls<G>>(
         class,
         es,
         &Reference::whole(c.alloc, object),
-        room,
     )?;
     Ok(object)
 }
@@ -72,15 +69,14 @@ fn call_thrown<G: Outside, C: Calls<G>>(
     bound: Bound,
     e: &Expr,
     es: &[Expr],
-    room: u32,
 ) -> Result<usize, Halt>
     requires { C.answers calls.now c.now.depth }
     ensures { Gives (statement_rules.call_thrown (always (checked_of c.now.program.now)) (frame_of frame.now) bound (expression_of e.now) (expressions_of es.now) (context_of c.now) (world_of G.told c.now.depth w.old)) result (world_of G.told c.now.depth w.new) }
 {
     match bound {
-        Bound::Class(class) => object_thrown(calls, c, w, frame, class, es, room),
-        Bound::Builtin(Builtin::BadException) => object_thrown(calls, c, w, frame, 0, es, room),
-        _ => int_object(calls, c, w, frame, e, room),
+        Bound::Class(class) => object_thrown(calls, c, w, frame, class, es),
+        Bound::Builtin(Builtin::BadException) => object_thrown(calls, c, w, frame, 0, es),
+        _ => int_object(calls, c, w, frame, e),
     }
 }
 
@@ -92,17 +88,16 @@ fn lvalue_thrown<G: Outside, C: Calls<G>>(
     w: &mut World<G>,
     frame: &Frame<'_>,
     e: &Expr,
-    room: u32,
 ) -> Result<usize, Halt>
     requires { C.answers calls.now c.now.depth }
     ensures { Gives (statement_rules.lvalue_thrown (always (checked_of c.now.program.now)) (frame_of frame.now) (expression_of e.now) (rules.lvalue_of (expression_of e.now)) (context_of c.now) (world_of G.told c.now.depth w.old)) result (world_of G.told c.now.depth w.new) }
 {
     let Some(names) = lvalue_of(e) else {
-        return int_object(calls, c, w, frame, e, room);
+        return int_object(calls, c, w, frame, e);
     };
     let source = lvalue(c, w, frame, names)?;
     match w.type_of(&source) {
-        ObjectType::Int => int_object(calls, c, w, frame, e, room),
+        ObjectType::Int => int_object(calls, c, w, frame, e),
         ObjectType::Class(class) => new_copy(calls, c, w, class, &source),
     }
 }
@@ -114,7 +109,6 @@ pub fn operand_thrown<G: Outside, C: Calls<G>>(
     w: &mut World<G>,
     frame: &Frame<'_>,
     e: &Expr,
-    room: u32,
 ) -> Result<usize, Halt>
     requires { C.answers calls.now c.now.depth }
     ensures { Gives (statement_rules.operand_thrown (always (checked_of c.now.program.now)) (frame_of frame.now) (expression_of e.now) (context_of c.now) (world_of G.told c.now.depth w.old)) result (world_of G.told c.now.depth w.new) }
@@ -122,12 +116,12 @@ pub fn operand_thrown<G: Outside, C: Calls<G>>(
     match e {
         Expr::Call(callee, es) => {
             let bound = callee_bound(callee.path.as_slice());
-            call_thrown(calls, c, w, frame, bound, e, es.as_slice(), room)
+            call_thrown(calls, c, w, frame, bound, e, es.as_slice())
         }
         Expr::StdCall(name, es, _) => {
-            call_thrown(calls, c, w, frame, name.bound, e, es.as_slice(), room)
+            call_thrown(calls, c, w, frame, name.bound, e, es.as_slice())
         }
-        _ => lvalue_thrown(calls, c, w, frame, e, room),
+        _ => lvalue_thrown(calls, c, w, frame, e),
     }
 }
 
@@ -139,7 +133,6 @@ pub fn throw<G: Outside, C: Calls<G>>(
     w: &mut World<G>,
     frame: &Frame<'_>,
     operand: &Expr,
-    room: u32,
 ) -> Halt
     requires { C.answers calls.now c.now.depth }
     ensures { Halts (throw_rules.throw_new {A = FlowMeant} (always (checked_of c.now.program.now)) (context_of c.now) (statement_rules.operand_thrown (always (checked_of c.now.program.now)) (frame_of frame.now) (expression_of operand.now) (context_of c.now)) (world_of G.told c.now.depth w.old)) result (world_of G.told c.now.depth w.new) }
@@ -149,7 +142,7 @@ pub fn throw<G: Outside, C: Calls<G>>(
     }
     match w.make() {
         Ok(number) => {
-            let outcome = operand_thrown(calls, c, w, frame, operand, room);
+            let outcome = operand_thrown(calls, c, w, frame, operand);
             throw_built(calls, c, w, number, outcome)
         }
         Err(_) => Halt::NoMemory,
@@ -164,13 +157,12 @@ pub fn throwing<G: Outside, C: Calls<G>>(
     w: &mut World<G>,
     frame: &Frame<'_>,
     operand: &Option<Expr>,
-    room: u32,
 ) -> Result<Flow, Halt>
     requires { C.answers calls.now c.now.depth }
     ensures { GivesBy flow_of (statement_rules.throwing (always (checked_of c.now.program.now)) (frame_of frame.now) (option_of expression_of operand.now) (context_of c.now) (world_of G.told c.now.depth w.old)) result (world_of G.told c.now.depth w.new) }
 {
     match operand {
         None => Err(rethrow(calls, c, w)),
-        Some(operand) => Err(throw(calls, c, w, frame, operand, room)),
+        Some(operand) => Err(throw(calls, c, w, frame, operand)),
     }
 }

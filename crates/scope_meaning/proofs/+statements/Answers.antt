@@ -1,7 +1,8 @@
 use mir.Syntax.{w32}
 use mir.Val.{of_z}
-use Rattle.std.proofs.Common.{◌≡◌, ◌+◌, ◌-◌, ◌<◌, suc, ap, sym, subst, map, rules, arith}
+use Rattle.std.proofs.Common.{◌≡◌, refl, ◌∙◌, ◌+◌, ◌-◌, ◌<◌, suc, ap, sym, subst, map, rules, arith}
 use Rattle.std.specs.Prelude.{option_map}
+use Rattle.cxx_ast.specs.Plain.{if_else}
 use Rattle.cxx_ast.specs.View.{checked_of, expression_of, expressions_of, option_of, statement_of, statements_of}
 use Rattle.meaning_forms.specs.Context.{guarded_by, handling, try_block}
 use Rattle.meaning_forms.specs.Outcome.{normal, pure}
@@ -11,13 +12,15 @@ use Rattle.meaning_forms.specs.Expression.{value_of}
 use Rattle.meaning_forms.specs.Statement.{loop, statement, statements}
 use Rattle.scope_world.specs.Gives.{GivesBy, Halts, flow_of}
 use Rattle.scope_world.specs.Inward.{clause_in, context_of, frame_of}
-use Rattle.scope_world.specs.Objects.{part_of, reference_of, type_of}
+use Rattle.scope_world.specs.Objects.{reference_of, type_of}
 use Rattle.scope_world.specs.Seen.{exception_of, world_of}
 use Rattle.scope_flow.specs.Always.{always}
 use Rattle.scope_meaning.specs.Steps.{handler_done, plainly}
-use Rattle.scope_meaning.proofs.Declared.{body_left, object_halted, object_in_scope}
+use Rattle.scope_meaning.proofs.Declared.{body_left, first_side, object_declared, object_halted, object_in_scope}
 use Rattle.scope_meaning.proofs.Handled.{caught_so, handled_done, not_caught, not_thrown, tried_caught, tried_done, tried_halted}
 use Rattle.scope_meaning.proofs.Rounds.{body_breaks, body_continues, body_halted, body_normal, body_returns, round_goes_on, round_halts, round_leaves, rounds_begin, rounds_end}
+use Rattle.scope_meaning.proofs.Shallower.{else_part, found_shallower, rest_shallower}
+use Rattle.scope_meaning.proofs.Stepped.{halted, stepped}
 use Rattle.scope_meaning.proofs.+statements.Goals as goal
 
 pub handling::caught-returns-in-Some : goal.handling::caught-returns-in-Some
@@ -332,3 +335,68 @@ statement::while_loop-returns-in-None g t c =
     let v = (world_of g.G.Outside.told d c.round-2.new.w) in
     let last : left ≡ 0 = search (rules, arith) in
     rounds_end total left test body u v c.in_ok-flow-2.field-0 c.loop.invariant (c.in_ok-flow-2.ensures left) c.in-None.is last
+
+pub handling::caught-handle-requires : goal.handling::caught-handle-requires
+handling::caught-handle-requires g t c κs within =
+    let found = found_shallower _ c.args.handlers.now c.in-Some.handler.now (sym c.handler_for.ensures ∙ ap (option_map (λ x. x.now)) c.in-Some.is) in
+    search (rules, arith, found)
+
+pub statement::chosen-returns-then-branch-ne0 : goal.statement::chosen-returns-then-branch-ne0
+statement::chosen-returns-then-branch-ne0 g t c =
+    let d = c.args.c.now.depth in
+    let r = always (checked_of c.args.c.now.program.now) in
+    let f = frame_of c.args.frame.now in
+    let k = context_of c.args.c.now in
+    let w = world_of g.G.Outside.told d c.args.w.now in
+    let u = world_of g.G.Outside.told d c.value_of.new.w in
+    let v = world_of g.G.Outside.told d c.statements.new.w in
+    let n = c.in_ok-value_of-in-If.field-0 in
+    let single = c.one.ensures in
+    let given = c.in_ok-value_of-in-If.ensures in
+    let other = else_part (statement_of c.args.it.now) in
+    let whole : statement_of c.args.it.now ≡ if_else (expression_of c.in-If.e) (statement_of c.in-If.yes.value) other = rw c.in-If.is refl in
+    let side = first_side r (expression_of c.in-If.e) (statement_of c.in-If.yes.value) other f k w u v n (statements_of c.one.result.now) c.statements.result given (λ null. c.if-branch-ne0.true (ap (of_z w32) null)) (rw c.deref.ensures at single) c.statements.ensures in
+    subst (λ x. GivesBy flow_of (plainly r x f k w) c.statements.result v) (sym whole) side
+
+pub statement::declaration-returns-in-LocalObject : goal.statement::declaration-returns-in-LocalObject
+statement::declaration-returns-in-LocalObject g t c =
+    let d = c.args.c.now.depth in
+    let r = always (checked_of c.args.c.now.program.now) in
+    let f = frame_of c.args.frame.now in
+    let k = context_of c.args.c.now in
+    let w = world_of g.G.Outside.told d c.args.w.now in
+    let v = world_of g.G.Outside.told d c.local_object.new.w in
+    let ss = statements_of c.args.rest.now in
+    let es = expressions_of c.as_slice-in-LocalObject.result.now in
+    let declared = object_declared r c.in-LocalObject.class c.in-LocalObject.name es ss f k w v c.class_named-class.result c.local_object.result c.class_named-class.ensures c.local_object.ensures in
+    search (rules, declared)
+
+pub statement::statements-returns-in_err-flow : goal.statement::statements-returns-in_err-flow
+statement::statements-returns-in_err-flow g t c =
+    let d = c.args.c.now.depth in
+    let r = always (checked_of c.args.c.now.program.now) in
+    let f = frame_of c.args.frame.now in
+    let k = context_of c.args.c.now in
+    let u = world_of g.G.Outside.told d c.statements.w in
+    let v = world_of g.G.Outside.told d c.statement.new.w in
+    let s = statement_of c.in-Some.first.now in
+    let ss = statements_of c.in-Some.others.now in
+    let same = c.statements.invariant.0 in
+    let stops = halted r s ss f k u v c.in_err-flow.field-0.0 in
+    search (rules, same, stops)
+
+pub statement::statements-statements-preserved : goal.statement::statements-statements-preserved
+statement::statements-statements-preserved g t c =
+    let d = c.args.c.now.depth in
+    let r = always (checked_of c.args.c.now.program.now) in
+    let f = frame_of c.args.frame.now in
+    let k = context_of c.args.c.now in
+    let u = world_of g.G.Outside.told d c.statements.w in
+    let v = world_of g.G.Outside.told d c.statement.new.w in
+    let s = statement_of c.in-Some.first.now in
+    let ss = statements_of c.in-Some.others.now in
+    let same = c.statements.invariant.0 in
+    let light = c.statements.invariant.1 in
+    let step = stepped r s ss f k u v in
+    let lighter = rest_shallower s ss in
+    (search (rules, same, step), search (rules, arith, light, lighter))

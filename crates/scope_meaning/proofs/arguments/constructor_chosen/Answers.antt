@@ -1,6 +1,5 @@
-use Rattle.std.proofs.Common.{◌≡◌, ◌≢◌, ◌∙◌, ap, length, arith, rules}
+use Rattle.std.proofs.Common.{◌≢◌, ◌∙◌, length, arith, rules}
 use Rattle.cxx_ast.specs.View.{checked_of}
-use Rattle.meaning_forms.specs.Construct.{constructor_for}
 use Rattle.scope_world.specs.Inward.{frame_of}
 use Rattle.scope_world.specs.Seen.{world_of}
 use Rattle.scope_meaning.proofs.Chosen.{chosen_by_number}

@@ -1,4 +1,4 @@
-use Rattle.std.proofs.Common.{◌≡◌, ◌∙◌, ap}
+use Rattle.std.proofs.Common.{◌∙◌, ap}
 use Rattle.cxx_ast.specs.View.{checked_of}
 use Rattle.meaning_forms.specs.Class.{class_type, derives}
 use Rattle.meaning_forms.specs.Part.{part_type}

@@ -1,4 +1,4 @@
-use Rattle.std.proofs.Common.{◌≡◌, ◌∙◌, ap}
+use Rattle.std.proofs.Common.{◌∙◌, ap}
 use Rattle.cxx_ast.specs.View.{checked_of}
 use Rattle.meaning_forms.specs.World.{as_class}
 use Rattle.meaning_forms.specs.Frame.{lvalue}

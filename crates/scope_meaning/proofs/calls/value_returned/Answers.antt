@@ -1,4 +1,3 @@
-use Rattle.std.proofs.Common.{◌≡◌, map}
 use Rattle.std.specs.Prelude.{option_map}
 use Rattle.scope_world.specs.Program.{function_or_none}
 use Rattle.scope_meaning.proofs.Called.{comes_to_end}

@@ -9,7 +9,6 @@ use Rattle.meaning_forms.specs.Expression.{arguments, value_at, value_of}
 use Rattle.meaning_forms.specs.Outcome.{emit, done}
 use Rattle.scope_world.specs.Gives.{Gives}
 use Rattle.scope_world.specs.Inward.{argument_of, context_of, frame_of}
-use Rattle.scope_world.specs.Objects.{reference_of}
 use Rattle.scope_world.specs.Seen.{world_of}
 use Rattle.scope_flow.specs.Always.{always}
 use Rattle.scope_flow.specs.Asked.{parameter_types_of}

@@ -1,10 +1,10 @@
-use Rattle.std.proofs.Common.{◌≡◌, map, rules}
+use Rattle.std.proofs.Common.{map, rules}
 use Rattle.scope_world.specs.Inward.{argument_of}
 use Rattle.scope_world.specs.Objects.{reference_of}
 use Rattle.scope_flow.specs.Asked.{constructor_of}
 use Rattle.scope_flow.specs.Asked.{parameter_types_of}
 use Rattle.scope_meaning.proofs.Evaluated.{built_by, building_halted, arguments_halted}
-use Rattle.cxx_ast.specs.View.{checked_of, expression_of, expressions_of}
+use Rattle.cxx_ast.specs.View.{checked_of, expressions_of}
 use Rattle.scope_world.specs.Inward.{context_of, frame_of}
 use Rattle.scope_world.specs.Seen.{world_of}
 use Rattle.scope_flow.specs.Always.{always}

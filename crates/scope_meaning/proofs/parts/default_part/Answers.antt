@@ -1,7 +1,3 @@
-use mir.Syntax.{w32}
-use mir.Val.{SFits}
-use Rattle.std.proofs.lemmas.Int.{to_z-of_z}
-use Rattle.std.proofs.Common.{◌≡◌, rules, pos}
 use Rattle.cxx_ast.specs.View.{checked_of}
 use Rattle.scope_world.specs.Inward.{context_of}
 use Rattle.scope_world.specs.Objects.{reference_of}

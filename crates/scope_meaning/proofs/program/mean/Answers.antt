@@ -1,4 +1,3 @@
-use Rattle.std.proofs.Common.{◌≡◌}
 use Rattle.scope_meaning.proofs.Ran.{globals_so}
 use Rattle.scope_meaning.proofs.program.mean.Goals as goal
 

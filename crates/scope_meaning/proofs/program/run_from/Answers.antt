@@ -1,4 +1,4 @@
-use Rattle.std.proofs.Common.{◌≡◌, ◌∙◌, [], map, ap, refl, sym}
+use Rattle.std.proofs.Common.{◌∙◌, map, ap, refl, sym}
 use Rattle.cxx_ast.specs.View.{checked_of}
 use Rattle.scope_world.specs.Objects.{part_of}
 use Rattle.scope_world.specs.Seen.{live_of}

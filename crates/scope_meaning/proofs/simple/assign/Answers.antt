@@ -5,7 +5,7 @@ use Rattle.std.proofs.Common.{◌≡◌, subst, rules}
 use Rattle.meaning_forms.specs.World.{written}
 use Rattle.scope_world.specs.Objects.{reference_of}
 use Rattle.scope_meaning.proofs.Declared.{assigned_so}
-use Rattle.cxx_ast.specs.View.{checked_of, expression_of, expressions_of}
+use Rattle.cxx_ast.specs.View.{checked_of, expression_of}
 use Rattle.scope_world.specs.Inward.{context_of, frame_of}
 use Rattle.scope_world.specs.Seen.{world_of}
 use Rattle.scope_flow.specs.Always.{always}

@@ -6,7 +6,7 @@ use Rattle.meaning_forms.specs.Part.{cell}
 use Rattle.meaning_forms.specs.Outcome.{done, new_object}
 use Rattle.meaning_forms.specs.Expression.{value_of}
 use Rattle.scope_flow.proofs.Passing.{gives_next}
-use Rattle.cxx_ast.specs.View.{checked_of, expression_of, expressions_of}
+use Rattle.cxx_ast.specs.View.{checked_of, expression_of}
 use Rattle.scope_world.specs.Inward.{context_of, frame_of}
 use Rattle.scope_world.specs.Seen.{world_of}
 use Rattle.scope_flow.specs.Always.{always}

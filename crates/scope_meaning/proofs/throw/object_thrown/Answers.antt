@@ -1,7 +1,7 @@
-use Rattle.std.proofs.Common.{◌≡◌, rules}
+use Rattle.std.proofs.Common.{rules}
 use Rattle.scope_world.specs.Objects.{part_of, reference_of}
 use Rattle.scope_meaning.proofs.Thrown.{thrown_object, thrown_halted}
-use Rattle.cxx_ast.specs.View.{checked_of, expression_of, expressions_of}
+use Rattle.cxx_ast.specs.View.{checked_of, expressions_of}
 use Rattle.scope_world.specs.Inward.{context_of, frame_of}
 use Rattle.scope_world.specs.Seen.{world_of}
 use Rattle.scope_flow.specs.Always.{always}

@@ -1,8 +1,7 @@
-use Rattle.std.proofs.Common.{◌≡◌}
 use Rattle.meaning_forms.specs.Outcome.{Flow}
 use Rattle.meaning_forms.specs.Statement.{operand_thrown}
 use Rattle.scope_flow.proofs.Raising.{new_full, new_built}
-use Rattle.cxx_ast.specs.View.{checked_of, expression_of, expressions_of}
+use Rattle.cxx_ast.specs.View.{checked_of, expression_of}
 use Rattle.scope_world.specs.Inward.{context_of, frame_of}
 use Rattle.scope_world.specs.Seen.{world_of}
 use Rattle.scope_flow.specs.Always.{always}

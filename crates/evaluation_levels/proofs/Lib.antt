@@ -1,0 +1,4 @@
+pub mod Resolved
+pub mod Deep
+pub mod Sizes
+pub mod Shallow
