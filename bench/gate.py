@@ -2,7 +2,7 @@
 """What the gate costs, by crate: `gate.py [NAME..]` runs `rt ci NAME..` at the top and adds up the processor time of each proof, test and edit.
 
 What this machine has kept is not proved again and costs nothing, so a figure of the whole needs a machine that has kept nothing. The prover's
-processes are looked at every two seconds; what ends between two looks is counted up to the last of them.
+processes are looked at every two seconds; what ends between two looks is counted up to the last of them. Other provers on the machine are not counted.
 """
 import collections
 import os
@@ -17,8 +17,8 @@ TICK = os.sysconf("SC_CLK_TCK")
 KINDS = ("proof", "tests", "edits")
 
 
-def processes():
-    """The prover's processes: number, command, processor seconds, folder."""
+def processes(session):
+    """The prover's processes of a session: number, command, processor seconds, folder."""
     for number in filter(str.isdigit, os.listdir("/proc")):
         try:
             with open(f"/proc/{number}/cmdline", "rb") as it:
@@ -27,7 +27,8 @@ def processes():
                 continue
             with open(f"/proc/{number}/stat") as it:
                 fields = it.read().rsplit(")", 1)[1].split()
-            yield number, command, (int(fields[11]) + int(fields[12])) / TICK, os.readlink(f"/proc/{number}/cwd")
+            if int(fields[3]) == session:
+                yield number, command, (int(fields[11]) + int(fields[12])) / TICK, os.readlink(f"/proc/{number}/cwd")
         except (OSError, IndexError):
             continue
 
@@ -41,15 +42,16 @@ def kind_of(command, folder):
 class Watch(threading.Thread):
     """Adds up the seconds of each process by its crate and kind, until it is stopped."""
 
-    def __init__(self):
+    def __init__(self, session):
         super().__init__(daemon=True)
+        self.session = session
         self.costs = collections.defaultdict(lambda: dict.fromkeys(KINDS, 0.0))
         self.last = {}
         self.stopped = threading.Event()
 
     def run(self):
         while not self.stopped.wait(2):
-            for number, command, seconds, folder in processes():
+            for number, command, seconds, folder in processes(self.session):
                 crate = command[command.index("--crate-name") + 1]
                 key = (number, crate)
                 self.costs[crate][kind_of(command, folder)] += max(seconds - self.last.get(key, 0.0), 0.0)
@@ -57,10 +59,11 @@ class Watch(threading.Thread):
 
 
 def main():
-    watch = Watch()
-    watch.start()
     begun = time.monotonic()
-    status = subprocess.run(["rt", "ci", *sys.argv[1:]], cwd=TOP).returncode
+    gate = subprocess.Popen(["rt", "ci", *sys.argv[1:]], cwd=TOP, start_new_session=True)
+    watch = Watch(gate.pid)
+    watch.start()
+    status = gate.wait()
     whole = time.monotonic() - begun
     watch.stopped.set()
     watch.join()

@@ -21,71 +21,51 @@ fn named(alloc: Global, class: u32) -> Result<Name, AllocError>
     })
 }
 
+// A member of a class that nothing names.
+fn member(ty: Ty) -> Param
+    ensures { result.ty ≡ ty }
+{
+    Param { ty, name: None }
+}
+
+fn class_of(
+    alloc: Global,
+    class: u32,
+    base: Option<Name>,
+    members: Vec<Param>,
+) -> Result<ClassDecl, AllocError>
+    ensures { IfOk result (λ c. (c.base ≡ base) × (c.members ≡ members)) }
+{
+    Ok(ClassDecl {
+        name: named(alloc, class)?,
+        base,
+        members,
+        funcs: Vec::new(alloc),
+    })
+}
+
+fn laid(size: u32, members: Vec<u32>) -> ClassLayout {
+    ClassLayout { size, members }
+}
+
 // struct A { int a; int b; }; struct B : A { int c; A d; }; struct C : B { };
 #[test]
 fn bases_and_members(rt: HostRuntime) -> Result<(), Fail> {
     let alloc = rt.alloc();
-    let bad_exception = ClassDecl {
-        name: named(alloc, 0)?,
-        base: None,
-        members: Vec::new(alloc),
-        funcs: Vec::new(alloc),
-    };
-    let a = ClassDecl {
-        name: named(alloc, 1)?,
-        base: None,
-        members: vec![in alloc;
-            Param {
-                ty: Ty::Int,
-                name: None
-            },
-            Param {
-                ty: Ty::Int,
-                name: None
-            },
-        ]?,
-        funcs: Vec::new(alloc),
-    };
-    let b = ClassDecl {
-        name: named(alloc, 2)?,
-        base: Some(named(alloc, 1)?),
-        members: vec![in alloc;
-            Param {
-                ty: Ty::Int,
-                name: None
-            },
-            Param {
-                ty: Ty::Object(named(alloc, 1)?),
-                name: None
-            },
-        ]?,
-        funcs: Vec::new(alloc),
-    };
-    let c = ClassDecl {
-        name: named(alloc, 3)?,
-        base: Some(named(alloc, 2)?),
-        members: Vec::new(alloc),
-        funcs: Vec::new(alloc),
-    };
-    let classes = vec![in alloc; bad_exception, a, b, c]?;
+    let ints = vec![in alloc; member(Ty::Int), member(Ty::Int)]?;
+    let mixed = vec![in alloc; member(Ty::Int), member(Ty::Object(named(alloc, 1)?))]?;
+    let classes = vec![in alloc;
+        class_of(alloc, 0, None, Vec::new(alloc))?,
+        class_of(alloc, 1, None, ints)?,
+        class_of(alloc, 2, Some(named(alloc, 1)?), mixed)?,
+        class_of(alloc, 3, Some(named(alloc, 2)?), Vec::new(alloc))?,
+    ]?;
     let expected = Layout {
         classes: vec![in alloc;
-            ClassLayout {
-                size: 4,
-                members: Vec::new(alloc)
-            },
-            ClassLayout {
-                size: 8,
-                members: vec![in alloc; 0, 4]?
-            },
-            ClassLayout {
-                size: 20,
-                members: vec![in alloc; 8, 12]?
-            },
-            ClassLayout {
-                size: 20,
-                members: Vec::new(alloc)
-            },
+            laid(4, Vec::new(alloc)),
+            laid(8, vec![in alloc; 0, 4]?),
+            laid(20, vec![in alloc; 8, 12]?),
+            laid(20, Vec::new(alloc)),
         ]?,
     };
     assert_eq!(rt; layout(alloc, &classes)?, expected);

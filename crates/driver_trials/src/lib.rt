@@ -7,6 +7,8 @@ mod compiled;
 #[cfg(test)]
 mod images;
 #[cfg(test)]
+mod limits;
+#[cfg(test)]
 mod mean_rows;
 #[cfg(test)]
 mod meanings;
