@@ -9,6 +9,9 @@ use crate::field::{encoded_at, uleb_at};
 use crate::head::Head;
 use table_forms::Refusal;
 
+// DW_EH_PE_uleb128 (LSB Core, "DWARF Exception Header Encoding"): the encoding of nearly all call-site tables.
+const ULEB128: u8 = 1;
+
 /// The numbers of a record, and where it stands.
 #[derive(Clone, Copy, Drop)]
 pub struct SiteRecord {
@@ -31,6 +34,9 @@ fn number_of(
     ensures inside { IfOk result (λ x. x.1 ≤ length bytes.now) }
     ensures on { IfOk result (λ x. place < x.1) }
 {
+    if encoding == ULEB128 {
+        return uleb_at(bytes, file_at, place);
+    }
     let (pointer, next) = encoded_at(encoding, 0, bytes, file_at, place)?;
     Ok((pointer.value, next))
 }
