@@ -34,9 +34,9 @@ use Rattle.machine_forms.proofs.Words.{words_stand}
 use Rattle.machine_simulation.specs.Units.{UnitsStand}
 use Rattle.region_formed.specs.WellFormed.{CheckedRegionsAreWellFormed}
 use Rattle.function_lengths.specs.Lengths.{CheckedFunctionsAreShort}
-use Rattle.literal_mains.proofs.Low.{code_is_low}
 use Rattle.checked_units.specs.Units.{IsAsked, CheckedUnitsAreAsked}
 use Rattle.checked_units.specs.Images.{ImagesBegin}
+use Rattle.checked_units.proofs.CodeEnds.{code_is_low}
 use Rattle.checked_units.proofs.Globals.{globals_are_ints}
 use Rattle.checked_units.proofs.Jump.{jump_stands}
 use Rattle.checked_units.proofs.Memory.{slots_may, stack_may}

@@ -14,7 +14,7 @@ use Rattle.cxx_ast.specs.Piece.{Piece, anywhere, placed, named, word, mark, word
 use Rattle.cxx_ast.specs.Spelling.{is_bad_exception, spell_class, spell_const, spell_type, spell_name, spell_param, first_at, spell_dots, spell_path, spell_expression, spell_arguments, spell_more, spell_value, spell_start, spell_object_arguments, spell_caught, spell_statement, spell_else, spell_statements, spell_handlers}
 use Rattle.cxx_ast.specs.Operator.{binary_mark}
 use Rattle.cxx_ast.specs.Written.{Member, data_member, function_member, spell_more_params, spell_params, spell_result, spell_tilde, spell_base, spell_more_types, spell_types, spell_specification, spell_initialiser, spell_more_initialisers, spell_initialisers, spell_body, spell_function, spell_members}
-use Rattle.literal_mains.proofs.Literals.{AreInts}
+use Rattle.checked_units.proofs.SourceLiterals.{AreInts}
 
 after_class : (x : Name) (after : List Piece) → AreInts (spell_class x after) → AreInts after
 after_class x after h = go (is_bad_exception x) h

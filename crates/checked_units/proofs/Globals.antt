@@ -11,9 +11,9 @@ use Rattle.cxx_ast.specs.Piece.{mark}
 use Rattle.cxx_ast.specs.Written.{Written, written_class, written_global, written_function, no_start, start, declared, spell_members, spell_declarations}
 use Rattle.cxx_ast.specs.Checked.{resolve_declarations, globals_of, checked}
 use Rattle.machine_pieces.specs.Numbers.{IsInt}
-use Rattle.literal_mains.proofs.Literals.{IsLiteral, AreInts, source_small}
 use Rattle.checked_units.specs.Images.{GlobalsAreInts}
 use Rattle.checked_units.proofs.Behind.{after_function, after_members, after_base}
+use Rattle.checked_units.proofs.SourceLiterals.{IsLiteral, AreInts, source_has_ints}
 
 abbrev AreAllInts : List ℤ → Type 0
 AreAllInts zs = AllByRecursion IsInt zs
@@ -47,4 +47,4 @@ program_ints p ws e h =
 pub globals_are_ints : GlobalsAreInts
 globals_are_ints p h =
     let pieces = spell_declarations h.tree.written [] in
-    subst (λ c. AreAllInts c.globals) (sym h.resolved) (program_ints h.program h.tree.written h.tree.declarations (source_small h.source h.tokens pieces h.lexed h.tree.spelled))
+    subst (λ c. AreAllInts c.globals) (sym h.resolved) (program_ints h.program h.tree.written h.tree.declarations (source_has_ints h.source h.tokens pieces h.lexed h.tree.spelled))

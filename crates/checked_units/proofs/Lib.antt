@@ -2,6 +2,7 @@ pub mod UnitsAsked
 pub mod Lists
 pub mod Chains
 pub mod TablesAsked
+pub mod SourceLiterals
 pub mod Spelled
 pub mod Expressions
 pub mod Statements
@@ -9,9 +10,11 @@ pub mod Frames
 pub mod Programs
 pub mod Behind
 pub mod Globals
+pub mod WordBits
 pub mod Words
 pub mod Bytes
 pub mod Memory
 pub mod Values
 pub mod Jump
+pub mod CodeEnds
 pub mod Beginning

@@ -15,11 +15,11 @@ use Rattle.cxx_ast.specs.Resolve.{function_number, resolve_expression, resolve_e
 use Rattle.cxx_ast.specs.Spelling.{spell_path, spell_expression, spell_arguments, spell_more, spell_value, spell_start, spell_object_arguments, spell_statement, spell_else, spell_statements, spell_handlers}
 use Rattle.cxx_ast.specs.TypeNames.{has_body}
 use Rattle.cxx_ast.specs.Written.{Member, data_member, function_member, functions, data_members, Written, written_class, written_global, written_function, no_start, start, declared, spell_params, spell_specification, spell_initialiser, spell_more_initialisers, spell_initialisers, spell_body, spell_function, spell_members, spell_declarations}
-use Rattle.literal_mains.proofs.Literals.{AreInts, source_small}
 use Rattle.checked_units.proofs.Behind.{after_param, after_path, after_caught, after_specification, after_params, after_result, after_tilde, after_base}
 use Rattle.checked_units.proofs.Globals.{literal_int}
 use Rattle.checked_units.specs.Literals.{LiteralsIn, AllLiterals, ValueLiterals, StatementLiterals, ElseLiterals, StatementsLiterals, HandlersLiterals, BodyLiterals, InitialisersLiterals, FunctionLiterals, ProgramLiterals}
 use Rattle.checked_units.specs.Operations.{LiteralsAreInts}
+use Rattle.checked_units.proofs.SourceLiterals.{AreInts, source_has_ints}
 
 module _ (env : Environment) where
   mutual
@@ -206,4 +206,4 @@ program p ws e h =
 pub literals_are_ints : LiteralsAreInts
 literals_are_ints p h =
     let pieces = spell_declarations h.tree.written [] in
-    subst ProgramLiterals (sym h.resolved) (program h.program h.tree.written h.tree.declarations (source_small h.source h.tokens pieces h.lexed h.tree.spelled))
+    subst ProgramLiterals (sym h.resolved) (program h.program h.tree.written h.tree.declarations (source_has_ints h.source h.tokens pieces h.lexed h.tree.spelled))

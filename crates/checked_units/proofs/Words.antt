@@ -11,8 +11,8 @@ use Rattle.machine_forms.specs.Emitted.{function_routine, unit_routines, main_ju
 use Rattle.machine_pieces.specs.Standing.{PieceFits, HaveBits}
 use Rattle.machine_pieces.specs.UnitAt.{routine_pieces}
 use Rattle.machine_simulation.proofs.Fields.{pieces_fit}
-use Rattle.literal_mains.proofs.Words.{words_have_bits}
 use Rattle.checked_units.specs.Images.{UnitsHaveBits}
+use Rattle.checked_units.proofs.WordBits.{words_have_bits}
 
 abbrev AreWords : List ℕ → Type 0
 AreWords words = AllByRecursion (λ w. w < 2 ^ 32) words

@@ -1,5 +1,5 @@
 // Laws of the units of checked programs: calls of no effect, whose contracts state what holds of every program.
-ghost use Rattle.checked_units.specs.Images.{GlobalsAreInts, ImagesBegin, UnitsHaveBits};
+ghost use Rattle.checked_units.specs.Images.{CodeIsLow, GlobalsAreInts, ImagesBegin, UnitsHaveBits, WordsHaveBits};
 ghost use Rattle.checked_units.specs.Operations.{CheckedFramesAreLaidOut, LiteralsAreInts, NeedsAreSmall, ProgramsAreKnown, RegionsHaveInts, RegionsHoldFew};
 ghost use Rattle.checked_units.specs.Tables.{CheckedTablesAreAsked};
 ghost use Rattle.checked_units.specs.Units.{CheckedUnitsAreAsked};
@@ -63,9 +63,19 @@ pub fn globals_are_ints()
     ensures { GlobalsAreInts }
 {}
 
+/// The word of a piece of code has 32 bits, wherever the piece stands.
+pub fn words_have_bits()
+    ensures { WordsHaveBits }
+{}
+
 /// Each word of the image of a unit whose functions are short has 32 bits.
 pub fn units_have_bits()
     ensures { UnitsHaveBits }
+{}
+
+/// The code of an image ends below 2^30.
+pub fn code_is_low()
+    ensures { CodeIsLow }
 {}
 
 /// A machine that begins a run of the image of a checked program has the program's unit in its memory, with the globals and their first

@@ -9,3 +9,4 @@ pub mod Walks
 pub mod Sorted
 pub mod Parses
 pub mod Under
+pub mod Turns

@@ -9,6 +9,8 @@ use Rattle.cxx_front.specs.Answer.{Answers as FrontAnswers}
 use Rattle.cxx_front.specs.declared.error.SourceError.{SourceError}
 use Rattle.cxx_front.specs.declared.error.SourceError.TheVariants as errors
 use Rattle.cxx_image.specs.Image.{image_for}
+use Rattle.source_bounds.specs.Compiled.{emitted_for}
+use Rattle.image_link.specs.Runs.{RunsUnit}
 use Rattle.eh_outer.specs.Store.{Files, StoreView}
 use Rattle.eh_commands.specs.declared.status.Status.{Status}
 use Rattle.eh_commands.specs.declared.status.Status.TheVariants.{Done, Usage, SourceRefused, ImageRefused, ReadFault, TooLong, WriteFault, NoMemory, Aborted, Budget, Stack, MachineFault, Undefined}
@@ -37,17 +39,17 @@ refused_compiles name source old (errors.Refused number place) h = (h, refl)
 refused_compiles name source old errors.NoMemory h = refl
 
 module _ (name source : List ℕ) (c : CheckedValue) (a : FrontAnswers source (Ok c)) where
-  compiles : CompilesTo (image_for (checked_of c)) source
-  compiles = (a.0, a.1, ap image_for a.2)
+  compiles : RunsUnit (emitted_for (checked_of c)) (image_for (checked_of c)) → CompilesTo (image_for (checked_of c)) source
+  compiles runs = (a.0, a.1, ap image_for a.2, subst (λ p. RunsUnit (emitted_for p) (image_for p)) a.2 runs)
 
-  pub stored_compiles : (old new : StoreView) (status : Status) → ImageStored name (image_for (checked_of c)) old new status → SourceCompiles name source old new status
-  stored_compiles old new Done h = (image_for (checked_of c), compiles, h)
+  pub stored_compiles : (old new : StoreView) (status : Status) → ImageStored name (checked_of c) old new status → SourceCompiles name source old new status
+  stored_compiles old new Done (runs, stores) = (image_for (checked_of c), compiles runs, stores)
   stored_compiles old new Usage h = absurd h
   stored_compiles old new (SourceRefused number place) h = absurd h
   stored_compiles old new (ImageRefused number place location other) h = absurd h
   stored_compiles old new ReadFault h = absurd h
   stored_compiles old new TooLong h = absurd h
-  stored_compiles old new WriteFault (why, kept) = (image_for (checked_of c), compiles, why, kept)
+  stored_compiles old new WriteFault (runs, why, kept) = (image_for (checked_of c), compiles runs, why, kept)
   stored_compiles old new NoMemory h = h
   stored_compiles old new Aborted h = absurd h
   stored_compiles old new Budget h = absurd h

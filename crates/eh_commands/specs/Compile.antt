@@ -1,25 +1,27 @@
 -- When `compile FILE IMAGE` gives each status, and what it stores.
 use Rattle.std.specs.Prelude.{◌≡◌, ℕ, List}
-use Rattle.cxx_ast.specs.Plain.{Program}
+use Rattle.cxx_ast.specs.Plain.{Program, Checked}
 use Rattle.cxx_ast.specs.Checked.{checked}
 use Rattle.cxx_front.specs.Fate.{HasOnly, refused, valid}
 use Rattle.cxx_image.specs.Image.{image_for}
+use Rattle.source_bounds.specs.Compiled.{emitted_for}
+use Rattle.image_link.specs.Runs.{RunsUnit}
 use Rattle.eh_outer.specs.Store.{StoreView, Refuses, Stores}
 use Rattle.eh_outer.specs.declared.store.RefusalKind.TheVariants.{FailedWrite}
 use Rattle.eh_commands.specs.declared.status.Status.{Status}
 use Rattle.eh_commands.specs.declared.status.Status.TheVariants.{Done, SourceRefused, ReadFault, TooLong, WriteFault, NoMemory}
 use Rattle.eh_commands.specs.File.{Asked, Told, Unread, source_limit}
 
--- the source is a valid program, whose image these bytes are
+-- the source is a valid program, whose image these bytes are, which can be run
 abbrev pub CompilesTo : List ℕ → List ℕ → Type 0
-CompilesTo bytes source = (p : Program) × HasOnly source (valid p) × (bytes ≡ image_for (checked p))
+CompilesTo bytes source = (p : Program) × HasOnly source (valid p) × (bytes ≡ image_for (checked p)) × RunsUnit (emitted_for (checked p)) (image_for (checked p))
 
--- how the storing of an image ends
-abbrev pub ImageStored : List ℕ → List ℕ → StoreView → StoreView → Status → Type 0
-ImageStored name bytes old new Done = Stores name bytes old new
-ImageStored name bytes old new WriteFault = Refuses old new FailedWrite name × (new.files ≡ old.files)
-ImageStored name bytes old new NoMemory = new.files ≡ old.files
-ImageStored name bytes old new status = ⊥
+-- how the storing of a program's image ends
+abbrev pub ImageStored : List ℕ → Checked → StoreView → StoreView → Status → Type 0
+ImageStored name p old new Done = RunsUnit (emitted_for p) (image_for p) × Stores name (image_for p) old new
+ImageStored name p old new WriteFault = RunsUnit (emitted_for p) (image_for p) × Refuses old new FailedWrite name × (new.files ≡ old.files)
+ImageStored name p old new NoMemory = new.files ≡ old.files
+ImageStored name p old new status = ⊥
 
 -- what becomes of a source that was read
 abbrev pub SourceCompiles : List ℕ → List ℕ → StoreView → StoreView → Status → Type 0

@@ -2,7 +2,6 @@
 ghost use Rattle.std.specs.Prelude.{◌≤◌, [], length};
 ghost use Rattle.cxx_ast.specs.Checked.{IsChecked};
 ghost use Rattle.cxx_ast.specs.View.{checked_of};
-ghost use Rattle.cxx_image.specs.Image.{image_for};
 ghost use Rattle.eh_commands.specs.Compile.{CompileCause, ImageStored, SourceCompiles};
 ghost use Rattle.eh_commands.specs.File.{NamesRefusal, source_limit};
 ghost use Rattle.eh_commands.specs.Question.{asked_by};
@@ -18,7 +17,7 @@ use std::alloc::Global;
 // Stores the image of a checked program.
 fn store_image<St: Store>(alloc: Global, program: &Checked, name: &str, store: &mut St) -> Status
     requires { IsChecked (checked_of program.now) }
-    ensures { ImageStored name.now (image_for (checked_of program.now)) (St.view store.old) (St.view store.new) result }
+    ensures { ImageStored name.now (checked_of program.now) (St.view store.old) (St.view store.new) result }
 {
     let Ok(image) = image_of(alloc, program) else {
         return Status::NoMemory;

@@ -9,21 +9,29 @@ use Rattle.cxx_ast.specs.Checked.{checked}
 use Rattle.cxx_front.specs.Source.{IsProgram, IsRefused}
 use Rattle.cxx_front.specs.Fate.{HasOnly, refused, valid}
 use Rattle.cxx_image.specs.Image.{image_for}
+use Rattle.source_bounds.specs.Compiled.{emitted_for}
+use Rattle.image_link.specs.Runs.{RunsUnit}
 use Rattle.eh_commands.specs.declared.status.Status.{Status}
 use Rattle.eh_commands.specs.declared.status.Status.TheVariants.{Done, Usage, SourceRefused, ImageRefused, ReadFault, TooLong, WriteFault, NoMemory, Aborted, Budget, Stack, MachineFault, Undefined}
 use Rattle.eh_commands.specs.File.{Asked, Told, source_limit}
 use Rattle.eh_commands.specs.Compile.{CompilesTo, CompileCause}
-use Rattle.eh_driver.specs.Promise.{Undisturbed, CompilePromise}
+use Rattle.eh_driver.specs.Promise.{Undisturbed, AreCompiled, CompilePromise}
+use Rattle.eh_driver.proofs.MeantShown.{CompilerLaws, are_compiled}
 use Rattle.eh_commands.proofs.Sources.{told_of, valid_same, not_refused, same_refusal}
 
-module _ (a : Asked) (source : List ℕ) (old new : StoreView) (out out' : SinkView) (u : Undisturbed source_limit a.source source old new out out') where
+module _ (laws : CompilerLaws) (a : Asked) (source : List ℕ) (old new : StoreView) (out out' : SinkView) (u : Undisturbed source_limit a.source source old new out out') where
   told : (P : List ℕ → Type 0) → Told source_limit old a.source P → P source
   told P = told_of source_limit old a.source source u.files P u.told u.there
 
   module _ (p : Program) (program : IsProgram source p) (holds : Valid p) where
     -- the bytes are those of the program's image
     bytes_so : (bytes : List ℕ) → CompilesTo bytes source → bytes ≡ image_for (checked p)
-    bytes_so bytes (q, only, is) = is ∙ ap (λ x. image_for (checked x)) (valid_same (only.only (valid p) (program, holds)))
+    bytes_so bytes (q, only, is, runs) = is ∙ ap (λ x. image_for (checked x)) (valid_same (only.only (valid p) (program, holds)))
+
+    -- they are the compiled program
+    compiled_so : (bytes : List ℕ) → CompilesTo bytes source → AreCompiled (checked p) (image_for (checked p))
+    compiled_so bytes (q, only, is, runs) =
+        are_compiled laws source p program holds (subst (λ x. RunsUnit (emitted_for (checked x)) (image_for (checked x))) (valid_same (only.only (valid p) (program, holds))) runs)
 
     stored_so : (bytes : List ℕ) → CompilesTo bytes source → IfSome old.files (λ files. new.files ≡ Some (insert files a.image bytes)) →
         new.files ≡ Some (insert u.files a.image (image_for (checked p)))
@@ -35,8 +43,8 @@ module _ (a : Asked) (source : List ℕ) (old new : StoreView) (out out' : SinkV
     not_refused_so number place only = let same : refused number place ≡ valid p = only.only (valid p) (program, holds) in cc
 
     stores_so : (status : Status) → CompileCause a old new status →
-        ((status ≡ NoMemory) × (new.files ≡ old.files)) ⊎ ((status ≡ Done) × (new.files ≡ Some (insert u.files a.image (image_for (checked p)))))
-    stores_so Done (bytes, is, stores) = inr (refl, stored_so bytes (told (CompilesTo bytes) is) stores)
+        ((status ≡ NoMemory) × (new.files ≡ old.files)) ⊎ ((status ≡ Done) × (new.files ≡ Some (insert u.files a.image (image_for (checked p)))) × AreCompiled (checked p) (image_for (checked p)))
+    stores_so Done (bytes, is, stores) = let this = told (CompilesTo bytes) is in inr (refl, stored_so bytes this stores, compiled_so bytes this)
     stores_so Usage h = absurd h
     stores_so (SourceRefused number place) (is, kept) = absurd (not_refused_so number place (told (λ s. HasOnly s (refused number place)) is))
     stores_so (ImageRefused number place location other) h = absurd h
@@ -52,7 +60,7 @@ module _ (a : Asked) (source : List ℕ) (old new : StoreView) (out out' : SinkV
 
   module _ (number place : ℕ) (is : IsRefused source number place) where
     compiles_not : (bytes : List ℕ) → CompilesTo bytes source → ⊥
-    compiles_not bytes (q, only, e) = not_refused source q number place only is
+    compiles_not bytes (q, only, e, runs) = not_refused source q number place only is
 
     refuses_so : (status : Status) → CompileCause a old new status → ((status ≡ NoMemory) ⊎ (status ≡ SourceRefused number place)) × (new.files ≡ old.files)
     refuses_so Done (bytes, by, stores) = absurd (compiles_not bytes (told (CompilesTo bytes) by))
@@ -69,8 +77,8 @@ module _ (a : Asked) (source : List ℕ) (old new : StoreView) (out out' : SinkV
     refuses_so (MachineFault kind at) h = absurd h
     refuses_so Undefined h = absurd h
 
-pub compile_promised : (a : Asked) (old new : StoreView) (out out' : SinkView) (status : Status) → CompileCause a old new status → CompilePromise a old new out out' status
-compile_promised a old new out out' status cause = record {
-  stores = λ source p u program holds. stores_so a source old new out out' u p program holds status cause;
-  refuses = λ source number place u is. refuses_so a source old new out out' u number place is status cause;
+pub compile_promised : CompilerLaws → (a : Asked) (old new : StoreView) (out out' : SinkView) (status : Status) → CompileCause a old new status → CompilePromise a old new out out' status
+compile_promised laws a old new out out' status cause = record {
+  stores = λ source p u program holds. stores_so laws a source old new out out' u p program holds status cause;
+  refuses = λ source number place u is. refuses_so laws a source old new out out' u number place is status cause;
 }

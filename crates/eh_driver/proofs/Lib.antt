@@ -1,6 +1,6 @@
 pub mod MeanPromised
 pub mod ExecPromised
+pub mod MeantShown
 pub mod CompilePromised
-pub mod LiteralsShown
 pub mod RunPromised
 pub mod Promised

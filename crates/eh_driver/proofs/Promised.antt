@@ -1,5 +1,5 @@
 -- What the causes promise.
-use Rattle.std.proofs.Common.{◌≡◌, inl, inr, ℕ, List, Option, Some, None, Result, Ok, Err, refl, sym, subst}
+use Rattle.std.proofs.Common.{◌≡◌, ◌≤◌, inl, inr, ℕ, List, length, Option, Some, None, Result, Ok, Err, refl, sym, subst}
 use Rattle.std.specs.Prelude.{IsErrAnd}
 use Rattle.eh_outer.specs.Store.{StoreView}
 use Rattle.eh_outer.specs.Sink.{SinkView}
@@ -10,8 +10,10 @@ use Rattle.elf_image.specs.Clean.{CleanImage, clean}
 use Rattle.elf_image.specs.Reports.{reported}
 use Rattle.command_line.specs.declared.command.Verb.{Verb}
 use Rattle.command_line.specs.declared.command.Verb.TheVariants.{Compile, Run, Exec, Mean, Check, Dump}
-use Rattle.command_line.specs.Command.{CommandView}
+use Rattle.command_line.specs.Command.{CommandView, command_of}
+use Rattle.command_line.proofs.Turns.{turns_are_bounded}
 use Rattle.eh_outer.specs.Module.{ModuleView}
+use Rattle.foreign_host.specs.Host.{GuestsAreInts}
 use Rattle.eh_commands.specs.Words.{asked}
 use Rattle.eh_commands.specs.File.{Asked}
 use Rattle.eh_commands.proofs.Sources.{told_of}
@@ -22,7 +24,7 @@ use Rattle.eh_driver.proofs.RunPromised.{run_promised}
 use Rattle.eh_commands.specs.Image.{ImageCause, ImagePromise, Judged, check_lines, dump_lines, image_limit, status_of}
 use Rattle.eh_commands.specs.Answer.{CommandCause, Cause}
 use Rattle.eh_driver.specs.Promise.{CommandPromise, Promise}
-use Rattle.literal_mains.specs.Laws.{LiteralMainsRun}
+use Rattle.eh_driver.proofs.MeantShown.{CompilerLaws, IsAsked}
 
 -- a refusal that was answered is the one of the file
 refused_judged : (lines : CleanImage → List (List ℕ)) (read : Result CleanImage Fault) (out out' : SinkView) (status : Status) → IsErrAnd read (λ fault. status ≡ status_of (reported fault)) → out' ≡ out → Judged lines read out out' status
@@ -48,14 +50,20 @@ image_kept lines name old new out out' Stack h files file is there short store s
 image_kept lines name old new out out' (MachineFault kind place) h files file is there short store sink = absurd h
 image_kept lines name old new out out' Undefined h files file is there short store sink = absurd h
 
-command_promised : LiteralMainsRun → (verb : Verb) (a : Asked) (old new : StoreView) (out out' : SinkView) (status : Status) → CommandCause verb a old new out out' status → CommandPromise verb a old new out out' status
-command_promised law Compile a old new out out' status cause = compile_promised a old new out out' status cause.0
-command_promised law Run a old new out out' status cause = run_promised law a old new out out' status cause
-command_promised law Exec a old new out out' status cause = exec_promised a old new out out' status cause
-command_promised law Mean a old new out out' status cause = mean_promised a old new out out' status cause
-command_promised law Check a old new out out' status cause = image_kept check_lines a.source old new out out' status cause
-command_promised law Dump a old new out out' status cause = image_kept dump_lines a.source old new out out' status cause
+module _ (laws : CompilerLaws) where
+  command_promised : (verb : Verb) (a : Asked) → IsAsked a → (old new : StoreView) (out out' : SinkView) (status : Status) → CommandCause verb a old new out out' status → CommandPromise verb a old new out out' status
+  command_promised Compile a is old new out out' status cause = compile_promised laws a old new out out' status cause.0
+  command_promised Run a is old new out out' status cause = run_promised laws a is old new out out' status cause
+  command_promised Exec a is old new out out' status cause = exec_promised a old new out out' status cause
+  command_promised Mean a is old new out out' status cause = mean_promised a old new out out' status cause
+  command_promised Check a is old new out out' status cause = image_kept check_lines a.source old new out out' status cause
+  command_promised Dump a is old new out out' status cause = image_kept dump_lines a.source old new out out' status cause
 
-pub promised : LiteralMainsRun → (modules : List ModuleView) (command : Option CommandView) (old new : StoreView) (out out' : SinkView) (status : Status) → Cause modules command old new out out' status → Promise modules command old new out out' status
-promised law modules None old new out out' status cause = tt
-promised law modules (Some command) old new out out' status cause = command_promised law command.verb (asked modules command) old new out out' status cause
+  pub promised : (modules : List ModuleView) → length modules ≤ 64 → GuestsAreInts modules → (words : List (List ℕ)) (old new : StoreView) (out out' : SinkView) (status : Status) → Cause modules (command_of words) old new out out' status →
+      Promise modules (command_of words) old new out out' status
+  promised modules few ints words old new out out' status cause = by (command_of words) refl cause
+    where
+      by : (command : Option CommandView) → command_of words ≡ command → Cause modules command old new out out' status → Promise modules command old new out out' status
+      by None is cause = tt
+      by (Some command) is cause =
+          command_promised command.verb (asked modules command) (record { turns = (turns_are_bounded words command is).most; few = few; ints = ints }) old new out out' status cause

@@ -14,9 +14,8 @@ use Rattle.eh_commands.specs.declared.status.Status.TheVariants.{Done, Usage, So
 use Rattle.eh_commands.specs.File.{Asked, ToldBoth, source_limit}
 use Rattle.eh_commands.specs.RunEnd.{run_lines, status_of_run}
 use Rattle.eh_commands.specs.RunSource.{CompiledRunsThis, SourceRunsThis, RunCause}
-use Rattle.eh_driver.specs.Promise.{MeanUndisturbed, ShowsImage, ShowsLiterals, RunPromise}
-use Rattle.literal_mains.specs.Laws.{LiteralMainsRun}
-use Rattle.eh_driver.proofs.LiteralsShown.{literals_shown}
+use Rattle.eh_driver.specs.Promise.{MeanUndisturbed, ShowsImage, ShowsMeant, RunPromise}
+use Rattle.eh_driver.proofs.MeantShown.{CompilerLaws, IsAsked, meant_shown}
 use Rattle.eh_commands.proofs.Sources.{valid_same, not_refused, same_refusal}
 use Rattle.eh_driver.proofs.MeanPromised.{both_of, both_read, both_short}
 
@@ -88,13 +87,11 @@ image_shown : (a : Asked) (p : Program) (input : List ℕ) (out out' : SinkView)
     TakesAll (run_lines a.trace a.count r) out out' → ShowsImage a p input out out' status
 image_shown a p input out out' status r (stands, this) ended took = (r, this, ended, took.gains)
 
-pub run_promised : LiteralMainsRun → (a : Asked) (old new : StoreView) (out out' : SinkView) (status : Status) → RunCause a old new out out' status → RunPromise a old new out out' status
-run_promised law a old new out out' status cause = record {
+pub run_promised : CompilerLaws → (a : Asked) → IsAsked a → (old new : StoreView) (out out' : SinkView) (status : Status) → RunCause a old new out out' status → RunPromise a old new out out' status
+run_promised laws a asked old new out out' status cause = record {
   shows = λ source input p u program holds.
       printed_so a source input old new out out' u p program holds (ShowsImage a p input out out') (image_shown a p input out out') status cause;
-  literals = λ source input lines answer u means enough.
-      let (p, program, holds, main) = means in
-      printed_so a source input old new out out' u p program holds (ShowsLiterals a lines answer out out')
-      (literals_shown law a source p program holds lines answer main enough input out out') status cause;
+  means = λ source input p u program holds ints defined.
+      printed_so a source input old new out out' u p program holds (ShowsMeant a p input out out') (meant_shown laws source p program holds a asked input ints defined out out') status cause;
   refuses = λ source input number place u is. refuses_so a source input old new out out' u number place is status cause;
 }

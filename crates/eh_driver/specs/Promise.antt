@@ -1,5 +1,6 @@
 -- What the commands promise where nothing fails.
-use Rattle.std.specs.Prelude.{◌≡◌, ◌≤◌, ◌⊎◌, ◌++◌, ⊤, ℕ, Bool, List, [], length, Option, Some, None, Ok, Err}
+use Rattle.std.specs.Prelude.{◌≡◌, ◌≤◌, ◌<◌, ◌+◌, ◌*◌, ◌⊎◌, ⊤, ℕ, Bool, List, [], length, Option, Some, None, Ok, Err}
+use Rattle.std.specs.List.{AllByRecursion}
 use Rattle.std.specs.FinMap.{get, insert}
 use Rattle.eh_outer.specs.Store.{Files, StoreView, Rose}
 use Rattle.eh_outer.specs.Sink.{SinkView, Gains}
@@ -9,30 +10,32 @@ use Rattle.command_line.specs.declared.command.Verb.{Verb}
 use Rattle.command_line.specs.declared.command.Verb.TheVariants.{Compile, Run, Exec, Mean, Check, Dump}
 use Rattle.command_line.specs.Command.{CommandView}
 use Rattle.eh_outer.specs.Module.{ModuleView}
-use Rattle.meaning_forms.specs.Meaning.{Meaning}
+use Rattle.meaning_forms.specs.declared.ending.MeanEnd.TheVariants.{Undefined}
+use Rattle.meaning_forms.specs.Meaning.{Meaning, program_meaning}
 use Rattle.scope_meaning.specs.Mean.{meant}
 use Rattle.eh_commands.specs.Words.{asked}
 use Rattle.eh_commands.specs.Mean.{mean_lines, status_of_end}
-use Rattle.cxx_ast.specs.Plain.{Program}
+use Rattle.cxx_ast.specs.Plain.{Program, Checked}
 use Rattle.cxx_ast.specs.Broken.{Valid}
 use Rattle.cxx_ast.specs.Checked.{checked}
 use Rattle.cxx_front.specs.Source.{IsProgram, IsRefused}
 use Rattle.cxx_image.specs.Image.{image_for}
+use Rattle.image_forms.specs.Placed.{all_code}
+use Rattle.source_bounds.specs.Compiled.{emitted_for}
 use Rattle.eh_commands.specs.Exec.{RunsThis}
-use Rattle.literal_mains.specs.Main.{small_main}
-use Rattle.literal_mains.specs.Laws.{enough_steps}
 use Rattle.run_items.specs.Output.{bytes_of}
-use Rattle.eh_commands.specs.Output.{exit_pieces}
 use Rattle.eh_commands.specs.File.{Asked, input_limit, source_limit}
 use Rattle.table_forms.specs.Fault.{Fault}
 use Rattle.elf_image.specs.Clean.{CleanImage}
 use Rattle.elf_image.specs.Reports.{reported}
 use Rattle.elf_image.specs.Runnable.{runnable}
+use Rattle.cxa_runtime.specs.Kept.{replies_of}
 use Rattle.cxa_runtime.specs.Run.{Ran}
+use Rattle.compiled_runs.specs.Compiled.{Compiled, RunMeans}
 use Rattle.eh_run.specs.Program.{program_of}
 use Rattle.eh_run.specs.Runs.{IsRun}
 use Rattle.eh_commands.specs.Image.{ImagePromise, check_lines, dump_lines, image_limit, status_of}
-use Rattle.eh_commands.specs.RunEnd.{count_lines, run_lines, status_of_run}
+use Rattle.eh_commands.specs.RunEnd.{run_lines, status_of_run}
 
 -- a told file of a name within a limit, where neither the store nor the sink fails
 pub record Undisturbed (limit : ℕ) (name source : List ℕ) (old new : StoreView) (out out' : SinkView) : Type 0 where
@@ -43,11 +46,20 @@ pub record Undisturbed (limit : ℕ) (name source : List ℕ) (old new : StoreVi
   pub store : Rose old.faults new.faults → ⊥
   pub sink : Rose out.faults out'.faults → ⊥
 
--- Where nothing disturbs: the image of a valid source is stored under its name, and the told files are else as before; a source that is
--- refused is refused by its number and place, and nothing is stored. Or memory ran out, and nothing is stored either.
+-- The bytes are an image that can be run, with so many words of code and so many bytes for its program's tokens at most, and that is the compiled program:
+-- what its runs show, and how they end, is what the program means.
+pub record AreCompiled (p : Checked) (bytes : List ℕ) : Type 0 where
+  pub image : CleanImage
+  pub read : runnable bytes ≡ Ok image
+  pub words : length (all_code (emitted_for p)) ≤ 128 * p.program.tokens + 4096
+  pub small : length bytes ≤ 768 * p.program.tokens + 131072
+  pub compiled : Compiled p image
+
+-- Where nothing disturbs: the image of a valid source, which is the compiled program, is stored under its name, and the told files are else as before; a
+-- source that is refused is refused by its number and place, and nothing is stored. Or memory ran out, and nothing is stored either.
 pub record CompilePromise (a : Asked) (old new : StoreView) (out out' : SinkView) (status : Status) : Type 0 where
   pub stores : (source : List ℕ) (p : Program) (u : Undisturbed source_limit a.source source old new out out') → IsProgram source p → Valid p →
-      ((status ≡ NoMemory) × (new.files ≡ old.files)) ⊎ ((status ≡ Done) × (new.files ≡ Some (insert u.files a.image (image_for (checked p)))))
+      ((status ≡ NoMemory) × (new.files ≡ old.files)) ⊎ ((status ≡ Done) × (new.files ≡ Some (insert u.files a.image (image_for (checked p)))) × AreCompiled (checked p) (image_for (checked p)))
   pub refuses : (source : List ℕ) (number place : ℕ) → Undisturbed source_limit a.source source old new out out' → IsRefused source number place →
       ((status ≡ NoMemory) ⊎ (status ≡ SourceRefused number place)) × (new.files ≡ old.files)
 
@@ -66,22 +78,27 @@ abbrev pub ShowsImage : Asked → Program → List ℕ → SinkView → SinkView
 ShowsImage a p input out out' status =
     (r : Ran) × RunsThis a r (image_for (checked p)) input × (status ≡ status_of_run r.end) × Gains (bytes_of (run_lines a.trace a.count r)) out out'
 
--- the source is a valid program, a main that writes these literals and returns one
-abbrev pub Means : List ℕ → List ℕ → ℕ → Type 0
-Means source lines answer = (p : Program) × IsProgram source p × Valid p × (small_main (checked p) ≡ Some (lines, answer))
+-- the input is one of bytes
+abbrev pub AreBytes : List ℕ → Type 0
+AreBytes input = AllByRecursion (λ b. b < 256) input
 
--- the lines of literals went out, with the end line and, if asked, a count, and the status is Done
-abbrev pub ShowsLiterals : Asked → List ℕ → ℕ → SinkView → SinkView → Status → Type 0
-ShowsLiterals a lines answer out out' status = (steps : ℕ) × (status ≡ Done) × Gains (bytes_of (exit_pieces lines answer ++ count_lines a.count steps)) out out'
+-- what the program means with the input and the modules, and with as many turns as its run may have steps
+abbrev pub meaning_for : Asked → Program → List ℕ → Meaning
+meaning_for a p input = program_meaning (checked p) input (replies_of a.modules) a.turns (a.turns + 1)
 
--- Where nothing disturbs: of a valid source the lines of a run of its image go out, and the status is that of its end. Of one that is a main
--- of literals, where at least 2^20 steps are allowed, these are its literals, and the status is Done. One that is refused is refused by its
--- number and place. Or memory ran out.
+-- so that this run is what the program means
+abbrev pub ShowsMeant : Asked → Program → List ℕ → SinkView → SinkView → Status → Type 0
+ShowsMeant a p input out out' status =
+    (r : Ran) × RunsThis a r (image_for (checked p)) input × RunMeans (meaning_for a p input) r × (status ≡ status_of_run r.end) × Gains (bytes_of (run_lines a.trace a.count r)) out out'
+
+-- Where nothing disturbs: of a valid source the lines of a run of its image go out, and the status is that of its end. While what the program means is
+-- defined, these are the lines of a front of its items, and unless the run is cut short they are all, and it ends as the meaning does. One that is refused
+-- is refused by its number and place. Or memory ran out.
 pub record RunPromise (a : Asked) (old new : StoreView) (out out' : SinkView) (status : Status) : Type 0 where
   pub shows : (source input : List ℕ) (p : Program) → MeanUndisturbed a source input old new out out' → IsProgram source p → Valid p →
       (status ≡ NoMemory) ⊎ ShowsImage a p input out out' status
-  pub literals : (source input lines : List ℕ) (answer : ℕ) → MeanUndisturbed a source input old new out out' → Means source lines answer → enough_steps ≤ a.turns →
-      (status ≡ NoMemory) ⊎ ShowsLiterals a lines answer out out' status
+  pub means : (source input : List ℕ) (p : Program) → MeanUndisturbed a source input old new out out' → IsProgram source p → Valid p → AreBytes input → ((meaning_for a p input).end ≡ Undefined → ⊥) →
+      (status ≡ NoMemory) ⊎ ShowsMeant a p input out out' status
   pub refuses : (source input : List ℕ) (number place : ℕ) → MeanUndisturbed a source input old new out out' → IsRefused source number place →
       (status ≡ NoMemory) ⊎ (status ≡ SourceRefused number place)
 

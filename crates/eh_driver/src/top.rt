@@ -9,8 +9,10 @@ ghost use Rattle.eh_driver.specs.Promise.{Promise};
 
 use eh_commands::{Status, answer};
 use eh_outer::{Module, Sink, Store};
-use literal_mains::laws::literal_mains_run;
+use image_link::laws::images_are_small;
+use source_bounds::laws::checked_is_linkable;
 use std::alloc::Global;
+use step_law::laws::checked_images_are_compiled;
 
 /// Does all that the program does with its words, and answers its status.
 ///
@@ -38,6 +40,8 @@ pub fn ehc<St: Store, Out: Sink, Er: Sink>(
     ensures files { KeepsFiles (command_of (texts words.now.items)) (St.view store.old) (St.view store.new) result }
     ensures report { Reports (text_of_status (refused_name (St.view store.new)) result) (Er.view err.old) (Er.view err.new) }
 {
-    literal_mains_run();
+    checked_images_are_compiled();
+    checked_is_linkable();
+    images_are_small();
     answer(alloc, words, store, out, err, modules)
 }

@@ -7,7 +7,7 @@ use Rattle.region_forms.specs.World.{exception_at}
 use Rattle.linear_forms.specs.Linear.{plain}
 use Rattle.linear_forms.specs.Activation.{State}
 use Rattle.machine_forms.specs.LinearCode.{linear_code}
-use Rattle.machine_pieces.specs.Laws.{CallsAreTurns, ValuesAreComputed}
+use Rattle.machine_pieces.specs.Laws.{CallsAreTurns}
 use Rattle.machine_stubs.specs.Calls.{CallsAreMade}
 use Rattle.machine_stubs.specs.Terminate.{TerminateRuns}
 use Rattle.raise_simulation.specs.Raises.{RaisesAgree}
@@ -34,19 +34,19 @@ rethrows_overflow turns made runs agree over i pick k p n m x others st w h runn
           (entering (exception_at st.world x.number) x.number) any_wish all.1 tt (omega (arith, lacks)) many,
     )
 
-pub modules_overflow : CallsAreTurns → CallsAreMade → ValuesAreComputed → TerminateRuns → RaisesAgree → FunctionsOverflow → ModulesOverflow
-modules_overflow turns made values runs agree over = record {
+pub modules_overflow : CallsAreTurns → CallsAreMade → TerminateRuns → RaisesAgree → FunctionsOverflow → ModulesOverflow
+modules_overflow turns made runs agree over = record {
   nothing_stops = λ i pick j p n m k token left st w h running at free lost quiet installed hidden lacks many.
       let e : ℕ = st.world.last_number + 1 in
       let waiting : State = raising_state k token left st in
-      let all = raise_sends turns values agree i pick p n m k token left st w h running at free lost quiet installed hidden in (
+      let all = raise_sends turns agree i pick p n m k token left st w h running at free lost quiet installed hidden in (
         all.0,
         sends_overflow made runs over (program_of i).image pick j (with_object p e all.1) n m st.top.frame st.frames (st.top ∷ st.frames) waiting.world w h.back p.hidden (length (linear_code (shape p n) at.operation))
             (Foreign e k token ∷ []) (picked_wish pick) all.3 refl (omega (arith, lacks)) many,
       );
   full = λ i pick j p n m k token left st w h at full quiet installed hidden lacks many.
       let waiting : State = refused_state k left st in
-      let all = full_sends turns values i p n m k token left st w h at full quiet installed hidden in (
+      let all = full_sends turns i p n m k token left st w h at full quiet installed hidden in (
         all.0,
         sends_overflow made runs over (program_of i).image pick j p n m st.top.frame st.frames (st.top ∷ st.frames) waiting.world w h.back p.hidden (length (linear_code (shape p n) at.operation)) [] any_wish all.1 tt (omega (arith, lacks)) many,
       );

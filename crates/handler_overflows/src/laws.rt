@@ -51,7 +51,6 @@ pub fn modules_overflow()
 {
     calls_are_turns();
     calls_are_made();
-    values_are_computed();
     terminate_runs();
     raises_agree();
     functions_overflow();

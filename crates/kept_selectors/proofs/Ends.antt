@@ -8,6 +8,7 @@ use Rattle.linear_forms.specs.Stub.{Function, compiled, linear}
 use Rattle.linear_forms.specs.Activation.{Code, compiled_op, fetch}
 use Rattle.linear_forms.specs.UnitRun.{no_code, code_at, code_of}
 use Rattle.cost_paths.proofs.Rows.{found_below}
+use Rattle.flight_homes.specs.Homes.{is_one_of}
 use Rattle.flight_homes.specs.Keeps.{Carrying}
 use Rattle.linear_invariant.specs.Code.{CodeCarries}
 use Rattle.kept_selectors.specs.Selectors.{IsChained, HasList, FrameNamed, OpenListsStand, FirstSelectors, PassesList, PassesHaveLists, InSite, ChainsAreSites}
@@ -15,7 +16,7 @@ use Rattle.kept_selectors.specs.Selectors.{IsChained, HasList, FrameNamed, OpenL
 pub first_selectors : FirstSelectors
 first_selectors u k input replies c = (λ there. let never : false ≡ true = sym (c.first u.main) ∙ there in absurd (cc never), tt)
 
-compiled_is : (x : Option LinearOp) (o : LinearOp) → compiled_op x ≡ Some (linear o) → x ≡ Some o
+pub compiled_is : (x : Option LinearOp) (o : LinearOp) → compiled_op x ≡ Some (linear o) → x ≡ Some o
 compiled_is None o e = absurd (cc e)
 compiled_is (Some y) o e = let same : y ≡ o = cc e in ap (λ z. Some z) same
 
@@ -24,14 +25,20 @@ module _ (code : Code) (k : Carrying) (n : ℕ) (c : CodeCarries code k) where
   chained z j is (inl h) = let never : pos 0 ≡ negsuc j = sym h ∙ is in absurd (cc never)
   chained z j is (inr h) = subst (IsChained code n) is h
 
-  passes_in : (f : Function) (p o s : ℕ) (x : Frame) → f ≡ compiled n → FrameNamed code k f p x → fetch code f p ≡ Some (linear (unexpected o s)) → PassesList code n (x.slots s)
+  passes_in : (f : Function) (p o s : ℕ) (x : Frame) → f ≡ compiled n → FrameNamed code k f p x → fetch code f p ≡ Some (linear (unexpected o s)) → PassesList code k n p (x.slots s)
   passes_in f p o s x same h e = go (subst (λ f. FrameNamed code k f p x) same h) (compiled_is (code.op_at n p) (unexpected o s) (subst (λ f. fetch code f p ≡ Some (linear (unexpected o s))) same e))
     where
-      go : FrameNamed code k (compiled n) p x → code.op_at n p ≡ Some (unexpected o s) → PassesList code n (x.slots s)
+      go : FrameNamed code k (compiled n) p x → code.op_at n p ≡ Some (unexpected o s) → PassesList code k n p (x.slots s)
       go h there =
           let own = h (c.passes n p o s there).0 in
-          let list = own.stopped (inl (o, s, there)) in
-          record { list = list.0; is = ap x.slots (c.passes n p o s there).2 ∙ own.is ∙ ap number_word list.1; chained = chained own.number list.0 list.1 own.named }
+          let stopped = own.stopped (inl (o, s, there)) in
+          let list = stopped.0 in
+          record {
+            list = list.0;
+            is = ap x.slots (c.passes n p o s there).2 ∙ own.is ∙ ap number_word list.1;
+            chained = chained own.number list.0 list.1 own.named;
+            left = ap (λ z. is_one_of z (k.left n p)) (sym list.1) ∙ stopped.1;
+          }
 
 pub passes_have_lists : PassesHaveLists
 passes_have_lists code k st n o s c h same e = passes_in code k n c st.top.function st.top.place o s st.top.frame same h.0 e

@@ -6,3 +6,4 @@ pub mod Ends
 pub mod Runs
 pub mod Windows
 pub mod Programs
+pub mod Targets

@@ -24,7 +24,7 @@ module _ (r : Regions) (k : Carrying) (fits : CodeFits (known_in r) (code_of (un
   abbrev Named : State → Type 0
   Named st = SelectorsNamed code k (st.top ∷ st.frames)
 
-  leads_keep : (n before : ℕ) (st next : State) → StandsIn (unmarked (known_in r)) code k before st → Named st → Leads code n st (goes_to next) → Named next
+  pub leads_keep : (n before : ℕ) (st next : State) → StandsIn (unmarked (known_in r)) code k before st → Named st → Leads code n st (goes_to next) → Named next
   leads_keep zero before st next stands h e = let same : next ≡ st = cc e in subst Named (sym same) h
   leads_keep (suc n) before st next stands h e =
       go (step code st) refl e (λ middle here more. leads_keep n (before + 1) middle next (steps_stand r k before st middle fits stands here) (steps_keep_selectors r k before st middle fits stops stands h here) more)

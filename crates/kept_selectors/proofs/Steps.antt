@@ -210,11 +210,11 @@ module _ (code : Code) (k : Carrying) (c : CodeCarries code k) (t : CodeStops co
     act_named (resume s) e = resumed_named (x.slots s) a fs w (h, i)
     act_named (unexpected o s) e = (given, (h, i))
       where
-        own : IsSelector code n p (x.slots (k.selector n))
+        own : IsSelector code k n p (x.slots (k.selector n))
         own = h (c.passes n p o s e).0
 
         list : IsList own.number
-        list = own.stopped (inl (o, s, e))
+        list = (own.stopped (inl (o, s, e))).0
 
         named : (own.number ≡ pos 0) ⊎ IsChained code n own.number → IsChained code n (negsuc list.0)
         named (inl j) = let never : pos 0 ≡ negsuc list.0 = sym j ∙ list.1 in absurd (cc never)

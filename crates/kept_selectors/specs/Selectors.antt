@@ -2,7 +2,7 @@
 use Rattle.std.specs.Prelude.{⊤, ◌≡◌, ◌⊎◌, ℕ, ◌<◌, ℤ, pos, negsuc, true, List, [], ◌∷◌, length, Some, slice_get}
 use Rattle.eh_outer.specs.declared.module.Reply.{Reply}
 use Rattle.region_forms.specs.Form.{Regions}
-use Rattle.region_forms.specs.World.{Word, number_word, Frame}
+use Rattle.region_forms.specs.World.{Word, number_word, flying, Frame}
 use Rattle.linear_forms.specs.Linear.{CodeSite, UnitCode, unexpected}
 use Rattle.linear_forms.specs.Tables.{padded}
 use Rattle.linear_forms.specs.Stub.{Function, compiled, end_catch, terminating, call_unexpected, linear}
@@ -12,6 +12,7 @@ use Rattle.linear_forms.specs.Machine.{step}
 use Rattle.linear_forms.specs.Pace.{Leads}
 use Rattle.linear_forms.specs.Unit.{unit_of}
 use Rattle.linear_forms.specs.UnitRun.{code_at, code_of, first_state}
+use Rattle.flight_homes.specs.Homes.{is_one_of}
 use Rattle.flight_homes.specs.Keeps.{Carrying}
 use Rattle.flight_homes.specs.Lives.{known_in}
 use Rattle.linear_invariant.specs.Calls.{unmarked}
@@ -29,12 +30,16 @@ pub record IsChained (code : Code) (n : ℕ) (filter : ℤ) : Type 0 where
   pub index : ℕ
   pub is : slice_get chain index ≡ Some filter
 
--- At a place a slot has the number of such a filter, or 0, as for a cleanup; what a specification stopped has that of a list.
-pub record IsSelector (code : Code) (n p : ℕ) (word : Word) : Type 0 where
+-- the number of a list that is among the filters left at a place
+abbrev pub IsLeft : Carrying → ℕ → ℕ → ℤ → Type 0
+IsLeft k n p z = IsList z × (is_one_of z (k.left n p) ≡ true)
+
+-- At a place a slot has the number of such a filter, or 0, as for a cleanup; what a specification stopped has that of a list, which is left there.
+pub record IsSelector (code : Code) (k : Carrying) (n p : ℕ) (word : Word) : Type 0 where
   pub number : ℤ
   pub is : word ≡ number_word number
   pub named : (number ≡ pos 0) ⊎ IsChained code n number
-  pub stopped : Stopping code n p → IsList number
+  pub stopped : Stopping code n p → IsLeft k n p number
 
 -- what call_unexpected was given: the number of a list, and the function that has it in a chain
 pub record HasList (code : Code) (x : Frame) : Type 0 where
@@ -46,7 +51,7 @@ pub record HasList (code : Code) (x : Frame) : Type 0 where
 
 -- An open call that carries what a pad caught has such a number in its pads' second slot, and call_unexpected has a list with its function.
 abbrev pub FrameNamed : Code → Carrying → Function → ℕ → Frame → Type 0
-FrameNamed code k (compiled n) p x = k.carries n p ≡ true → IsSelector code n p (x.slots (k.selector n))
+FrameNamed code k (compiled n) p x = k.carries n p ≡ true → IsSelector code k n p (x.slots (k.selector n))
 FrameNamed code k end_catch p x = ⊤
 FrameNamed code k terminating p x = ⊤
 FrameNamed code k call_unexpected p x = HasList code x
@@ -69,15 +74,21 @@ abbrev pub RunsKeepSelectors : Type 0
 RunsKeepSelectors = (r : Regions) (k : Carrying) (input : List ℕ) (replies : List (List Reply)) (n : ℕ) (st : State) → let code = code_of (unit_of r) in CodeFits (known_in r) code k → CodeStops code →
     let first = first_state (unit_of r) input replies in IsGiven first.world → Leads code n first (goes_to st) → SelectorsNamed code k (st.top ∷ st.frames)
 
--- Where a specification passes on what it stopped, its slot has the number of a list that a chain of the function has.
-pub record PassesList (code : Code) (n : ℕ) (word : Word) : Type 0 where
+-- Where a specification passes on what it stopped, its slot has the number of a list that a chain of the function has, and that is left there.
+pub record PassesList (code : Code) (k : Carrying) (n p : ℕ) (word : Word) : Type 0 where
   pub list : ℕ
   pub is : word ≡ number_word (negsuc list)
   pub chained : IsChained code n (negsuc list)
+  pub left : is_one_of (negsuc list) (k.left n p) ≡ true
 
 abbrev pub PassesHaveLists : Type 0
 PassesHaveLists = (code : Code) (k : Carrying) (st : State) (n o s : ℕ) → CodeCarries code k → SelectorsNamed code k (st.top ∷ st.frames) → st.top.function ≡ compiled n → RunsAt code st (linear (unexpected o s)) →
-    PassesList code n (st.top.frame.slots s)
+    PassesList code k n st.top.place (st.top.frame.slots s)
+
+-- An exception that a specification stopped has come to its target.
+abbrev pub StoppedAreThere : Type 0
+StoppedAreThere = (r : Regions) (k : Carrying) (steps n o s e d : ℕ) (st : State) → let code = code_of (unit_of r) in CodeFits (known_in r) code k → StandsIn (unmarked (known_in r)) code k steps st →
+    SelectorsNamed code k (st.top ∷ st.frames) → st.top.function ≡ compiled n → RunsAt code st (linear (unexpected o s)) → st.top.frame.slots o ≡ flying e d → d ≡ length st.frames
 
 -- such a filter is one of a site of a function of the unit
 pub record InSite (u : UnitCode) (n : ℕ) (filter : ℤ) : Type 0 where

@@ -1,5 +1,5 @@
 // Laws of the numbers of filters in open calls of linear code: calls of no effect, whose contracts state what holds of every program.
-ghost use Rattle.kept_selectors.specs.Selectors.{ChainsAreSites, FirstSelectors, OpenListsStand, PassesHaveLists, RunsKeepSelectors, StepsKeepSelectors};
+ghost use Rattle.kept_selectors.specs.Selectors.{ChainsAreSites, FirstSelectors, OpenListsStand, PassesHaveLists, RunsKeepSelectors, StepsKeepSelectors, StoppedAreThere};
 ghost use Rattle.kept_selectors.specs.Stopping.{ProgramsStop};
 
 /// A call that carries what a pad caught keeps the number of a filter of its function, and call_unexpected keeps that of the list that stopped an exception.
@@ -20,6 +20,11 @@ pub fn runs_keep_selectors()
 /// What a specification stopped has the number of a list, which stands in a chain of the function.
 pub fn passes_have_lists()
     ensures { PassesHaveLists }
+{}
+
+/// An exception that a specification stopped has come to its target.
+pub fn stopped_are_there()
+    ensures { StoppedAreThere }
 {}
 
 /// A filter of what covers a place is one of a site.

@@ -25,7 +25,7 @@ use Rattle.flight_homes.specs.Lives.{Known, ExceptionKnown, LiveKnown, OpKnown, 
 use Rattle.flight_homes.specs.Whole.{IsCaught}
 use Rattle.linear_invariant.specs.Held.{NoneHolds}
 use Rattle.linear_invariant.specs.Handled.{Unhandled, EachOnce, AllBuilt, IsGone}
-use Rattle.linear_invariant.specs.Calls.{Marks, unmarked, OnItsWay, WordGoes, FlightGoes, IsStopped, CallKeeps, CallsKeep}
+use Rattle.linear_invariant.specs.Calls.{IsOther, Marks, unmarked, OnItsWay, WordGoes, FlightGoes, IsStopped, CallKeeps, CallsKeep}
 use Rattle.linear_invariant.specs.Code.{NamesHelp, CodeFits}
 use Rattle.linear_invariant.specs.Stands.{StandsIn}
 use Rattle.linear_invariant.specs.Asked.{HasWhole, ThrowAsked, EnterAsked, FreeAsked, NewestAsked, FlightAsked, GoesOut, PassAsked, ThrowsAreAsked, EntersAreAsked, FreesAreAsked, LeavesAreAsked, ResumesAreAsked, PassesAreAsked, TestsAreAsked}
@@ -40,7 +40,7 @@ use Rattle.linear_invariant.proofs.Returns.{helps_whole}
 
 -- lists of numbers
 
-both_none : (xs ys : List ℕ) (e : ℕ) → contains xs e ≡ false → contains ys e ≡ false → contains (xs ++ ys) e ≡ false
+pub both_none : (xs ys : List ℕ) (e : ℕ) → contains xs e ≡ false → contains ys e ≡ false → contains (xs ++ ys) e ≡ false
 both_none [] ys e h i = i
 both_none (x ∷ xs) ys e h i = go (x == e) h (λ j. both_none xs ys e j i)
   where
@@ -48,11 +48,11 @@ both_none (x ∷ xs) ys e h i = go (x == e) h (λ j. both_none xs ys e j i)
     go true h rest = absurd (cc h)
     go false h rest = rest h
 
-none_gone : (k : Carrying) (f : Option Function) (fs : List Activation) (e : ℕ) → NoneHolds k f fs e → contains (gone fs) e ≡ false
+pub none_gone : (k : Carrying) (f : Option Function) (fs : List Activation) (e : ℕ) → NoneHolds k f fs e → contains (gone fs) e ≡ false
 none_gone k f [] e h = refl
 none_gone k f (a ∷ fs) e h = both_none (destroyed_in a.function a.frame) (gone fs) e h.1 (none_gone k (Some a.function) fs e h.2)
 
-exception_known : (known : Known) (n : ℕ) (xs : List Live) (e : ℕ) → AllByRecursion (LiveKnown known n) xs → ExceptionKnown known (exception_in xs e)
+pub exception_known : (known : Known) (n : ℕ) (xs : List Live) (e : ℕ) → AllByRecursion (LiveKnown known n) xs → ExceptionKnown known (exception_in xs e)
 exception_known known n [] e h = tt
 exception_known known n (y ∷ ys) e h = go (y.number == e) (exception_known known n ys e h.1)
   where
@@ -60,7 +60,7 @@ exception_known known n (y ∷ ys) e h = go (y.number == e) (exception_known kno
     go true rest = h.0.exception
     go false rest = rest
 
-caught_word : (marks : Marks) (code : Code) (a : Activation) (fs : List Activation) (c : Carried) (w : World) (word : Word) → WordGoes marks code a fs c word w → IsCaught word
+pub caught_word : (marks : Marks) (code : Code) (a : Activation) (fs : List Activation) (c : Carried) (w : World) (word : Word) → WordGoes marks code a fs c word w → IsCaught word
 caught_word marks code a fs c w (flying e d) h = tt
 caught_word marks code a fs c w (unwinding z) h = tt
 caught_word marks code a fs c w nothing h = h
@@ -192,7 +192,7 @@ module _ (marks : Marks) (code : Code) (k : Carrying) (fits : CodeFits marks.kno
       apart i g = subst (Unhandled i) e g.unhandled
 
   -- an exception that the newest call carries, whose object is in a slot for help
-  flight_asked : (c : Carried) (s e d : ℕ) → is_help_in code st.top.function s → st.top.frame.slots s ≡ flying e d → OnItsWay code st.top st.frames c e d st.world → FlightAsked marks.known k st e d
+  pub flight_asked : (c : Carried) (s e d : ℕ) → is_help_in code st.top.function s → st.top.frame.slots s ≡ flying e d → OnItsWay code st.top st.frames c e d st.world → FlightAsked marks.known k st e d
   flight_asked c s e d help is o =
       let held = h.calls.0.forgets s e help (ap address_in is) in
       record {
@@ -212,18 +212,18 @@ module _ (marks : Marks) (code : Code) (k : Carrying) (fits : CodeFits marks.kno
     help : is_help_in code f s
 
   out_of_catch : (x : Frame) (fs : List Activation) (w : World) → CallKeeps code k marks None (called end_catch 6 x) fs w → Out end_catch 6 x fs w 2
-  out_of_catch x fs w own = record { what = record { word = x.slots 2; home = 6; number = x.slots 3; left = [] }; goes = own.carries; aims = λ e d o. by e d o.goes; help = tt }
+  out_of_catch x fs w own = record { what = record { word = x.slots 2; home = 6; number = x.slots 3; left = [] }; goes = own.carries; aims = λ e d o. by e d o.selector o.goes; help = tt }
     where
-      by : (e d : ℕ) → ((false ≡ true) × (d ≡ length fs)) ⊎ AimsAt code (type_at w e) d (called end_catch 6 x ∷ fs) → AimsAt code (type_at w e) d (called end_catch 6 x ∷ fs)
-      by e d (inl i) = absurd (cc i.0)
-      by e d (inr i) = i
+      by : (e d : ℕ) (z : ℤ) → ((false ≡ true) × (d ≡ length fs)) ⊎ (IsOther z [] × AimsAt code (type_at w e) d (called end_catch 6 x ∷ fs)) → AimsAt code (type_at w e) d (called end_catch 6 x ∷ fs)
+      by e d z (inl i) = absurd (cc i.0)
+      by e d z (inr i) = i.1
 
   out_of_handler : (x : Frame) (fs : List Activation) (w : World) → CallKeeps code k marks None (called call_unexpected 17 x) fs w → Out call_unexpected 17 x fs w 4
-  out_of_handler x fs w own = record { what = record { word = x.slots 4; home = 17; number = x.slots 5; left = [] }; goes = own.carries; aims = λ e d o. by e d o.goes; help = tt }
+  out_of_handler x fs w own = record { what = record { word = x.slots 4; home = 17; number = x.slots 5; left = [] }; goes = own.carries; aims = λ e d o. by e d o.selector o.goes; help = tt }
     where
-      by : (e d : ℕ) → ((false ≡ true) × (d ≡ length fs)) ⊎ AimsAt code (type_at w e) d (called call_unexpected 17 x ∷ fs) → AimsAt code (type_at w e) d (called call_unexpected 17 x ∷ fs)
-      by e d (inl i) = absurd (cc i.0)
-      by e d (inr i) = i
+      by : (e d : ℕ) (z : ℤ) → ((false ≡ true) × (d ≡ length fs)) ⊎ (IsOther z [] × AimsAt code (type_at w e) d (called call_unexpected 17 x ∷ fs)) → AimsAt code (type_at w e) d (called call_unexpected 17 x ∷ fs)
+      by e d z (inl i) = absurd (cc i.0)
+      by e d z (inr i) = i.1
 
   abbrev carried_at : ℕ → ℕ → Frame → Carried
   carried_at n p x = record { word = x.slots (k.object n); home = k.home n p; number = x.slots (k.selector n); left = k.left n p }
@@ -247,9 +247,9 @@ module _ (marks : Marks) (code : Code) (k : Carrying) (fits : CodeFits marks.kno
         help = ap (code.kinds_at n) is.1 ∙ fits.carries.object n;
       }
     where
-      by : (e d : ℕ) (z : ℤ) → ((is_one_of z (k.left n p) ≡ true) × (d ≡ length fs)) ⊎ AimsAt code (type_at w e) d (called (compiled n) (k.home n p) x ∷ fs) → AimsAt code (type_at w e) d (called (compiled n) p x ∷ fs)
+      by : (e d : ℕ) (z : ℤ) → ((is_one_of z (k.left n p) ≡ true) × (d ≡ length fs)) ⊎ (IsOther z (k.left n p) × AimsAt code (type_at w e) d (called (compiled n) (k.home n p) x ∷ fs)) → AimsAt code (type_at w e) d (called (compiled n) p x ∷ fs)
       by e d z (inl i) = let never : false ≡ true = sym (ap (is_one_of z) (fits.carries.ends n p s there).1) ∙ i.0 in absurd (cc never)
-      by e d z (inr i) = subst (λ q. AimsAt code (type_at w e) d (called (compiled n) q x ∷ fs)) (fits.carries.ends n p s there).0 i
+      by e d z (inr i) = subst (λ q. AimsAt code (type_at w e) d (called (compiled n) q x ∷ fs)) (fits.carries.ends n p s there).0 i.1
 
   out_at : (f : Function) (p s : ℕ) (x : Frame) (fs : List Activation) (w : World) → CallKeeps code k marks None (called f p x) fs w → fetch code f p ≡ Some (linear (resume s)) → Out f p x fs w s
   out_at (compiled n) p s x fs w own e = out_of_compiled n p s x fs w own (op_there (code.op_at n p) (resume s) e)

@@ -14,7 +14,7 @@ use Rattle.flight_homes.specs.Homes.{is_one_of}
 use Rattle.flight_homes.specs.Keeps.{Carrying, Carried, carried, flying_in, destroyed_in, TravelsAgain}
 use Rattle.linear_invariant.specs.Held.{takes_over, carried_below, NoneHolds}
 use Rattle.linear_invariant.specs.Handled.{Unhandled, IsGone}
-use Rattle.linear_invariant.specs.Calls.{Marks, OnItsWay, WordGoes, FlightGoes, Waits, CallKeeps, CallsKeep}
+use Rattle.linear_invariant.specs.Calls.{IsOther, Marks, OnItsWay, WordGoes, FlightGoes, Waits, CallKeeps, CallsKeep}
 use Rattle.linear_invariant.proofs.Lists.{other_way}
 use Rattle.linear_invariant.proofs.Worlds.{But, Changes, still_can, Quiet, quiet_changes}
 
@@ -72,10 +72,10 @@ module _ (code : Code) (k : Carrying) (marks : Marks) where
         same : exception_at v e ≡ exception_at w e
         same = ch.same e own h.can
 
-        by : ((is_one_of h.selector c.left ≡ true) × (d ≡ length outer)) ⊎ AimsAt code (exception_type (exception_at w e)) d (record { function = a.function; place = c.home; frame = a.frame } ∷ outer) →
-            ((is_one_of h.selector c.left ≡ true) × (d ≡ length outer)) ⊎ AimsAt code (exception_type (exception_at v e)) d (record { function = a.function; place = c.home; frame = a.frame } ∷ outer)
+        by : ((is_one_of h.selector c.left ≡ true) × (d ≡ length outer)) ⊎ (IsOther h.selector c.left × AimsAt code (exception_type (exception_at w e)) d (record { function = a.function; place = c.home; frame = a.frame } ∷ outer)) →
+            ((is_one_of h.selector c.left ≡ true) × (d ≡ length outer)) ⊎ (IsOther h.selector c.left × AimsAt code (exception_type (exception_at v e)) d (record { function = a.function; place = c.home; frame = a.frame } ∷ outer))
         by (inl here) = inl here
-        by (inr aims) = inr (subst (λ y. AimsAt code (exception_type y) d (record { function = a.function; place = c.home; frame = a.frame } ∷ outer)) (sym same) aims)
+        by (inr aims) = inr (aims.0, subst (λ y. AimsAt code (exception_type y) d (record { function = a.function; place = c.home; frame = a.frame } ∷ outer)) (sym same) aims.1)
 
     pub word_goes : (a : Activation) (outer : List Activation) (c : Carried) (word : Word) → AllByRecursion P (elim word [ flying e d ↦ e ∷ [] | _ ↦ [] ]) → WordGoes marks code a outer c word w → WordGoes marks code a outer c word v
     word_goes a outer c (flying e d) own h = (flight_goes a outer c e d own.0 h.0, h.1)

@@ -20,7 +20,7 @@ use Rattle.flight_homes.specs.Lives.{WorldKnown}
 use Rattle.flight_homes.specs.Whole.{IsWhole, BindsWhole}
 use Rattle.flight_homes.specs.WholeCalls.{CallsWhole}
 use Rattle.linear_invariant.specs.Handled.{WorldKeeps}
-use Rattle.linear_invariant.specs.Calls.{Marks, OnItsWay, WordGoes, FlightGoes, WaitsAt, CallKeeps, CallsKeep}
+use Rattle.linear_invariant.specs.Calls.{IsOther, Marks, OnItsWay, WordGoes, FlightGoes, WaitsAt, CallKeeps, CallsKeep}
 use Rattle.linear_invariant.specs.Code.{StepsTo, carries_on, CodeCarries, CodeFits}
 use Rattle.linear_invariant.specs.Stands.{NewMarked}
 use Rattle.linear_invariant.proofs.Worlds.{But, more_steps, changes_then, quiet_changes, quiet_keeps, unhandled_building, building_waits, without_changes, without_keeps}
@@ -30,10 +30,6 @@ use Rattle.linear_invariant.proofs.Raising.{resumed_goes, force_goes}
 use Rattle.linear_invariant.proofs.Effects.{calls_go, leaves_go, Fine, op_does}
 use Rattle.linear_invariant.proofs.Given.{quiet}
 use Rattle.linear_invariant.proofs.Returns.{helps_whole, returned_goes}
-
-second : (b c : Bool) → (b || c) ≡ true → b ≡ false → c ≡ true
-second true c h i = absurd (cc i)
-second false c h i = h
 
 module _ (marks : Marks) (code : Code) (k : Carrying) (fits : CodeFits marks.known code k) (m n p : ℕ) (x : Frame) (fs : List Activation) (w : World)
     (own : CallKeeps code k marks None (called (compiled n) p x) fs w) (rest : CallsKeep code k marks (Some (compiled n)) fs w) (world : WorldKeeps m w) (lives : WorldKnown marks.known w)
@@ -53,7 +49,7 @@ module _ (marks : Marks) (code : Code) (k : Carrying) (fits : CodeFits marks.kno
   module _ (o : LinearOp) (there : code.op_at n p ≡ Some o) where
     -- control moves on to a place
     moves_to : is_pad o ≡ false → (q : ℕ) → StepsTo code n p o q →
-        (k.carries n p ≡ true → k.carries n q ≡ true → (z : ℤ) → x.slots (k.selector n) ≡ number_word z → is_one_of z (k.left n p) ≡ true → is_one_of z (k.left n q) ≡ true) →
+        (k.carries n p ≡ true → k.carries n q ≡ true → (z : ℤ) → x.slots (k.selector n) ≡ number_word z → is_one_of z (k.left n q) ≡ is_one_of z (k.left n p)) →
         Goes marks code k (m + 1) (at (compiled n) q x fs w)
     moves_to other q s left =
         top_goes marks code k (m + 1) (compiled n) q x fs w own.forgets (moves marks code k c n p o there other q s x fs w left own.carries) tt tt rest more
@@ -120,11 +116,13 @@ module _ (marks : Marks) (code : Code) (k : Carrying) (fits : CodeFits marks.kno
       go : (b : Bool) → holds_number (x.slots s) z ≡ b → Goes marks code k (m + 1) (if b then jumped code l (called (compiled n) p x) fs w else on (called (compiled n) p x) x fs w)
       go true e =
           moves_to (jump_filter s z l) there refl (code.label_at n l) (inr (l, refl, refl))
-          (λ here next u number one. subst (λ ns. is_one_of u ns ≡ true) (sym (c.taken n p s l z there here next)) (ap (λ b. b || false) (tested here u number ∙ e)))
+          (λ here next u number.
+          ap (is_one_of u) (c.taken n p s l z there here next) ∙ ap (λ b. b || false) (tested here u number ∙ e) ∙
+          sym (ap (is_one_of u) (c.tests n p s l z there here).1 ∙ ap (λ b. b || is_one_of u (k.left n (p + 1))) (tested here u number ∙ e)))
       go false e =
           moves_to (jump_filter s z l) there refl (p + 1) (inl (refl, refl))
-          (λ here next u number one.
-          second (int_equal u z) (is_one_of u (k.left n (p + 1))) (subst (λ ns. is_one_of u ns ≡ true) (c.tests n p s l z there here).1 one) (tested here u number ∙ e))
+          (λ here next u number.
+          sym (ap (is_one_of u) (c.tests n p s l z there here).1 ∙ ap (λ b. b || is_one_of u (k.left n (p + 1))) (tested here u number ∙ e)))
 
   -- an object is given back
   free_goes : (s : ℕ) → code.op_at n p ≡ Some (free s) → is_being_built w (exception_in_slot x s) ≡ true → Goes marks code k (m + 1) (on (called (compiled n) p x) x fs (freed (exception_in_slot x s) w))
@@ -139,7 +137,7 @@ module _ (marks : Marks) (code : Code) (k : Carrying) (fits : CodeFits marks.kno
       let none = unhandled_building w e w.caught (building_waits w e built) world.built in
       top_goes marks code k (m + 1) (compiled n) (p + 1) x fs u own.forgets
       (moves marks code k c n p (free s) there refl (p + 1) (inl (refl, refl)) x fs u
-      (λ here next z number one. subst (λ l. is_one_of z l ≡ true) (sym (c.others n p (free s) there here refl (λ a l y i. cc i))) one) kept.0.carries)
+      (λ here next z number. ap (is_one_of z) (c.others n p (free s) there here refl (λ a l y i. cc i))) kept.0.carries)
       tt tt kept.1 (without_keeps e v (m + 1) none (quiet_keeps (m + 1) w v q more))
 
   -- what was caught goes on outwards
@@ -157,9 +155,9 @@ module _ (marks : Marks) (code : Code) (k : Carrying) (fits : CodeFits marks.kno
     pub aims_there : (e d : ℕ) → OnItsWay code (called (compiled n) p x) fs carried_word e d w → AimsAt code (type_at w e) d (called (compiled n) p x ∷ fs)
     aims_there e d h = by h.goes
       where
-        by : ((is_one_of h.selector (k.left n p) ≡ true) × (d ≡ length fs)) ⊎ AimsAt code (type_at w e) d (called (compiled n) (k.home n p) x ∷ fs) → AimsAt code (type_at w e) d (called (compiled n) p x ∷ fs)
+        by : ((is_one_of h.selector (k.left n p) ≡ true) × (d ≡ length fs)) ⊎ (IsOther h.selector (k.left n p) × AimsAt code (type_at w e) d (called (compiled n) (k.home n p) x ∷ fs)) → AimsAt code (type_at w e) d (called (compiled n) p x ∷ fs)
         by (inl i) = let never : false ≡ true = sym (ap (is_one_of h.selector) (c.ends n p s there).1) ∙ i.0 in absurd (cc never)
-        by (inr i) = subst (λ q. AimsAt code (type_at w e) d (called (compiled n) q x ∷ fs)) (c.ends n p s there).0 i
+        by (inr i) = subst (λ q. AimsAt code (type_at w e) d (called (compiled n) q x ∷ fs)) (c.ends n p s there).0 i.1
 
     word_goes_on : (word : Word) → x.slots (k.object n) ≡ word → WordGoes marks code (called (compiled n) p x) fs carried_word word w → Goes marks code k (m + 1) (resumed code word (called (compiled n) p x) fs w)
     word_goes_on (flying e d) i h =
@@ -195,7 +193,7 @@ module _ (marks : Marks) (code : Code) (k : Carrying) (fits : CodeFits marks.kno
   pub act_goes : (o : LinearOp) → code.op_at n p ≡ Some o → Goes marks code k (m + 1) (act code o (called (compiled n) p x) fs w)
   act_goes (plain o) there = op_goes o there
   act_goes (label l) there =
-      moves_to (label l) there refl (p + 1) (inl (refl, refl)) (λ here next z number one. subst (λ ns. is_one_of z ns ≡ true) (sym (c.others n p (label l) there here refl (λ a b y i. cc i))) one)
+      moves_to (label l) there refl (p + 1) (inl (refl, refl)) (λ here next z number. ap (is_one_of z) (c.others n p (label l) there here refl (λ a b y i. cc i)))
   act_goes (jump l) there = leaves_path (jump l) there refl refl (code.label_at n l) (inr (l, refl, refl))
   act_goes (jump_zero v l) there = zero_goes v l there (value_in (code.kinds_at n) x w v)
   act_goes (pad o s) there = tt

@@ -13,7 +13,7 @@ use Rattle.exceptions_in_flight.specs.Targets.{judged_by, Lets, LetsPass, StopsA
 use Rattle.flight_homes.specs.Homes.{is_one_of, GoesOnAs}
 use Rattle.flight_homes.specs.Keeps.{Carrying, Carried, TravelsAgain}
 use Rattle.linear_invariant.specs.Handled.{WorldKeeps}
-use Rattle.linear_invariant.specs.Calls.{Marks, WordGoes, FlightGoes, CallKeeps, CallsKeep}
+use Rattle.linear_invariant.specs.Calls.{IsOther, Marks, WordGoes, FlightGoes, CallKeeps, CallsKeep}
 use Rattle.linear_invariant.specs.Code.{CodeCarries}
 use Rattle.linear_invariant.proofs.Calls.{Reached}
 use Rattle.linear_invariant.proofs.Tops.{called, WordForgets, slot_forgets, number_forgets, unwinding_forgets, object_forgets, Goes, top_goes}
@@ -92,16 +92,16 @@ module _ (marks : Marks) (code : Code) (k : Carrying) (c : CodeCarries code k) w
     lets (padded q chain) (inl h) = subst Lets (sym h) tt
     lets (padded q chain) (inr h) = subst Lets (sym h) tt
 
-    pub goes_from : Why (called (compiled n) p x) outer t d chain z → ((is_one_of z (k.left n (q + 1)) ≡ true) × (d ≡ length outer)) ⊎ AimsAt code t d (there ∷ outer)
+    pub goes_from : Why (called (compiled n) p x) outer t d chain z → ((is_one_of z (k.left n (q + 1)) ≡ true) × (d ≡ length outer)) ⊎ (IsOther z (k.left n (q + 1)) × AimsAt code t d (there ∷ outer))
     goes_from (inl h) = go (is_one_of z (k.left n (q + 1))) refl
       where
         other : is_one_of z (k.left n (q + 1)) ≡ false → (u : ℤ) → target z ≡ target u → is_one_of u (k.left n (q + 1)) ≡ false
         other e u i = let same : z ≡ u = cc i in subst (λ m. is_one_of m (k.left n (q + 1)) ≡ false) same e
 
-        go : (b : Bool) → is_one_of z (k.left n (q + 1)) ≡ b → ((is_one_of z (k.left n (q + 1)) ≡ true) × (d ≡ length outer)) ⊎ AimsAt code t d (there ∷ outer)
+        go : (b : Bool) → is_one_of z (k.left n (q + 1)) ≡ b → ((is_one_of z (k.left n (q + 1)) ≡ true) × (d ≡ length outer)) ⊎ (IsOther z (k.left n (q + 1)) × AimsAt code t d (there ∷ outer))
         go true e = inl (e, sym h.0)
-        go false e = inr (inl (h.0, stops (code.cover_at n home) refl (c.lets_on n p q chain t (target z) covers h.1 (other e) (inr (z, refl)))))
-    goes_from (inr h) = inr (inr (lets (code.cover_at n home) (c.lets_on n p q chain t clean covers h.0 (λ u i. absurd (cc i)) (inl refl)), h.2))
+        go false e = inr (inl e, inl (h.0, stops (code.cover_at n home) refl (c.lets_on n p q chain t (target z) covers h.1 (other e) (inr (z, refl)))))
+    goes_from (inr h) = inr (inr h.1, inr (lets (code.cover_at n home) (c.lets_on n p q chain t clean covers h.0 (λ u i. absurd (cc i)) (inl refl)), h.2))
 
   module _ (m : ℕ) (w : World) (outer : List Activation) where
     -- a pad of a compiled function gets a word
@@ -162,9 +162,9 @@ module _ (marks : Marks) (code : Code) (k : Carrying) (c : CodeCarries code k) w
           (slot_forgets marks code k end_catch outer 2 (flying e d) x (λ h. object_forgets marks code k end_catch outer e (flying e d) refl r.free) r.own.forgets))
           (record { can = can; apart = r.apart; again = again; selector = z; number = refl; goes = by why }, marked) r.own.gone tt r.rest world
         where
-          by : Why (called end_catch p x) outer t d (pos 0 ∷ []) z → ((false ≡ true) × (d ≡ length outer)) ⊎ AimsAt code t d (called end_catch 6 (with_slot 3 (number_word z) (with_slot 2 (flying e d) x)) ∷ outer)
+          by : Why (called end_catch p x) outer t d (pos 0 ∷ []) z → ((false ≡ true) × (d ≡ length outer)) ⊎ (IsOther z [] × AimsAt code t d (called end_catch 6 (with_slot 3 (number_word z) (with_slot 2 (flying e d) x)) ∷ outer))
           by (inl h) = absurd (cc h.1)
-          by (inr h) = inr (inr (tt, h.2))
+          by (inr h) = inr (inl refl, inr (tt, h.2))
 
       in_handler : (p : ℕ) (x : Frame) → Reached code k marks e w (called call_unexpected p x) outer → Why (called call_unexpected p x) outer t d (pos 1 ∷ pos 0 ∷ []) z →
           Goes marks code k m (pad_entered (fetch code call_unexpected 3) (flying e d) z call_unexpected 3 x outer w)
@@ -186,9 +186,9 @@ module _ (marks : Marks) (code : Code) (k : Carrying) (c : CodeCarries code k) w
           (slot_forgets marks code k call_unexpected outer 4 (flying e d) x (λ h. object_forgets marks code k call_unexpected outer e (flying e d) refl r.free) r.own.forgets))
           (record { can = can; apart = r.apart; again = again; selector = z; number = refl; goes = by why }, marked) tt tt r.rest world
         where
-          by : Why (called call_unexpected p x) outer t d (pos 0 ∷ []) z → ((false ≡ true) × (d ≡ length outer)) ⊎ AimsAt code t d (called call_unexpected 17 (with_slot 5 (number_word z) (with_slot 4 (flying e d) x)) ∷ outer)
+          by : Why (called call_unexpected p x) outer t d (pos 0 ∷ []) z → ((false ≡ true) × (d ≡ length outer)) ⊎ (IsOther z [] × AimsAt code t d (called call_unexpected 17 (with_slot 5 (number_word z) (with_slot 4 (flying e d) x)) ∷ outer))
           by (inl h) = absurd (cc h.1)
-          by (inr h) = inr (inr (tt, h.2))
+          by (inr h) = inr (inl refl, inr (tt, h.2))
 
       pub excepted : (f : Function) (p : ℕ) (x : Frame) (q : ℕ) (chain : List ℤ) → look code f p ≡ padded q chain → Reached code k marks e w (called f p x) outer → Why (called f p x) outer t d chain z →
           Goes marks code k m (pad_entered (fetch code f q) (flying e d) z f q x outer w)
@@ -207,10 +207,11 @@ module _ (marks : Marks) (code : Code) (k : Carrying) (c : CodeCarries code k) w
             marked,
           )))
         where
-          by : (v : Frame) (cd : Carried) → cd.home ≡ k.home n (q + 1) → cd.left ≡ k.left n (q + 1) → ((is_one_of z (k.left n (q + 1)) ≡ true) × (d ≡ length outer)) ⊎ AimsAt code t d (called (compiled n) (k.home n (q + 1)) v ∷ outer) →
-              ((is_one_of z cd.left ≡ true) × (d ≡ length outer)) ⊎ AimsAt code t d (called (compiled n) cd.home v ∷ outer)
+          by : (v : Frame) (cd : Carried) → cd.home ≡ k.home n (q + 1) → cd.left ≡ k.left n (q + 1) →
+              ((is_one_of z (k.left n (q + 1)) ≡ true) × (d ≡ length outer)) ⊎ (IsOther z (k.left n (q + 1)) × AimsAt code t d (called (compiled n) (k.home n (q + 1)) v ∷ outer)) →
+              ((is_one_of z cd.left ≡ true) × (d ≡ length outer)) ⊎ (IsOther z cd.left × AimsAt code t d (called (compiled n) cd.home v ∷ outer))
           by v cd at_home own (inl h) = inl (ap (is_one_of z) own ∙ h.0, h.1)
-          by v cd at_home own (inr h) = inr (subst (λ i. AimsAt code t d (called (compiled n) i v ∷ outer)) (sym at_home) h)
+          by v cd at_home own (inr h) = inr (subst (IsOther z) (sym own) h.0, subst (λ i. AimsAt code t d (called (compiled n) i v ∷ outer)) (sym at_home) h.1)
       excepted end_catch p x q chain covers r why = go (catch_pads p q chain covers)
         where
           go : (4 ≡ q) × (pos 0 ∷ [] ≡ chain) → Goes marks code k m (pad_entered (fetch code end_catch q) (flying e d) z end_catch q x outer w)

@@ -78,7 +78,7 @@ module _ (marks : Marks) (code : Code) (k : Carrying) (c : CodeCarries code k) (
       goes_behind o there =
           top_goes marks code k (m + 1) (compiled n) (q + 1) y fs w own.forgets
           (moves marks code k c n q (plain o) there refl (q + 1) (inl (refl, refl)) y fs w
-          (λ here next u number one. subst (λ l. is_one_of u l ≡ true) (sym (c.others n q (plain o) there here refl (λ s l v e. cc e))) one) carries)
+          (λ here next u number. ap (is_one_of u) (c.others n q (plain o) there here refl (λ s l v e. cc e))) carries)
           tt tt rest more
 
       stores : (p : Place) (v : Value) → code.op_at n q ≡ Some (plain (store p v)) → Goes marks code k (m + 1) (settled (finished (code.kinds_at n) (Some p) z y w) (called (compiled n) q y) fs w)

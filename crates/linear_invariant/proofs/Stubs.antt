@@ -26,7 +26,7 @@ use Rattle.flight_homes.specs.Whole.{IsWhole}
 use Rattle.flight_homes.specs.WholeCalls.{CallsWhole}
 use Rattle.linear_invariant.specs.Held.{NoneHolds}
 use Rattle.linear_invariant.specs.Handled.{Unhandled, EachOnce, IsGone, WorldKeeps}
-use Rattle.linear_invariant.specs.Calls.{Marks, WordGoes, FlightGoes, IsStopped, StubHolds, CallKeeps, CallsKeep}
+use Rattle.linear_invariant.specs.Calls.{IsOther, Marks, WordGoes, FlightGoes, IsStopped, StubHolds, CallKeeps, CallsKeep}
 use Rattle.linear_invariant.specs.Code.{CodeCarries, CodeFits}
 use Rattle.linear_invariant.specs.Stands.{NewMarked}
 use Rattle.linear_invariant.proofs.Lists.{other_way}
@@ -196,9 +196,9 @@ module _ (marks : Marks) (code : Code) (k : Carrying) (fits : CodeFits marks.kno
     resumes own (flying e d) i h =
         resumed_goes marks code k c (m + 1) e d (called end_catch 6 x) fs w (by h.0.goes) own rest more h.0.can h.0.again h.0.apart (own.forgets 2 e tt (ap address_in i)) h.1
       where
-        by : ((false ≡ true) × (d ≡ length fs)) ⊎ AimsAt code (type_at w e) d (called end_catch 6 x ∷ fs) → AimsAt code (type_at w e) d (called end_catch 6 x ∷ fs)
+        by : ((false ≡ true) × (d ≡ length fs)) ⊎ (IsOther h.0.selector [] × AimsAt code (type_at w e) d (called end_catch 6 x ∷ fs)) → AimsAt code (type_at w e) d (called end_catch 6 x ∷ fs)
         by (inl j) = absurd (cc j.0)
-        by (inr j) = j
+        by (inr j) = j.1
     resumes own (unwinding z) i h = force_goes marks code k c (m + 1) w more z h.1 (called end_catch 6 x) fs own rest
     resumes own nothing i h = absurd h
     resumes own (number_word z) i h = absurd h
@@ -288,9 +288,9 @@ module _ (marks : Marks) (code : Code) (k : Carrying) (fits : CodeFits marks.kno
     resumes_out own (flying e d) i h =
         resumed_goes marks code k c (m + 1) e d (called call_unexpected 17 x) fs w (by h.0.goes) own rest more h.0.can h.0.again h.0.apart (own.forgets 4 e tt (ap address_in i)) h.1
       where
-        by : ((false ≡ true) × (d ≡ length fs)) ⊎ AimsAt code (type_at w e) d (called call_unexpected 17 x ∷ fs) → AimsAt code (type_at w e) d (called call_unexpected 17 x ∷ fs)
+        by : ((false ≡ true) × (d ≡ length fs)) ⊎ (IsOther h.0.selector [] × AimsAt code (type_at w e) d (called call_unexpected 17 x ∷ fs)) → AimsAt code (type_at w e) d (called call_unexpected 17 x ∷ fs)
         by (inl j) = absurd (cc j.0)
-        by (inr j) = j
+        by (inr j) = j.1
     resumes_out own (unwinding z) i h = force_goes marks code k c (m + 1) w more z h.1 (called call_unexpected 17 x) fs own rest
     resumes_out own nothing i h = absurd h
     resumes_out own (number_word z) i h = absurd h

@@ -12,7 +12,7 @@ use Rattle.flight_homes.specs.Homes.{is_one_of}
 use Rattle.flight_homes.specs.Keeps.{Carrying, Carried, carried, compiled_carried, destroyed_in, is_help_in}
 use Rattle.linear_invariant.specs.Held.{NoneHolds}
 use Rattle.linear_invariant.specs.Handled.{WorldKeeps, IsGone}
-use Rattle.linear_invariant.specs.Calls.{Marks, WordGoes, FlightGoes, StubHolds, CallKeeps, CallsKeep}
+use Rattle.linear_invariant.specs.Calls.{IsOther, Marks, WordGoes, FlightGoes, StubHolds, CallKeeps, CallsKeep}
 use Rattle.linear_invariant.specs.Code.{StepsTo, carries_on, CodeCarries}
 use Rattle.linear_invariant.proofs.Worlds.{Quiet, quiet_keeps}
 use Rattle.linear_invariant.proofs.Calls.{waits_now, calls_quiet}
@@ -157,17 +157,24 @@ module _ (marks : Marks) (code : Code) (k : Carrying) where
     at_place q x = record { word = x.slots (k.object n); home = k.home n q; number = x.slots (k.selector n); left = k.left n q }
 
     module _ (q : ℕ) (s : StepsTo code n p o q) (x : Frame) (fs : List Activation) (w : World)
-        (left : k.carries n p ≡ true → k.carries n q ≡ true → (z : ℤ) → x.slots (k.selector n) ≡ number_word z → is_one_of z (k.left n p) ≡ true → is_one_of z (k.left n q) ≡ true) where
+        (left : k.carries n p ≡ true → k.carries n q ≡ true → (z : ℤ) → x.slots (k.selector n) ≡ number_word z → is_one_of z (k.left n q) ≡ is_one_of z (k.left n p)) where
       word_moves : (word : Word) → k.carries n p ≡ true → k.carries n q ≡ true → WordGoes marks code (called (compiled n) p x) fs (at_place p x) word w → WordGoes marks code (called (compiled n) q x) fs (at_place q x) word w
       word_moves (flying e d) here next h = (record { can = h.0.can; apart = h.0.apart; again = h.0.again; selector = h.0.selector; number = h.0.number; goes = by h.0.goes }, h.1)
         where
           same : k.home n q ≡ k.home n p
           same = c.stays n p q o there s here next
 
-          by : ((is_one_of h.0.selector (k.left n p) ≡ true) × (d ≡ length fs)) ⊎ AimsAt code (type_at w e) d (called (compiled n) (k.home n p) x ∷ fs) →
-              ((is_one_of h.0.selector (k.left n q) ≡ true) × (d ≡ length fs)) ⊎ AimsAt code (type_at w e) d (called (compiled n) (k.home n q) x ∷ fs)
-          by (inl i) = inl (left here next h.0.selector h.0.number i.0, i.1)
-          by (inr i) = inr (subst (λ m. AimsAt code (type_at w e) d (called (compiled n) m x ∷ fs)) (sym same) i)
+          still : is_one_of h.0.selector (k.left n q) ≡ is_one_of h.0.selector (k.left n p)
+          still = left here next h.0.selector h.0.number
+
+          still_other : IsOther h.0.selector (k.left n p) → IsOther h.0.selector (k.left n q)
+          still_other (inl i) = inl (still ∙ i)
+          still_other (inr i) = inr i
+
+          by : ((is_one_of h.0.selector (k.left n p) ≡ true) × (d ≡ length fs)) ⊎ (IsOther h.0.selector (k.left n p) × AimsAt code (type_at w e) d (called (compiled n) (k.home n p) x ∷ fs)) →
+              ((is_one_of h.0.selector (k.left n q) ≡ true) × (d ≡ length fs)) ⊎ (IsOther h.0.selector (k.left n q) × AimsAt code (type_at w e) d (called (compiled n) (k.home n q) x ∷ fs))
+          by (inl i) = inl (still ∙ i.0, i.1)
+          by (inr i) = inr (still_other i.0, subst (λ m. AimsAt code (type_at w e) d (called (compiled n) m x ∷ fs)) (sym same) i.1)
       word_moves (unwinding z) here next h = h
       word_moves nothing here next h = h
       word_moves (number_word z) here next h = h

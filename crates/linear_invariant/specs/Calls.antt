@@ -15,15 +15,19 @@ use Rattle.flight_homes.specs.Lives.{Known}
 use Rattle.linear_invariant.specs.Held.{carried_below, NoneHolds}
 use Rattle.linear_invariant.specs.Handled.{IsGone}
 
+-- a number is that of no filter still to be tested, or the 0 of a cleanup
+abbrev pub IsOther : ℤ → List ℤ → Type 0
+IsOther n left = (is_one_of n left ≡ false) ⊎ (n ≡ pos 0)
+
 -- An exception on its way, carried by an open call: it can travel, the call itself does not wait for its destructor, and no handler has it that could leave it;
--- it has come to its target, where a filter of the pad is still to be tested for it, or aims at one from the place from which it goes on.
+-- it has come to its target, where a filter of the pad is still to be tested for it, or, with another number, it aims at one from the place from which it goes on.
 pub record OnItsWay (code : Code) (a : Activation) (outer : List Activation) (c : Carried) (e d : ℕ) (w : World) : Type 0 where
   pub can : can_travel w e ≡ true
   pub apart : contains (destroyed_in a.function a.frame) e ≡ false
   pub again : TravelsAgain e w.caught
   pub selector : ℤ
   pub number : c.number ≡ number_word selector
-  pub goes : (is_one_of selector c.left ≡ true × (d ≡ length outer)) ⊎ AimsAt code (type_at w e) d (record { function = a.function; place = c.home; frame = a.frame } ∷ outer)
+  pub goes : (is_one_of selector c.left ≡ true × (d ≡ length outer)) ⊎ (IsOther selector c.left × AimsAt code (type_at w e) d (record { function = a.function; place = c.home; frame = a.frame } ∷ outer))
 
 -- what is known of destructors, and of each word that a call carries
 pub record Marks : Type 1 where

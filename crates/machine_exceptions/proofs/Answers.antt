@@ -228,6 +228,5 @@ answers_run places turns made = record {
   uncaught = λ image p n st next w o wants h at calls asks. uncaught_run places turns made image p n st next w o wants h at calls asks;
   terminate_set = λ image p n m st next w o h at calls known. terminate_set_run places turns made image p n m st next w o h at calls known;
   unexpected_set = λ image p n m st next w o h at calls known. unexpected_set_run places turns made image p n m st next w o h at calls known;
-  module_called = λ image p n st next w o wants e k z replies h at calls value asks is few answers int.
-      module_run places turns made image p n st next w o wants e k z replies h at calls value asks is few answers int;
+  module_called = λ image p n st next w o wants k z replies h at calls asks few answers int. module_run places turns made image p n st next w o wants k z replies h at calls asks few answers int;
 }

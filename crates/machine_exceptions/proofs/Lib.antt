@@ -27,6 +27,7 @@ pub mod Filters
 pub mod Answering
 pub mod Builtins
 pub mod Targets
+pub mod ModuleCalls
 pub mod Modules
 pub mod Answers
 pub mod Terminating

@@ -1,7 +1,6 @@
 -- A call of a module that answers with a value is matched.
-use Rattle.std.proofs.Common.{◌≡◌, ◌∙◌, refl, sym, ap, subst, arith, ℕ, zero, suc, ◌+◌, ◌%◌, ◌^◌, ◌<◌, ◌≤◌, ℤ, pos, negsuc, List, [], ◌∷◌, ◌++◌, append-nil, length, length-append, Option, Some, None, inl, inr}
+use Rattle.std.proofs.Common.{◌≡◌, ◌∙◌, refl, sym, ap, subst, arith, ℕ, zero, suc, ◌%◌, ◌^◌, ◌<◌, ◌≤◌, ℤ, pos, negsuc, List, [], ◌∷◌, length, Option, Some, None, inr}
 use Rattle.std.specs.Prelude.{slice_get, slice_set}
-use Rattle.cxx_ast.specs.declared.name.Builtin.TheVariants.{Module}
 use Rattle.eh_outer.specs.declared.module.Reply.{Reply}
 use Rattle.eh_outer.specs.declared.module.Reply.TheVariants.{Value as ValueReply, Raise}
 use Rattle.rv64_isa.specs.Step.{x}
@@ -11,43 +10,32 @@ use Rattle.cxa_runtime.specs.Raising.{Image}
 use Rattle.cxa_runtime.specs.Foreign.{module_call, module_number, asked as module_asked}
 use Rattle.cxa_runtime.specs.Call.{call_effect, numbered}
 use Rattle.cxa_runtime.specs.Run.{counted}
-use Rattle.region_forms.specs.Form.{Kinds, Place, Value, int_argument, no_arguments, argument_then}
-use Rattle.region_forms.specs.World.{Frame, World, number_word}
-use Rattle.region_forms.specs.Evaluation.{value_in, with_some}
-use Rattle.region_forms.specs.Effect.{if_some, finished, module_called, replied, number_at}
+use Rattle.region_forms.specs.Form.{Kinds, Place}
+use Rattle.region_forms.specs.World.{Frame, World}
+use Rattle.region_forms.specs.Effect.{finished, module_called, replied}
 use Rattle.linear_forms.specs.Linear.{LinearOp}
 use Rattle.linear_forms.specs.Activation.{State as LinearState, goes_to}
 use Rattle.linear_forms.specs.Operation.{performed}
 use Rattle.linear_forms.specs.UnitRun.{code_of}
-use Rattle.machine_forms.specs.Bounds.{LinearFits}
 use Rattle.machine_forms.specs.Registers.{sp, a0}
-use Rattle.machine_forms.specs.Piece.{Piece}
-use Rattle.machine_forms.specs.ValueCode.{needs, value_code}
-use Rattle.machine_forms.specs.RuntimeCall.{runtime_call}
 use Rattle.machine_forms.specs.LinearCode.{linear_code}
-use Rattle.machine_forms.specs.Routine.{op_word}
 use Rattle.machine_pieces.specs.Numbers.{IsInt, extended}
-use Rattle.machine_pieces.specs.Standing.{Ground}
 use Rattle.machine_pieces.specs.Laws.{PlacesAreWritten, CallsAreTurns}
-use Rattle.machine_pieces.proofs.Fetching.{pieces_split}
 use Rattle.machine_pieces.proofs.Numbers.{small_pos, small_neg}
 use Rattle.machine_pieces.proofs.Registers.{set_length, read_same, read_other}
-use Rattle.machine_pieces.proofs.Testing.{values_are_computed}
 use Rattle.machine_stubs.specs.Calls.{asked, CallsAreMade}
-use Rattle.machine_simulation.specs.Plan.{Plan, shape, slot_kinds, routine, first_word, setting}
-use Rattle.machine_simulation.specs.Calls.{stored_in}
+use Rattle.machine_simulation.specs.Plan.{Plan, shape, slot_kinds}
 use Rattle.machine_simulation.specs.Matches.{Matches}
 use Rattle.machine_simulation.specs.Operations.{Matched}
-use Rattle.machine_simulation.specs.Asked.{ValueAsked, WantedAsked}
+use Rattle.machine_simulation.specs.Asked.{WantedAsked}
 use Rattle.machine_simulation.specs.Runs.{StepAt}
-use Rattle.machine_simulation.proofs.Words.{OperationAt, operation_at}
-use Rattle.machine_simulation.proofs.Asked.{value_stands, wanted_stands}
-use Rattle.machine_simulation.proofs.Matching.{stands_by, ready_here, runtime_stays}
+use Rattle.machine_simulation.proofs.Asked.{wanted_stands}
+use Rattle.machine_simulation.proofs.Matching.{stands_by, runtime_stays}
 use Rattle.machine_simulation.proofs.Holding.{same_number}
 use Rattle.machine_simulation.proofs.Reading.{finished_step}
-use Rattle.machine_exceptions.specs.Answers.{CallsBuiltin, answer_in, answer_of}
+use Rattle.machine_exceptions.specs.Answers.{CallsModule, answer_in, answer_of}
 use Rattle.machine_exceptions.proofs.Answering.{answered}
-use Rattle.machine_exceptions.proofs.Builtins.{builtin_op}
+use Rattle.machine_exceptions.proofs.ModuleCalls.{module_begins}
 
 module_is : (image : Image) (wish : ℕ) (t : abi.World) → call_effect 14 image wish t ≡ module_call image wish t
 unfolding call_effect numbered
@@ -148,39 +136,24 @@ module_answers image wish (negsuc k) z replies t int given few e =
 
 -- ---- all of it
 
-pub module_run : PlacesAreWritten → CallsAreTurns → CallsAreMade → (image : Image) (p : Plan) (n : ℕ) (st next : LinearState) (w : abi.World) (o : LinearOp) (wants : Option Place) (e : Value) (k z : ℤ) (replies : List (List Reply)) → Matches p st w →
-    StepAt p st next n o → CallsBuiltin Module (argument_then (int_argument e) no_arguments) wants o → ValueAsked p n st.top.frame st.world e → WantedAsked p n st.top.frame wants → value_in (slot_kinds p n) st.top.frame st.world e ≡ Some k →
-    length st.world.replies ≤ 2 ^ 31 → answer_of k st.world.replies ≡ Some (z, replies) → IsInt z → Matched image (length (linear_code (shape p n) o)) w [] (λ u. Matches p next u)
-module_run places turns made image p n st next w o wants e k z replies h at calls asked_value asks is few answers int =
+pub module_run : PlacesAreWritten → CallsAreTurns → CallsAreMade → (image : Image) (p : Plan) (n : ℕ) (st next : LinearState) (w : abi.World) (o : LinearOp) (wants : Option Place) (k z : ℤ) (replies : List (List Reply)) → Matches p st w →
+    StepAt p st next n o → CallsModule p n st wants o k → WantedAsked p n st.top.frame wants → length st.world.replies ≤ 2 ^ 31 → answer_of k st.world.replies ≡ Some (z, replies) → IsInt z →
+    Matched image (length (linear_code (shape p n) o)) w [] (λ u. Matches p next u)
+module_run places turns made image p n st next w o wants k z replies h at calls asks few answers int =
     let stood = stands_by p n st w h at.runs in
-    let g : Ground = (setting p n).ground in
-    let here : ℕ = first_word p n + op_word (routine p n) st.top.place in
-    let op = builtin_op p n Module (argument_then (int_argument e) no_arguments) st o at.runs at.there wants calls (inr refl) in
-    let front : List Piece = value_code (shape p n) 0 e in
-    let rear : List Piece = runtime_call 14 ++ stored_in (shape p n) wants in
-    let pieces : linear_code (shape p n) o ≡ front ++ rear = op.pieces ∙ ap (λ ps. ps ++ rear) (append-nil front) in
-    let own : OperationAt p w.hart.memory n st.top.place (front ++ rear) = subst (OperationAt p w.hart.memory n st.top.place) pieces (operation_at p w.hart.memory n st.top.place o stood.memory.unit stood.memory.top.known at.there) in
-    let sum : length (front ++ rear) ≡ length front + length rear = length-append front rear in
-    let short = stood.memory.unit.short n stood.memory.top.known in
-    let parts = pieces_split w.hart.memory g here front rear own.code in
-    let stands = value_stands p n st.top.frame st.world w.hart.memory (x w.hart sp) h.back stood.memory.top e asked_value in
-    let value = values_are_computed.value (setting p n) (shape p n) (slot_kinds p n) st.top.frame st.world e k 0 here w.hart stands is (module_fits calls (stood.memory.unit.registers n st.top.place o at.there)) (omega (arith, own.inside, sum, short)) parts.0 stood.pc
-    (ready_here p n st w h.back stood) in
+    let begins = module_begins p n st w h.back wants o k stood at.there calls in
     let u : World = with_replies replies st.world in
-    let steps = op.steps next at.step in
     let gave : performed (code_of p.unit) (finished (slot_kinds p n) wants z st.top.frame u) st.top st.frames st.world ≡ goes_to next
-    = ap (λ f. performed (code_of p.unit) f st.top st.frames st.world) (sym (module_gives (slot_kinds p n) wants k z replies st.top.frame st.world answers))
-    ∙ ap (λ q. performed (code_of p.unit) (if_some (with_some (with_some q (λ y. Some (number_word y))) (λ word. Some (word ∷ []))) (λ given. module_called (slot_kinds p n) wants (number_at given 0) st.top.frame st.world)) st.top st.frames st.world) (sym is)
-    ∙ steps in
+    = ap (λ f. performed (code_of p.unit) f st.top st.frames st.world) (sym (module_gives (slot_kinds p n) wants k z replies st.top.frame st.world answers)) ∙ begins.steps next at.step in
     let went = finished_step (code_of p.unit) (slot_kinds p n) wants z u st next gave in
-    answered places turns image p n 14 st next w h.back o wants front u z stood at.there pieces (omega arith) value.computes.goes (record { memory = refl; calls = refl; later = same_number st.world })
+    answered places turns image p n 14 st next w h.back o wants begins.front u z stood at.there begins.pieces (omega arith) begins.value.computes.goes (record { memory = refl; calls = refl; later = same_number st.world })
     (wanted_stands p n st.top.frame st.world w.hart.memory (x w.hart sp) h.back stood.memory.top wants asks) went (λ ec.
     let t : abi.World = asked ec.behind ec.at in
     let r = runtime_stays p st.frames st.world w ec.at ec.runtime stood.runtime in
     let end : abi.World = gives 10 (extended z) (record t { replies = replies }) in
-    let given : argument t 10 ≡ extended k = ec.kept a0 (λ d. absurd (omega (arith, d))) ∙ value.computes.is in
+    let given : argument t 10 ≡ extended k = ec.kept a0 (λ d. absurd (omega (arith, d))) ∙ begins.value.computes.is in
     let effect : (wish : ℕ) → call_effect 14 image wish t ≡ abi.goes end = λ wish.
-    module_is image wish t ∙ module_answers image wish k z replies t value.int given (omega (arith, few, ap length r.replies)) (ap (answer_of k) r.replies ∙ answers) in
+    module_is image wish t ∙ module_answers image wish k z replies t begins.value.int given (omega (arith, few, ap length r.replies)) (ap (answer_of k) r.replies ∙ answers) in
     record {
       after = counted end;
       turn = made.goes_on image 14 ec.at end ec.behind ec.calls ec.asks effect refl;
@@ -191,8 +164,3 @@ module_run places turns made image p n st next w o wants e k z replies h at call
       value = inr (int, read_same ec.behind.regs 10 (extended z) (λ d. absurd (omega (arith, d))) (omega (arith, ec.registers)));
       runtime = record { input = r.input; replies = refl; last_number = r.last_number; terminating = r.terminating; exceptions = r.exceptions; plan = r.plan };
     })
-  where
-    module_fits : CallsBuiltin Module (argument_then (int_argument e) no_arguments) wants o → LinearFits o → 0 + needs e ≤ 15
-    module_fits (inl s) few = (subst LinearFits s.2 few).0
-    module_fits (inr (inl s)) few = (subst LinearFits s.1 few).0
-    module_fits (inr (inr s)) few = (subst LinearFits s.1 few).0

@@ -23,6 +23,21 @@ abbrev pub CallsBuiltin : Builtin → Arguments → Option Place → LinearOp �
 CallsBuiltin b args wants o =
     ((q : Place) × (wants ≡ Some q) × (o ≡ plain (store q (call_value (builtin b) args)))) ⊎ ((wants ≡ None) × (o ≡ plain (evaluate (call_value (builtin b) args)))) ⊎ ((wants ≡ None) × (o ≡ plain (call (builtin b) args)))
 
+-- what a module is called with: its number, and another int
+abbrev pub both_ints : (number other : Value) → Arguments
+both_ints v u = argument_then (int_argument v) (argument_then (int_argument u) no_arguments)
+
+-- a call of the module with a number; the other int is one too, which the runtime does not read
+pub record CallsModule (p : Plan) (n : ℕ) (st : State) (wants : Option Place) (o : LinearOp) (k : ℤ) : Type 0 where
+  pub number : Value
+  pub other : Value
+  pub calls : CallsBuiltin Module (both_ints number other) wants o
+  pub asked : ValueAsked p n st.top.frame st.world number
+  pub other_asked : ValueAsked p n st.top.frame st.world other
+  pub is : value_in (slot_kinds p n) st.top.frame st.world number ≡ Some k
+  pub given : ℤ
+  pub other_is : value_in (slot_kinds p n) st.top.frame st.world other ≡ Some given
+
 -- what a module answers with a value, and the replies that are left behind; none where it raises
 abbrev pub value_of : Reply → ℕ → List (List Reply) → List Reply → Option (ℤ × List (List Reply))
 value_of (ValueReply v) k replies left = Some (v, slice_set replies k left)
@@ -46,6 +61,5 @@ pub record AnswersRun : Type 0 where
       m < length p.unit.functions → Matched image (length (linear_code (shape p n) o)) w [] (λ u. Matches p next u)
   pub unexpected_set : (image : Image) (p : Plan) (n m : ℕ) (st next : State) (w : abi.World) (o : LinearOp) → Matches p st w → StepAt p st next n o → CallsBuiltin SetUnexpected (argument_then (handler_argument m) no_arguments) None o →
       m < length p.unit.functions → Matched image (length (linear_code (shape p n) o)) w [] (λ u. Matches p next u)
-  pub module_called : (image : Image) (p : Plan) (n : ℕ) (st next : State) (w : abi.World) (o : LinearOp) (wants : Option Place) (e : Value) (k z : ℤ) (replies : List (List Reply)) → Matches p st w → StepAt p st next n o →
-      CallsBuiltin Module (argument_then (int_argument e) no_arguments) wants o → ValueAsked p n st.top.frame st.world e → WantedAsked p n st.top.frame wants → value_in (slot_kinds p n) st.top.frame st.world e ≡ Some k →
-      length st.world.replies ≤ 2 ^ 31 → answer_of k st.world.replies ≡ Some (z, replies) → IsInt z → Matched image (length (linear_code (shape p n) o)) w [] (λ u. Matches p next u)
+  pub module_called : (image : Image) (p : Plan) (n : ℕ) (st next : State) (w : abi.World) (o : LinearOp) (wants : Option Place) (k z : ℤ) (replies : List (List Reply)) → Matches p st w → StepAt p st next n o → CallsModule p n st wants o k →
+      WantedAsked p n st.top.frame wants → length st.world.replies ≤ 2 ^ 31 → answer_of k st.world.replies ≡ Some (z, replies) → IsInt z → Matched image (length (linear_code (shape p n) o)) w [] (λ u. Matches p next u)

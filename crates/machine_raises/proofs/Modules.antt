@@ -1,8 +1,7 @@
 -- A module raises an exception on both machines.
-use Rattle.std.proofs.Common.{◌≡◌, ◌∙◌, refl, sym, ap, subst, arith, ℕ, ◌+◌, ◌%◌, ◌^◌, ◌<◌, ◌≤◌, true, false, pos, List, [], ◌∷◌, ◌++◌, length, length-append, append-nil, Option, Some, None, inl, inr, is_some}
+use Rattle.std.proofs.Common.{◌≡◌, ◌∙◌, refl, sym, ap, subst, arith, ℕ, ◌+◌, ◌%◌, ◌^◌, ◌<◌, true, false, pos, List, [], ◌∷◌, ◌++◌, length, length-append, Option, Some, None, is_some}
 use Rattle.std.specs.Prelude.{slice_get, slice_set, if◌then◌else◌}
 use Rattle.std.proofs.lemmas.Bool.Decides.{nat_tests}
-use Rattle.cxx_ast.specs.declared.name.Builtin.TheVariants.{Module}
 use Rattle.eh_outer.specs.declared.module.Reply.{Reply}
 use Rattle.eh_outer.specs.declared.module.Reply.TheVariants.{Raise}
 use Rattle.run_items.specs.declared.item.Item.TheVariants.{Foreign}
@@ -23,10 +22,9 @@ use Rattle.cxa_runtime.specs.Foreign.{foreign_object, foreign_made, raised_in, m
 use Rattle.cxa_runtime.specs.Call.{call_effect, numbered}
 use Rattle.cxa_runtime.specs.Run.{counted}
 use Rattle.eh_run.specs.Program.{program_of}
-use Rattle.region_forms.specs.Form.{Place, Value, int_argument, no_arguments, argument_then}
-use Rattle.region_forms.specs.World.{of_exception, World, Exception, foreign, number_word, exception_type, type_at}
-use Rattle.region_forms.specs.Evaluation.{value_in, with_some}
-use Rattle.region_forms.specs.Effect.{if_some, terminates, raises, module_called, replied, number_at, is_full, flies}
+use Rattle.region_forms.specs.Form.{Place}
+use Rattle.region_forms.specs.World.{of_exception, World, Exception, foreign, exception_type, type_at}
+use Rattle.region_forms.specs.Effect.{terminates, raises, replied, is_full, flies}
 use Rattle.linear_forms.specs.Linear.{LinearOp}
 use Rattle.linear_forms.specs.Search.{found_above}
 use Rattle.linear_forms.specs.Stub.{compiled, terminating}
@@ -34,33 +32,29 @@ use Rattle.linear_forms.specs.Activation.{Activation, State as LinearState, goes
 use Rattle.linear_forms.specs.Operation.{performed}
 use Rattle.linear_forms.specs.Unwinding.{raise}
 use Rattle.linear_forms.specs.UnitRun.{code_of}
-use Rattle.machine_forms.specs.Bounds.{LinearFits}
 use Rattle.machine_forms.specs.Registers.{sp, a0}
 use Rattle.machine_forms.specs.Piece.{Piece}
-use Rattle.machine_forms.specs.ValueCode.{needs, value_code}
 use Rattle.machine_forms.specs.RuntimeCall.{runtime_call}
 use Rattle.machine_forms.specs.LinearCode.{linear_code}
 use Rattle.machine_forms.specs.Routine.{op_word}
 use Rattle.machine_pieces.specs.Numbers.{extended}
 use Rattle.machine_pieces.specs.Standing.{Ground}
-use Rattle.machine_pieces.specs.Laws.{CallsAreTurns, ValuesAreComputed}
+use Rattle.machine_pieces.specs.Laws.{CallsAreTurns}
 use Rattle.machine_pieces.proofs.Fetching.{pieces_split}
 use Rattle.machine_pieces.proofs.Numbers.{small_pos}
 use Rattle.machine_stubs.specs.Calls.{asked, CallsAreMade}
 use Rattle.raise_simulation.specs.Raises.{RaisesAgree}
 use Rattle.machine_simulation.specs.Plan.{Plan, shape, slot_kinds, routine, first_word, setting}
-use Rattle.machine_simulation.specs.Asked.{ValueAsked}
 use Rattle.machine_simulation.specs.Calls.{stored_in}
 use Rattle.machine_simulation.specs.Exceptions.{addresses_of, exceptions_in, kept_by, destroyed, live_in}
 use Rattle.machine_simulation.specs.Matches.{RuntimeMatches, MemoryMatches}
 use Rattle.machine_simulation.specs.Runs.{StepAt}
-use Rattle.machine_simulation.proofs.Asked.{value_stands}
 use Rattle.machine_simulation.proofs.Words.{OperationAt, operation_at}
-use Rattle.machine_simulation.proofs.Matching.{Stands, stands_by, ready_here, runtime_stays}
-use Rattle.machine_exceptions.specs.Answers.{CallsBuiltin}
+use Rattle.machine_simulation.proofs.Matching.{Stands, stands_by, runtime_stays}
+use Rattle.machine_exceptions.specs.Answers.{CallsModule}
 use Rattle.machine_simulation.specs.Objects.{with_object}
 use Rattle.machine_exceptions.specs.Picks.{TurnsFor}
-use Rattle.machine_exceptions.proofs.Builtins.{builtin_op}
+use Rattle.machine_exceptions.proofs.ModuleCalls.{module_begins}
 use Rattle.machine_exceptions.proofs.Ecalls.{ecall_reached}
 use Rattle.machine_exceptions.proofs.Enters.{exception_is}
 use Rattle.machine_exceptions.proofs.Headers.{slot_below}
@@ -86,11 +80,6 @@ module_is image wish t = refl
 some_there : (o : Option Exception) → is_some o ≡ true → (z : Exception) × (o ≡ Some z)
 some_there None h = absurd (cc h)
 some_there (Some z) h = (z, refl)
-
-module_fits : (e : Value) (wants : Option Place) (o : LinearOp) → CallsBuiltin Module (argument_then (int_argument e) no_arguments) wants o → LinearFits o → 0 + needs e ≤ 15
-module_fits e wants o (inl s) few = (subst LinearFits s.2 few).0
-module_fits e wants o (inr (inl s)) few = (subst LinearFits s.1 few).0
-module_fits e wants o (inr (inr s)) few = (subst LinearFits s.1 few).0
 
 -- ---- the unwinder's answer
 plain_with : (p : Plan) (e slot : ℕ) → PadsArePlain p → PadsArePlain (with_object p e slot)
@@ -164,31 +153,27 @@ pub record RaisedIn (p : Plan) (i : CleanImage) (pick : ℕ → ℕ) (st next : 
   pub world : next.world ≡ flies (st.world.last_number + 1) (foreign_world st.world k token left)
   pub raised : RaisedForTo p i pick st next w (st.world.last_number + 1) words (Foreign (st.world.last_number + 1) k token ∷ []) (R (with_object p (st.world.last_number + 1) slot))
 
-pub module_runs : CallsAreTurns → CallsAreMade → ValuesAreComputed → RaisesAgree → (words : ℕ) (R : Plan → abi.World → Type 0) (i : CleanImage) (pick : ℕ → ℕ) (p : Plan) (n : ℕ) (st next : LinearState) (w : abi.World) (back : ℕ) (o : LinearOp)
-    (wants : Option Place) (e0 : Value) (k token : ℕ) (left : List Reply) → EntersPad i st.top next words R → (next.top.function ≡ terminating → ⊥) → Stands p n st w back → IsRunning p i w.hart → StepAt p st next n o →
-    CallsBuiltin Module (argument_then (int_argument e0) no_arguments) wants o → ValueAsked p n st.top.frame st.world e0 → value_in (slot_kinds p n) st.top.frame st.world e0 ≡ Some (pos k) → slice_get st.world.replies k ≡ Some (Raise token ∷ left) →
-    is_full st.world ≡ false → PadsArePlain p → FiltersAreInts p → RaisedIn p i pick st next w k token (length (linear_code (shape p n) o) + words) left R
-module_runs turns made values agree words R i pick p n st next w back o wants e0 k token left enters alive h running at calls asks is reply free plains ints =
+pub module_runs : CallsAreTurns → CallsAreMade → RaisesAgree → (words : ℕ) (R : Plan → abi.World → Type 0) (i : CleanImage) (pick : ℕ → ℕ) (p : Plan) (n : ℕ) (st next : LinearState) (w : abi.World) (back : ℕ) (o : LinearOp)
+    (wants : Option Place) (k token : ℕ) (left : List Reply) → EntersPad i st.top next words R → (next.top.function ≡ terminating → ⊥) → Stands p n st w back → IsRunning p i w.hart → StepAt p st next n o →
+    CallsModule p n st wants o (pos k) → slice_get st.world.replies k ≡ Some (Raise token ∷ left) → is_full st.world ≡ false → PadsArePlain p → FiltersAreInts p → RaisedIn p i pick st next w k token (length (linear_code (shape p n) o) + words) left R
+module_runs turns made agree words R i pick p n st next w back o wants k token left enters alive h running at calls reply free plains ints =
     let image : Image = (program_of i).image in
     let g : Ground = (setting p n).ground in
     let here : ℕ = first_word p n + op_word (routine p n) st.top.place in
     let v : World = st.world in
     let e : ℕ = v.last_number + 1 in
     let u0 : World = foreign_world v k token left in
-    let op = builtin_op p n Module (argument_then (int_argument e0) no_arguments) st o at.runs at.there wants calls (inr refl) in
-    let front : List Piece = value_code (shape p n) 0 e0 in
+    let begins = module_begins p n st w back wants o (pos k) h at.there calls in
+    let front : List Piece = begins.front in
     let rest : List Piece = stored_in (shape p n) wants in
     let rear : List Piece = runtime_call 14 ++ rest in
-    let pieces : linear_code (shape p n) o ≡ front ++ rear = op.pieces ∙ ap (λ ps. ps ++ rear) (append-nil front) in
+    let pieces : linear_code (shape p n) o ≡ front ++ rear = begins.pieces in
     let own : OperationAt p w.hart.memory n st.top.place (front ++ rear) = subst (OperationAt p w.hart.memory n st.top.place) pieces (operation_at p w.hart.memory n st.top.place o h.memory.unit h.memory.top.known at.there) in
     let sum : length (front ++ rear) ≡ length front + length rear = length-append front rear in
     let total : length (linear_code (shape p n) o) ≡ length front + 2 + length rest = ap length pieces ∙ omega (arith, sum, length-append (runtime_call 14) rest) in
-    let short : length front < 2 ^ 18 = omega (arith, own.inside, sum, h.memory.unit.short n h.memory.top.known) in
     let parts = pieces_split w.hart.memory g here front rear own.code in
     let call = pieces_split w.hart.memory g (here + length front) (runtime_call 14) rest parts.1 in
-    let stands = value_stands p n st.top.frame v w.hart.memory (x w.hart sp) back h.memory.top e0 asks in
-    let value = values.value (setting p n) (shape p n) (slot_kinds p n) st.top.frame v e0 (pos k) 0 here w.hart stands is (module_fits e0 wants o calls (h.memory.unit.registers n st.top.place o at.there)) short parts.0 h.pc (ready_here p n st w back h) in
-    let ec = ecall_reached turns image g here (length front) 0 14 w value.computes.goes (omega arith) call.0 in
+    let ec = ecall_reached turns image g here (length front) 0 14 w begins.value.computes.goes (omega arith) call.0 in
     let y : abi.World = asked ec.behind ec.at in
     let b = runtime_stays p st.frames v w ec.at ec.runtime h.runtime in
     let r : RuntimeMatches p st.frames v y = record { input = b.input; replies = b.replies; last_number = b.last_number; terminating = b.terminating; exceptions = b.exceptions; plan = b.plan } in
@@ -206,15 +191,14 @@ module_runs turns made values agree words R i pick p n st next w back o wants e0
     let step : raise (code_of p.unit) e st.top st.frames u0 ≡ goes_to next
     = ap (λ c. performed (code_of p.unit) (if c then terminates v.installed.terminate_handler (record v { replies = slice_set v.replies k left }) else raises e u0) st.top st.frames v) (sym free)
     ∙ ap (λ a. performed (code_of p.unit) (replied (slot_kinds p n) wants k a st.top.frame v) st.top st.frames v) (sym reply)
-    ∙ ap (λ a. performed (code_of p.unit) (if_some (with_some (with_some a (λ z. Some (number_word z))) (λ word. Some (word ∷ []))) (λ gives. module_called (slot_kinds p n) wants (number_at gives 0) st.top.frame v)) st.top st.frames v) (sym is)
-    ∙ op.steps next at.step in
+    ∙ begins.steps next at.step in
     let answer = foreign_lands agree words R i p n back st next y slot k token left enters alive h.runs ec.registers goes_on memory r there vacant step plains ints in
     let lands = answer.lands in
     let y1 : abi.World = left_in y k left in
     let w1 : abi.World = raised_world y slot k token left in
     let ob : Object = foreign_object y1 k token slot in
-    let is0 : argument y 10 ≡ extended (pos k) = ec.kept a0 (λ c. absurd (omega (arith, c))) ∙ value.computes.is in
-    let low = small_pos k value.int in
+    let is0 : argument y 10 ≡ extended (pos k) = ec.kept a0 (λ c. absurd (omega (arith, c))) ∙ begins.value.computes.is in
+    let low = small_pos k begins.value.int in
     let number : module_number y ≡ k = ap (λ a. a % 2 ^ 32) is0 ∙ omega (arith, low) in
     let replies : slice_get y.replies k ≡ Some (Raise token ∷ left) = ap (λ rs. slice_get rs k) r.replies ∙ reply in
     let effect : call_effect 14 image wish y ≡ abi.goes lands.next
@@ -252,7 +236,7 @@ module_runs turns made values agree words R i pick p n st next w back o wants e0
       };
     }
 
-pub modules_raise : CallsAreTurns → CallsAreMade → ValuesAreComputed → RaisesAgree → ModulesRaise
-modules_raise turns made values agree i pick p n m st next w o wants e0 k token left h running at calls asks is reply free plains ints callee =
-    let all = module_runs turns made values agree 2 (Arrived next) i pick p n st next w h.back o wants e0 k token left (pad_entered_runs i st.top next m callee) (compiled_lives next m callee) (stands_by p n st w h at.runs) running at calls asks is reply free plains ints in
+pub modules_raise : CallsAreTurns → CallsAreMade → RaisesAgree → ModulesRaise
+modules_raise turns made agree i pick p n m st next w o wants k token left h running at calls reply free plains ints callee =
+    let all = module_runs turns made agree 2 (Arrived next) i pick p n st next w h.back o wants k token left (pad_entered_runs i st.top next m callee) (compiled_lives next m callee) (stands_by p n st w h at.runs) running at calls reply free plains ints in
     (ap (λ (u : World). u.items) all.world, all.slot, all.below, all.raised)

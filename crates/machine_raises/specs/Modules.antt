@@ -1,6 +1,5 @@
 -- A module raises an exception.
 use Rattle.std.specs.Prelude.{◌≡◌, ℕ, ◌+◌, ◌<◌, false, pos, List, [], ◌∷◌, length, slice_get, Option, Some}
-use Rattle.cxx_ast.specs.declared.name.Builtin.TheVariants.{Module}
 use Rattle.eh_outer.specs.declared.module.Reply.{Reply}
 use Rattle.eh_outer.specs.declared.module.Reply.TheVariants.{Raise}
 use Rattle.run_items.specs.declared.item.Item.{Item}
@@ -10,9 +9,8 @@ use Rattle.elf_image.specs.Clean.{CleanImage}
 use Rattle.caught_stack.specs.Live.{slots}
 use Rattle.cxa_runtime.specs.World as abi
 use Rattle.eh_run.specs.Program.{program_of}
-use Rattle.region_forms.specs.Form.{Place, Value, int_argument, no_arguments, argument_then}
+use Rattle.region_forms.specs.Form.{Place}
 use Rattle.region_forms.specs.World.{type_at}
-use Rattle.region_forms.specs.Evaluation.{value_in}
 use Rattle.region_forms.specs.Effect.{is_full}
 use Rattle.linear_forms.specs.Linear.{LinearOp}
 use Rattle.linear_forms.specs.Search.{found_above}
@@ -21,12 +19,11 @@ use Rattle.linear_forms.specs.Activation.{State}
 use Rattle.linear_forms.specs.UnitRun.{code_of}
 use Rattle.machine_forms.specs.Registers.{sp}
 use Rattle.machine_forms.specs.LinearCode.{linear_code}
-use Rattle.machine_simulation.specs.Plan.{Plan, shape, slot_kinds}
-use Rattle.machine_simulation.specs.Asked.{ValueAsked}
+use Rattle.machine_simulation.specs.Plan.{Plan, shape}
 use Rattle.machine_simulation.specs.Matches.{Matches}
 use Rattle.machine_simulation.specs.Returns.{closed}
 use Rattle.machine_simulation.specs.Runs.{StepAt}
-use Rattle.machine_exceptions.specs.Answers.{CallsBuiltin}
+use Rattle.machine_exceptions.specs.Answers.{CallsModule}
 use Rattle.machine_simulation.specs.Objects.{with_object, Shows}
 use Rattle.machine_exceptions.specs.Picks.{MatchedFor}
 use Rattle.machine_raises.specs.Stacks.{IsRunning}
@@ -45,8 +42,8 @@ RaisedFor p q i pick st next w e words items = RaisedForTo p i pick st next w e 
 -- A step that calls a module which raises, where fewer than 1,024 exceptions are live, and comes to a pad of a compiled function. The exception
 -- has its object in a slot that was vacant.
 abbrev pub ModulesRaise : Type 0
-ModulesRaise = (i : CleanImage) (pick : ℕ → ℕ) (p : Plan) (n m : ℕ) (st next : State) (w : abi.World) (o : LinearOp) (wants : Option Place) (v : Value) (k token : ℕ) (left : List Reply) → Matches p st w → IsRunning p i w.hart → StepAt p st next n o →
-    CallsBuiltin Module (argument_then (int_argument v) no_arguments) wants o → ValueAsked p n st.top.frame st.world v → value_in (slot_kinds p n) st.top.frame st.world v ≡ Some (pos k) → slice_get st.world.replies k ≡ Some (Raise token ∷ left) →
+ModulesRaise = (i : CleanImage) (pick : ℕ → ℕ) (p : Plan) (n m : ℕ) (st next : State) (w : abi.World) (o : LinearOp) (wants : Option Place) (k token : ℕ) (left : List Reply) → Matches p st w → IsRunning p i w.hart → StepAt p st next n o →
+    CallsModule p n st wants o (pos k) → slice_get st.world.replies k ≡ Some (Raise token ∷ left) →
     is_full st.world ≡ false → PadsArePlain p → FiltersAreInts p → next.top.function ≡ compiled m →
     let e = st.world.last_number + 1 in
     Shows st next (Foreign e k token ∷ []) × (slot : ℕ) × (slot < slots) × RaisedFor p (with_object p e slot) i pick st next w e (length (linear_code (shape p n) o)) (Foreign e k token ∷ [])

@@ -77,7 +77,6 @@ pub fn modules_raise()
 {
     calls_are_turns();
     calls_are_made();
-    values_are_computed();
     raises_agree();
 }
 

@@ -3,6 +3,7 @@ ghost use Rattle.std.specs.Prelude.{IfOk};
 ghost use Rattle.eh_bytes.specs.Extent.{AreBelow, extents_of};
 
 use eh_bytes::{Segment, Segments};
+use rv64_isa::{decode, encode};
 use rv64_machine::*;
 use std::alloc::Global;
 use std::test::Fail;
@@ -43,6 +44,27 @@ fn run(machine: &mut Machine) -> Step {
         }
     }
     Step::Done
+}
+
+// The examples of docstrings. The words were made by GNU as 2.40.
+#[test]
+fn examples_of_docstrings(rt: HostRuntime) -> Result<(), Fail> {
+    let word = 0xfd01_0113; // addi sp, sp, -48
+    let instr = decode(word).expect(&rt, "an instruction");
+    assert_eq!(rt; encode(instr), word);
+
+    let mut machine = machine_of(rt.alloc(), &[word, 0x0000_0073])?;
+    machine.set_reg(2, 0x7100_0000);
+    for _ in 0..2 {
+        if machine.step() != Step::Done {
+            break;
+        }
+    }
+    assert_eq!(rt;
+        (machine.pc(), machine.reg(2)),
+        (CODE_AT + 8, 0x7100_0000 - 48)
+    );
+    Ok(())
 }
 
 #[test]

@@ -24,7 +24,7 @@ use Rattle.linear_forms.specs.Machine.{step}
 use Rattle.linear_forms.specs.Operation.{performed}
 use Rattle.linear_forms.specs.UnitRun.{code_of}
 use Rattle.machine_forms.specs.LinearCode.{linear_code}
-use Rattle.machine_pieces.specs.Laws.{CallsAreTurns, ValuesAreComputed}
+use Rattle.machine_pieces.specs.Laws.{CallsAreTurns}
 use Rattle.machine_stubs.specs.Calls.{asked, CallsAreMade}
 use Rattle.machine_stubs.specs.Terminate.{TerminateRuns}
 use Rattle.machine_simulation.specs.Plan.{Plan, shape}
@@ -89,16 +89,16 @@ refused_runtime p fs v y k left r = record {
 }
 
 -- the handler is called
-pub full_sends : CallsAreTurns → ValuesAreComputed → (i : CleanImage) (p : Plan) (n m k token : ℕ) (left : List Reply) (st : LinearState) (w : abi.World) (h : Matches p st w) → (at : AtRaise i p n k token left st) → is_full st.world ≡ true →
+pub full_sends : CallsAreTurns → (i : CleanImage) (p : Plan) (n m k token : ℕ) (left : List Reply) (st : LinearState) (w : abi.World) (h : Matches p st w) → (at : AtRaise i p n k token left st) → is_full st.world ≡ true →
     st.world.ending ≡ false → st.world.installed.terminate_handler ≡ Some m → p.hidden ≡ 0 → let waiting = refused_state k left st in HandlerBegins p m st waiting []
     × (s : Sends (program_of i).image p n m st.top.frame st.frames (st.top ∷ st.frames) waiting.world w h.back p.hidden (length (linear_code (shape p n) at.operation)) [] any_wish) × (s.comes.to.unwinding ≡ s.comes.at.unwinding)
-full_sends turns values i p n m k token left st w h at full quiet installed hidden =
+full_sends turns i p n m k token left st w h at full quiet installed hidden =
     let image : Image = (program_of i).image in
     let v : World = st.world in
     let waiting : LinearState = refused_state k left st in
     let most : ℕ = length (linear_code (shape p n) at.operation) in
     let stood = stands_by p n st w h at.runs in
-    let r = raise_asked turns values i p n k token left st w h.back stood at in
+    let r = raise_asked turns i p n k token left st w h.back stood at in
     let c = r.call in
     let y : abi.World = asked c.behind c.at in
     let may = may_terminate image p n st w h.back 14 most stood at.named c in
@@ -113,10 +113,10 @@ full_sends turns values i p n m k token left st w h at full quiet installed hidd
       refl,
     )
 
-pub modules_are_refused_when_full : CallsAreTurns → CallsAreMade → ValuesAreComputed → TerminateRuns → ModulesAreRefusedWhenFull
-modules_are_refused_when_full turns made values runs = record {
+pub modules_are_refused_when_full : CallsAreTurns → CallsAreMade → TerminateRuns → ModulesAreRefusedWhenFull
+modules_are_refused_when_full turns made runs = record {
   calls_the_handler = λ i p n m k token left st w h at full quiet installed hidden fits.
-      let all = full_sends turns values i p n m k token left st w h at full quiet installed hidden in
+      let all = full_sends turns i p n m k token left st w h at full quiet installed hidden in
       let s = all.1 in (
         all.0,
         handler_called made runs (program_of i).image p n m st.top.frame st.frames (refused_state k left st) w h.back p.hidden (length (linear_code (shape p n) at.operation)) [] s.comes s.quiet s.known fits (λ wish. s.effect wish tt) all.2,
@@ -127,7 +127,7 @@ modules_are_refused_when_full turns made values runs = record {
       let waiting : LinearState = refused_state k left st in
       let most : ℕ = length (linear_code (shape p n) at.operation) in
       let stood = stands_by p n st w h at.runs in
-      let r = raise_asked turns values i p n k token left st w h.back stood at in
+      let r = raise_asked turns i p n k token left st w h.back stood at in
       let c = r.call in
       let y : abi.World = asked c.behind c.at in
       let may = may_from image p y (left_in y k left) refl (may_terminate image p n st w h.back 14 most stood at.named c) in

@@ -29,7 +29,7 @@ use Rattle.linear_forms.specs.UnitRun.{code_of}
 use Rattle.meaning_forms.specs.Outcome.{aborted}
 use Rattle.machine_forms.specs.Registers.{sp}
 use Rattle.machine_forms.specs.LinearCode.{linear_code}
-use Rattle.machine_pieces.specs.Laws.{CallsAreTurns, ValuesAreComputed}
+use Rattle.machine_pieces.specs.Laws.{CallsAreTurns}
 use Rattle.machine_stubs.specs.Calls.{asked, CallsAreMade}
 use Rattle.machine_stubs.specs.Terminate.{TerminateRuns}
 use Rattle.table_verdicts.specs.Types.{thrown_as}
@@ -94,12 +94,12 @@ record RaiseLost (i : CleanImage) (pick : ℕ → ℕ) (p : Plan) (n k token : �
   effect : let c = asks.call in let y = asked c.behind c.at in let made = made_in y slot k token left in
       call_effect 14 (program_of i).image (pick (c.at.last_number + 1)) y ≡ terminates (program_of i).image.places y.terminate_handler (before_world made.exceptions (with_exceptions (one_uncaught made.exceptions) made))
 
-raise_lost : CallsAreTurns → ValuesAreComputed → RaisesAgree → (i : CleanImage) (pick : ℕ → ℕ) (p : Plan) (n k token : ℕ) (left : List Reply) (st : LinearState) (w : abi.World) (back : ℕ) → Stands p n st w back → IsRunning p i w.hart →
+raise_lost : CallsAreTurns → RaisesAgree → (i : CleanImage) (pick : ℕ → ℕ) (p : Plan) (n k token : ℕ) (left : List Reply) (st : LinearState) (w : abi.World) (back : ℕ) → Stands p n st w back → IsRunning p i w.hart →
     (at : AtRaise i p n k token left st) → is_full st.world ≡ false → found_above (code_of p.unit) None (st.top ∷ st.frames) ≡ None → RaiseLost i pick p n k token left st w back (length (linear_code (shape p n) at.operation))
-raise_lost turns values agree i pick p n k token left st w back h running at free none =
+raise_lost turns agree i pick p n k token left st w back h running at free none =
     let image : Image = (program_of i).image in
     let v : World = st.world in
-    let r = raise_asked turns values i p n k token left st w back h at in
+    let r = raise_asked turns i p n k token left st w back h at in
     let c = r.call in
     let y : abi.World = asked c.behind c.at in
     let m = c.runtime.exceptions in
@@ -127,12 +127,12 @@ raise_lost turns values agree i pick p n k token left st w back h running at fre
 -- ---- both machines
 
 -- the handler is called, for the slot that is picked
-pub raise_sends : CallsAreTurns → ValuesAreComputed → RaisesAgree → (i : CleanImage) (pick : ℕ → ℕ) (p : Plan) (n m k token : ℕ) (left : List Reply) (st : LinearState) (w : abi.World) (h : Matches p st w) → IsRunning p i w.hart →
+pub raise_sends : CallsAreTurns → RaisesAgree → (i : CleanImage) (pick : ℕ → ℕ) (p : Plan) (n m k token : ℕ) (left : List Reply) (st : LinearState) (w : abi.World) (h : Matches p st w) → IsRunning p i w.hart →
     (at : AtRaise i p n k token left st) → is_full st.world ≡ false → found_above (code_of p.unit) None (st.top ∷ st.frames) ≡ None → st.world.ending ≡ false → st.world.installed.terminate_handler ≡ Some m → p.hidden ≡ 0 →
     let e = st.world.last_number + 1 in let items = Foreign e k token ∷ [] in let waiting = raising_state k token left st in HandlerBegins p m st waiting items × (slot : ℕ) × (slot < slots)
     × (s : Sends (program_of i).image (with_object p e slot) n m st.top.frame st.frames (st.top ∷ st.frames) waiting.world w h.back p.hidden (length (linear_code (shape p n) at.operation)) items (picked_wish pick))
     × (s.comes.to.unwinding ≡ s.comes.at.unwinding)
-raise_sends turns values agree i pick p n m k token left st w h running at free lost quiet installed hidden =
+raise_sends turns agree i pick p n m k token left st w h running at free lost quiet installed hidden =
     let image : Image = (program_of i).image in
     let v : World = st.world in
     let e : ℕ = v.last_number + 1 in
@@ -140,7 +140,7 @@ raise_sends turns values agree i pick p n m k token left st w h running at free 
     let u : World = waiting.world in
     let most : ℕ = length (linear_code (shape p n) at.operation) in
     let stood = stands_by p n st w h at.runs in
-    let r = raise_lost turns values agree i pick p n k token left st w h.back stood running at free lost in
+    let r = raise_lost turns agree i pick p n k token left st w h.back stood running at free lost in
     let c = r.asks.call in
     let y : abi.World = asked c.behind c.at in
     let q : Plan = with_object p e r.slot in
@@ -180,11 +180,11 @@ raise_sends turns values agree i pick p n m k token left st w h running at free 
       refl,
     )
 
-pub modules_doom : CallsAreTurns → CallsAreMade → ValuesAreComputed → TerminateRuns → RaisesAgree → ModulesDoom
-modules_doom turns made values runs agree = record {
+pub modules_doom : CallsAreTurns → CallsAreMade → TerminateRuns → RaisesAgree → ModulesDoom
+modules_doom turns made runs agree = record {
   calls_the_handler = λ i pick p n m k token left st w h running at free lost quiet installed hidden fits.
       let e : ℕ = st.world.last_number + 1 in
-      let all = raise_sends turns values agree i pick p n m k token left st w h running at free lost quiet installed hidden in
+      let all = raise_sends turns agree i pick p n m k token left st w h running at free lost quiet installed hidden in
       let s = all.3 in (
         all.0,
         all.1,
@@ -199,7 +199,7 @@ modules_doom turns made values runs agree = record {
       let u : World = raising_world v k token left in
       let most : ℕ = length (linear_code (shape p n) at.operation) in
       let stood = stands_by p n st w h at.runs in
-      let r = raise_lost turns values agree i pick p n k token left st w h.back stood running at free lost in
+      let r = raise_lost turns agree i pick p n k token left st w h.back stood running at free lost in
       let c = r.asks.call in
       let y : abi.World = asked c.behind c.at in
       let new : abi.World = made_in y r.slot k token left in

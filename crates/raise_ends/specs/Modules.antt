@@ -1,6 +1,5 @@
 -- A module raises an exception that nothing stops.
 use Rattle.std.specs.Prelude.{◌≡◌, ℕ, ◌+◌, ◌<◌, ◌≤◌, false, pos, List, [], ◌∷◌, length, slice_get, slice_set, Option, Some, None}
-use Rattle.cxx_ast.specs.declared.name.Builtin.TheVariants.{Module}
 use Rattle.eh_outer.specs.declared.module.Reply.{Reply}
 use Rattle.eh_outer.specs.declared.module.Reply.TheVariants.{Raise}
 use Rattle.run_items.specs.declared.item.Item.TheVariants.{Foreign}
@@ -8,9 +7,8 @@ use Rattle.elf_image.specs.Clean.{CleanImage}
 use Rattle.caught_stack.specs.Live.{slots}
 use Rattle.cxa_runtime.specs.World as abi
 use Rattle.eh_run.specs.Program.{program_of}
-use Rattle.region_forms.specs.Form.{Place, Value, int_argument, no_arguments, argument_then}
+use Rattle.region_forms.specs.Form.{Place}
 use Rattle.region_forms.specs.World.{World, foreign, with_item}
-use Rattle.region_forms.specs.Evaluation.{value_in}
 use Rattle.region_forms.specs.Effect.{is_full, with_new}
 use Rattle.linear_forms.specs.Linear.{LinearOp}
 use Rattle.linear_forms.specs.Search.{found_above}
@@ -19,11 +17,10 @@ use Rattle.linear_forms.specs.Activation.{State}
 use Rattle.linear_forms.specs.UnitRun.{code_of}
 use Rattle.machine_forms.specs.LinearCode.{linear_code}
 use Rattle.machine_stubs.specs.Stretches.{stub_word}
-use Rattle.machine_simulation.specs.Plan.{Plan, function, shape, slot_kinds}
-use Rattle.machine_simulation.specs.Asked.{ValueAsked}
+use Rattle.machine_simulation.specs.Plan.{Plan, function, shape}
 use Rattle.machine_simulation.specs.Matches.{Matches}
 use Rattle.machine_simulation.specs.Objects.{with_object}
-use Rattle.machine_exceptions.specs.Answers.{CallsBuiltin}
+use Rattle.machine_exceptions.specs.Answers.{CallsModule}
 use Rattle.machine_exceptions.specs.Picks.{MatchedFor}
 use Rattle.machine_exceptions.specs.Terminates.{in_handler}
 use Rattle.machine_raises.specs.Stacks.{IsRunning}
@@ -33,12 +30,9 @@ use Rattle.raise_ends.specs.Ends.{NoneIsCalled, BothAbort, HandlerFits, HandlerB
 pub record AtRaise (i : CleanImage) (p : Plan) (n k token : ℕ) (left : List Reply) (st : State) : Type 0 where
   pub operation : LinearOp
   pub wants : Option Place
-  pub value : Value
   pub runs : st.top.function ≡ compiled n
   pub there : slice_get (function p n).ops st.top.place ≡ Some operation
-  pub calls : CallsBuiltin Module (argument_then (int_argument value) no_arguments) wants operation
-  pub asked : ValueAsked p n st.top.frame st.world value
-  pub number : value_in (slot_kinds p n) st.top.frame st.world value ≡ Some (pos k)
+  pub calls : CallsModule p n st wants operation (pos k)
   pub reply : slice_get st.world.replies k ≡ Some (Raise token ∷ left)
   pub named : (program_of i).image.places.terminate ≡ stub_word p.base terminating 0
 

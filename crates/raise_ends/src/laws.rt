@@ -38,7 +38,6 @@ pub fn modules_doom()
 {
     calls_are_turns();
     calls_are_made();
-    values_are_computed();
     terminate_runs();
     raises_agree();
 }
@@ -49,7 +48,6 @@ pub fn modules_are_refused_when_full()
 {
     calls_are_turns();
     calls_are_made();
-    values_are_computed();
     terminate_runs();
 }
 

@@ -1,11 +1,12 @@
 -- What the calls of laws state of checked programs.
-use Rattle.std.specs.Prelude.{◌≡◌, ◌<◌, ◌≤◌, length}
+use Rattle.std.specs.Prelude.{◌≡◌, ◌<◌, ◌≤◌, ℕ, ℤ, Some, length, slice_get}
 use Rattle.std.specs.List.{AllByRecursion}
 use Rattle.cxx_ast.specs.Checked.{IsChecked}
 use Rattle.cxx_ast.specs.Plain.{Checked}
-use Rattle.linear_forms.specs.Linear.{FunctionCode}
+use Rattle.linear_forms.specs.Linear.{FunctionCode, jump_filter}
 use Rattle.flight_homes.specs.Filters.{bytes_of_lists}
-use Rattle.machine_simulation.specs.Plan.{Plan}
+use Rattle.machine_pieces.specs.Numbers.{IsInt}
+use Rattle.machine_simulation.specs.Plan.{Plan, function}
 use Rattle.machine_raises.specs.Pads.{PadsArePlain, FiltersAreInts}
 use Rattle.source_bounds.specs.Compiled.{unit_for}
 
@@ -25,3 +26,11 @@ CheckedPadsArePlain = (p : Checked) → IsChecked p → (q : Plan) → q.unit �
 -- and the filters of each chain are ints
 abbrev pub CheckedFiltersAreInts : Type 0
 CheckedFiltersAreInts = (p : Checked) → IsChecked p → (q : Plan) → q.unit ≡ unit_for p → FiltersAreInts q
+
+-- the number of each jump on a filter is an int
+abbrev pub JumpsAreInts : Plan → Type 0
+JumpsAreInts q = (n place s l : ℕ) (filter : ℤ) → slice_get (function q n).ops place ≡ Some (jump_filter s filter l) → IsInt filter
+
+-- so it is wherever the unit of a checked program stands
+abbrev pub CheckedJumpsAreInts : Type 0
+CheckedJumpsAreInts = (p : Checked) → IsChecked p → (q : Plan) → q.unit ≡ unit_for p → JumpsAreInts q

@@ -1,5 +1,5 @@
 // Laws of the landing pads and of the tables of checked programs: calls of no effect, whose contracts state what holds of every program.
-ghost use Rattle.raise_premises.specs.Premises.{CheckedFiltersAreInts, CheckedPadsArePlain, CheckedTablesAreFew};
+ghost use Rattle.raise_premises.specs.Premises.{CheckedFiltersAreInts, CheckedJumpsAreInts, CheckedPadsArePlain, CheckedTablesAreFew};
 
 use class_layout::laws::checked_classes_fit;
 use flight_homes::laws::{filters_fit, slots_are_help};
@@ -28,5 +28,12 @@ pub fn checked_filters_are_ints()
     ensures { CheckedFiltersAreInts }
 {
     filters_fit();
+    checked_tables_are_few();
+}
+
+/// So is the number of each jump on a filter.
+pub fn checked_jumps_are_ints()
+    ensures { CheckedJumpsAreInts }
+{
     checked_tables_are_few();
 }

@@ -53,6 +53,16 @@ module _ (q r : Plan) (same : SameFrames q r) where
 pub itself : (q : Plan) → SameFrames q q
 itself q = record { unit = refl; hidden = refl }
 
+-- two calls begin, one in the other
+pub align_push_two : (q r : Plan) → SameFrames q r → (b a : Activation) (fs : List Activation) → CallsAlign q r fs (b ∷ a ∷ fs)
+align_push_two q r same b a fs =
+    let first = align_push q q (itself q) a fs in
+    let second = align_push q r same b (a ∷ fs) in
+    record {
+      targets = λ d less also. second.targets d (omega (arith, less)) also ∙ first.targets d less (omega (arith, less));
+      calls = λ d less also. second.calls d (omega (arith, less)) also ∙ first.calls d less (omega (arith, less));
+    }
+
 -- where the first calls are no fewer than those between
 pub align_then : (q r s : Plan) (fs gs hs : List Activation) → length hs ≤ length gs → CallsAlign q r fs gs → CallsAlign r s gs hs → CallsAlign q s fs hs
 align_then q r s fs gs hs more a b = record {

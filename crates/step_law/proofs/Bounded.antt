@@ -8,7 +8,7 @@ use Rattle.flight_homes.specs.Homes.{is_one_of}
 use Rattle.flight_homes.specs.Keeps.{Carrying, Carried}
 use Rattle.flight_homes.specs.Lives.{Known}
 use Rattle.linear_invariant.specs.Held.{carried_below}
-use Rattle.linear_invariant.specs.Calls.{Marks, OnItsWay, WordGoes, FlightGoes, IsStopped, StubHolds, CallsKeep}
+use Rattle.linear_invariant.specs.Calls.{IsOther, Marks, OnItsWay, WordGoes, FlightGoes, IsStopped, StubHolds, CallsKeep}
 use Rattle.linear_invariant.specs.Stands.{StandsIn}
 
 -- the target of an exception on its way is one of so many calls
@@ -19,7 +19,7 @@ IsBelow n x = Unit {0}
 abbrev pub bounded : ℕ → (Word → Type 0) → Word → Type 0
 bounded n words = λ word. words word × IsBelow n word
 
-aims_below : (code : Code) (t : Option ℕ) (d : ℕ) (fs : List Activation) → AimsAt code t d fs → d < length fs
+pub aims_below : (code : Code) (t : Option ℕ) (d : ℕ) (fs : List Activation) → AimsAt code t d fs → d < length fs
 aims_below code t d [] h = absurd h
 aims_below code t d (a ∷ fs) (inl h) = omega (arith, h.0)
 aims_below code t d (a ∷ fs) (inr h) = omega (arith, aims_below code t d fs h.1)
@@ -34,10 +34,10 @@ module _ (known : Known) (words : Word → Type 0) (code : Code) (k : Carrying) 
   flight_below : (a : Activation) (outer : List Activation) (c : Carried) (e d : ℕ) → length outer < n → OnItsWay code a outer c e d w → d < n
   flight_below a outer c e d less h = by h.goes
     where
-      by : ((is_one_of h.selector c.left ≡ true) × (d ≡ length outer)) ⊎ AimsAt code (type_at w e) d (record { function = a.function; place = c.home; frame = a.frame } ∷ outer) → d < n
+      by : ((is_one_of h.selector c.left ≡ true) × (d ≡ length outer)) ⊎ (IsOther h.selector c.left × AimsAt code (type_at w e) d (record { function = a.function; place = c.home; frame = a.frame } ∷ outer)) → d < n
       by (inl here) = omega (arith, less, here.1)
       by (inr aims) =
-          let below = aims_below code (type_at w e) d (record { function = a.function; place = c.home; frame = a.frame } ∷ outer) aims in omega (arith, less, below)
+          let below = aims_below code (type_at w e) d (record { function = a.function; place = c.home; frame = a.frame } ∷ outer) aims.1 in omega (arith, less, below)
 
   word_bounded : (a : Activation) (outer : List Activation) (c : Carried) (word : Word) → length outer < n → WordGoes old code a outer c word w → WordGoes new code a outer c word w
   word_bounded a outer c (flying e d) less h = (h.0, (h.1, flight_below a outer c e d less h.0))
@@ -70,7 +70,7 @@ module _ (known : Known) (words : Word → Type 0) (code : Code) (k : Carrying) 
   stub_bounded call_unexpected (suc (suc (suc (suc zero)))) x h = stopped_bounded (x.slots 4) (x.slots 5) h
   stub_bounded call_unexpected (suc (suc (suc (suc (suc p))))) x h = tt
 
-  calls_bounded : (f : Option Function) (fs : List Activation) → length fs ≤ n → CallsKeep code k old f fs w → CallsKeep code k new f fs w
+  pub calls_bounded : (f : Option Function) (fs : List Activation) → length fs ≤ n → CallsKeep code k old f fs w → CallsKeep code k new f fs w
   calls_bounded f [] less h = tt
   calls_bounded f (a ∷ fs) less h = (
     record {

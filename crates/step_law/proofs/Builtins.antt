@@ -57,7 +57,7 @@ pub record IsGivenTo (ks : Kinds) (b : Builtin) (args : Arguments) (wants : Opti
   pub does : built_in ks b wants given x w ≡ goes frame world
   pub behind : next.world ≡ world
 
-settled_goes : (code : Code) (e : Effect) (a : Activation) (fs : List Activation) (w : World) (next : State) → Settles a.frame w e → performed code e a fs w ≡ goes_to next → (y : Frame) × (v : World) × (e ≡ goes y v) × (next.world ≡ v)
+pub settled_goes : (code : Code) (e : Effect) (a : Activation) (fs : List Activation) (w : World) (next : State) → Settles a.frame w e → performed code e a fs w ≡ goes_to next → (y : Frame) × (v : World) × (e ≡ goes y v) × (next.world ≡ v)
 settled_goes code (goes y v) a fs w next h e = let went : record { top = record { function = a.function; place = a.place + 1; frame = y }; frames = fs; world = v } ≡ next = cc e in (y, v, refl, ap (λ (m : State). m.world) (sym went))
 settled_goes code meaningless a fs w next h e = absurd (cc e)
 settled_goes code (calls o n given) a fs w next h e = absurd h

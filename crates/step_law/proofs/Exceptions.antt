@@ -20,8 +20,9 @@ use Rattle.linear_forms.specs.Machine.{step}
 use Rattle.linear_forms.specs.Operation.{performed, may_free}
 use Rattle.linear_forms.specs.Pace.{pays_at, one_if, linear_pays, Leads}
 use Rattle.linear_forms.proofs.Paces
-use Rattle.flight_homes.specs.Keeps.{Carried, flying_in, carried_in, destroyed_in, gone}
+use Rattle.flight_homes.specs.Keeps.{Carrying, Carried, flying_in, carried_in, destroyed_in, gone}
 use Rattle.linear_invariant.specs.Handled.{open_handlers}
+use Rattle.linear_invariant.specs.Held.{NoneHolds}
 use Rattle.linear_invariant.proofs.Calls.{Spared, all_spared, others_spared}
 use Rattle.linear_invariant.proofs.Worlds.{But}
 use Rattle.linear_invariant.proofs.Lists.{few_entered}
@@ -64,7 +65,7 @@ module _ (x : Run) (q : Plan) (before n : ℕ) (o : LinearOp) (st : State) (w : 
   code = code_for x.program
 
   -- a word's slot
-  word_slot : (s : ℕ) → IsWord (function q n) s → IsWordSlot q n s
+  pub word_slot : (s : ℕ) → IsWord (function q n) s → IsWordSlot q n s
   word_slot s h = record { inside = h.inside; plain = h.plain; near = h.near }
 
   -- a step in the same call
@@ -94,7 +95,7 @@ module _ (x : Run) (q : Plan) (before n : ℕ) (o : LinearOp) (st : State) (w : 
       first_calm (suc j) middle less leads = absurd (omega (arith, less))
 
   -- an operation of regions that raises nothing
-  calm_op : (op : Op) → o ≡ plain op → IsCalm (effect (kinds code st.top.function) op st.top.frame st.world) → CalmAt code st
+  pub calm_op : (op : Op) → o ≡ plain op → IsCalm (effect (kinds code st.top.function) op st.top.frame st.world) → CalmAt code st
   calm_op op is h other runs =
       let same : Some (linear o) ≡ Some (linear (plain other)) = sym (fetches x q before n o st w at) ∙ runs in
       let one : o ≡ plain other = cc same in
@@ -193,7 +194,7 @@ gone_destroyed (a ∷ fs) = by a.function (gone_destroyed fs)
     by terminating rest = rest
     by call_unexpected rest = rest
 
-handlers_open : (xs : List Entry) (e : ℕ) → handlers_of xs e ≤ open_handlers xs
+pub handlers_open : (xs : List Entry) (e : ℕ) → handlers_of xs e ≤ open_handlers xs
 handlers_open [] e = omega arith
 handlers_open (y ∷ xs) e = let rest = handlers_open xs e in by (y.number == e) rest
   where
@@ -202,8 +203,23 @@ handlers_open (y ∷ xs) e = let rest = handlers_open xs e in by (y.number == e)
     by false rest = omega (arith, rest)
 
 -- only that one is entered
-entered_alone : (e d : ℕ) → But e d → NotEntered (Enter e ∷ []) d
+pub entered_alone : (e d : ℕ) → But e d → NotEntered (Enter e ∷ []) d
 entered_alone e d other = grind (arith, nat_tests, other)
+
+-- What none of the calls has is entered: that changes nothing for them.
+pub spared_all : (k : Carrying) (items : List Item) (e : ℕ) → ((y : ℕ) → But e y → NotEntered items y) → (f : Option Function) (fs : List Activation) → NoneHolds k f fs e → Spared k (NotEntered items) f fs
+spared_all k items e one f fs none = all f fs (others_spared k e f fs none)
+  where
+    each : (xs : List ℕ) → AllByRecursion (But e) xs → AllByRecursion (NotEntered items) xs
+    each [] h = tt
+    each (y ∷ ys) h = (one y h.0, each ys h.1)
+
+    all : (f : Option Function) (fs : List Activation) → Spared k (But e) f fs → Spared k (NotEntered items) f fs
+    all f [] h = tt
+    all f (a ∷ fs) h = (each _ h.0, each _ h.1, all (Some a.function) fs h.2)
+
+pub spared_others : (k : Carrying) (e : ℕ) (f : Option Function) (fs : List Activation) → NoneHolds k f fs e → Spared k (NotEntered (Enter e ∷ [])) f fs
+spared_others k e f fs none = spared_all k (Enter e ∷ []) e (entered_alone e) f fs none
 
 pub enters_follow : EntersRun → EntersFollow
 enters_follow run x q before n s st w at few crowded = by (may_enter st.world e) (step_acts x q before n (plain (enter s)) st w at)
@@ -257,14 +273,6 @@ enters_follow run x q before n s st w at few crowded = by (may_enter st.world e)
               left = x.carrying.left n (st.top.place + 1);
             }) else None
 
-    spared_but : (f : Option Function) (fs : List Activation) → Spared x.carrying (But e) f fs → Spared x.carrying (NotEntered (Enter e ∷ [])) f fs
-    spared_but f [] h = tt
-    spared_but f (a ∷ fs) h = (all_other _ h.0, all_other _ h.1, spared_but (Some a.function) fs h.2)
-      where
-        all_other : (xs : List ℕ) → AllByRecursion (But e) xs → AllByRecursion (NotEntered (Enter e ∷ [])) xs
-        all_other [] k = tt
-        all_other (y ∷ ys) k = (entered_alone e y k.0, all_other ys k.1)
-
     goes_on : step code st ≡ goes_to next → FollowsIn x before st w
     goes_on here =
         let st_at : StepAt q st next n (plain (enter s)) = step_at x q before n (plain (enter s)) st w at next here in
@@ -285,7 +293,7 @@ enters_follow run x q before n s st w at few crowded = by (may_enter st.world e)
         let top = spared_top st.top.function at.runs in
         in_call x q before n (plain (enter s)) st w at next q ran.1.turns ran.1.after (Enter e ∷ []) here refl
         (calm_op x q before n (plain (enter s)) st w at (enter s) refl (calm_entered (may_enter st.world e) (is_crowded st.world e))) (record { function = refl; frames = refl; ending = refl })
-        (record { frames = record { unit = refl; hidden = refl }; base = refl; tables = refl }) plans (top.0, top.1, spared_but (Some st.top.function) st.frames (others_spared x.carrying e (Some st.top.function) st.frames asked.has.unheld))
+        (record { frames = record { unit = refl; hidden = refl }; base = refl; tables = refl }) plans (top.0, top.1, spared_others x.carrying e (Some st.top.function) st.frames asked.has.unheld)
         (omega (arith, some, more)) ran.0 made (kept_by_turns (program_of x.image).image ran.1.turns w ran.1.after (Enter e ∷ []) ran.1.runs) ran.1.holds
 
     by : (b : Bool) → step code st ≡ performed code (enters_or b (is_crowded st.world e)) st.top st.frames st.world → FollowsIn x before st w

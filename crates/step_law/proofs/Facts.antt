@@ -18,12 +18,14 @@ use Rattle.address_bounds.proofs.Reaching.{code_reaches_inside}
 use Rattle.checked_units.proofs.Frames.{classes_small, needs_are_small}
 use Rattle.checked_units.proofs.Programs.{programs_are_known}
 use Rattle.checked_units.proofs.TablesAsked.{checked_tables_are_asked}
+use Rattle.kept_selectors.proofs.Programs.{programs_stop}
+use Rattle.region_formed.proofs.Sources.{source_well_formed}
 use Rattle.region_typed.proofs.Programs.{checked_typed}
 use Rattle.source_bounds.specs.Compiled.{unit_for, emitted_for}
 use Rattle.source_bounds.proofs.Types.{bad_exception_is_there}
 use Rattle.machine_stubs.specs.Stretches.{stub_word}
 use Rattle.image_tables.specs.Functions.{records_end}
-use Rattle.raise_premises.specs.Premises.{CheckedPadsArePlain, CheckedFiltersAreInts}
+use Rattle.raise_premises.specs.Premises.{CheckedPadsArePlain, CheckedFiltersAreInts, CheckedJumpsAreInts}
 use Rattle.stack_bounds.specs.Taken.{CheckedFramesAreSmall}
 use Rattle.address_invariant.specs.Laws.{UnitReaches}
 use Rattle.step_law.specs.Facts.{needs_for, FactsStand}
@@ -38,8 +40,8 @@ unit_reaches p h = record {
   small = λ n s. let few = needs_are_small p h n s in omega (arith, few);
 }
 
-pub facts_stand : CheckedPadsArePlain → CheckedFiltersAreInts → CheckedFramesAreSmall → FactsStand
-facts_stand pads filters frames p i h image =
+pub facts_stand : CheckedPadsArePlain → CheckedFiltersAreInts → CheckedJumpsAreInts → CheckedFramesAreSmall → FactsStand
+facts_stand pads filters jumps frames p i h image =
     let fits = checked_programs_fit p h in
     let there = bad_exception_is_there p h in (
       fits.0,
@@ -48,6 +50,7 @@ facts_stand pads filters frames p i h image =
         reach = unit_reaches p h;
         carrying = fits.1.0;
         fits = fits.1.1;
+        stops = programs_stop (regions_of p (layout_of p)) (source_well_formed p h);
         image = image;
         lists = checked_tables_are_asked.lists (regions_of p (layout_of p));
         chains = λ t less. checked_tables_are_asked.chains p (layout_of p) t h less;
@@ -56,6 +59,7 @@ facts_stand pads filters frames p i h image =
         frames = λ q same. frames p h q same;
         pads = λ q same. pads p h q same;
         filters = λ q same. filters p h q same;
+        jumps = λ q same. jumps p h q same;
         named = named p i image.stands.image;
       },
     )

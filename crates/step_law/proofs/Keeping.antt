@@ -25,8 +25,9 @@ use Rattle.linear_invariant.proofs.Calls.{Spared, all_spared}
 use Rattle.linear_invariant.proofs.ForcedRuns.{steps_keep_forced}
 use Rattle.linear_invariant.proofs.Marks.{marks_change}
 use Rattle.linear_invariant.proofs.Steps.{run_stands}
+use Rattle.kept_selectors.proofs.Runs.{leads_keep}
 use Rattle.source_bounds.specs.Compiled.{unit_for}
-use Rattle.machine_pieces.specs.Turning.{Turns}
+use Rattle.machine_pieces.specs.Turning.{ForcedTurns, Turns}
 use Rattle.machine_simulation.specs.Plan.{Plan}
 use Rattle.machine_exceptions.specs.Picks.{TurnsFor}
 use Rattle.runtime_invariant.specs.Aims.{IsOnItsWay, is_entered}
@@ -40,6 +41,8 @@ use Rattle.stub_landings.specs.Rests.{Rests}
 use Rattle.whole_runs.proofs.Staying.{deepest_grows}
 use Rattle.step_law.specs.Facts.{regions_for, needs_for, code_for, Facts}
 use Rattle.step_law.specs.Standing.{HeaderAims, IsAimed, aims, StandsBy}
+use Rattle.step_law.proofs.Handled.{leads_handled}
+use Rattle.step_law.proofs.Founded.{leads_founded}
 use Rattle.step_law.proofs.Bounded.{bounded, stands_bounded}
 use Rattle.step_law.proofs.Aligned.{CallsAlign, SameFrames}
 
@@ -77,7 +80,7 @@ IsCalm x = Unit {0}
 abbrev pub CalmAt : Code → State → Type 0
 CalmAt code st = (o : Op) → RunsAt code st (linear (plain o)) → IsCalm (effect (kinds code st.top.function) o st.top.frame st.world)
 
-calm_marked : (marks : Marks) (code : Code) (st : State) → ((z : ℤ) → marks.words (unwinding z)) → CalmAt code st → NewMarked marks code st
+pub calm_marked : (marks : Marks) (code : Code) (st : State) → ((z : ℤ) → marks.words (unwinding z)) → CalmAt code st → NewMarked marks code st
 calm_marked marks code st free calm = record {
   raised = λ o e v d runs is found. absurd (subst IsCalm is (calm o runs));
   cancelled = λ o z v runs is. free z;
@@ -120,8 +123,23 @@ pub record ShownBehind (p : Checked) (k : Carrying) (q r : Plan) (turns : ℕ) (
   pub once : terminate_calls (next.top ∷ next.frames) ≤ 1
   pub forced : (z : ℤ) → newest_forced k None (next.top ∷ next.frames) ≡ Some z → u.unwinding ≡ Some z
 
+-- what turns must keep of the runtime for that: memory that may not be written, and the headers of what is on its way
+pub record WayKept (w u : abi.World) (items : List Item) : Type 0 where
+  pub memory : KeepsMemory w u
+  pub headers : (slot : ℕ) (h : Header) → IsOnItsWay slot h w.exceptions → is_entered h.number items ≡ false → IsOnItsWay slot h u.exceptions
+
+pub way_kept : (w u : abi.World) (items : List Item) → RuntimeKept w u items → WayKept w u items
+way_kept w u items kept = record { memory = kept.memory; headers = kept.headers }
+
+-- so they do where a forced unwind may begin
+pub kept_by_forced : (image : Image) (n : ℕ) (w u : abi.World) (items : List Item) → ForcedTurns image n w u items → WayKept w u items
+kept_by_forced image n w u items t = record {
+  memory = runs_keep_memory.forced image n w u items t;
+  headers = λ slot h way none. headers_stay_aimed.forced image n w u items slot h t way none;
+}
+
 module _ (p : Checked) (i : CleanImage) (k : Carrying) (tables : ℕ → ℕ) (f : Facts p i k tables) (q r : Plan) (before turns n : ℕ) (st next : State) (w u : abi.World) (items : List Item) (h : StandsBy p i k tables q before st w)
-    (leads : Leads (code_for p) n st (goes_to next)) (calm : (j : ℕ) (middle : State) → j < n → Leads (code_for p) j st (goes_to middle) → CalmAt (code_for p) middle) (kept : RuntimeKept w u items)
+    (leads : Leads (code_for p) n st (goes_to next)) (news : (j : ℕ) (middle : State) → j < n → Leads (code_for p) j st (goes_to middle) → NewMarked (aims p q (st.top ∷ st.frames) w) (code_for p) middle) (kept : WayKept w u items)
     (s : ShownBehind p k q r turns st next w u items) where
   abbrev here : List Activation
   here = st.top ∷ st.frames
@@ -143,12 +161,13 @@ module _ (p : Checked) (i : CleanImage) (k : Carrying) (tables : ℕ → ℕ) (f
   stands_there : StandsIn (aims p r there u) (code_for p) k (h.steps + n) next
   stands_there =
       let known = known_in (regions_for p) in
-      let led = run_stands (aims p q here w) (code_for p) k f.fits n h.steps st next (λ j middle less l. calm_marked (aims p q here w) (code_for p) middle (λ z. tt) (calm j middle less l)) h.stands leads in
+      let led = run_stands (aims p q here w) (code_for p) k f.fits n h.steps st next news h.stands leads in
       marks_change known (bounded (length there) (IsAimed q here w)) (IsAimed r there u) (code_for p) k (h.steps + n) next (NotEntered items) s.spared (λ e d none can m. aimed_still e d none m.0 m.1) (λ z m. tt)
       (stands_bounded known (IsAimed q here w) (code_for p) k (h.steps + n) next led)
 
-  pub stands_behind : StandsBy p i k tables r (before + turns) next u
-  stands_behind = record {
+  -- where each step marks what it puts into a pad
+  pub marked_behind : StandsBy p i k tables r (before + turns) next u
+  marked_behind = record {
     unit = s.plan.frames.unit ∙ h.unit;
     base = s.plan.base ∙ h.base;
     tables_are = s.plan.tables ∙ h.tables_are;
@@ -156,6 +175,9 @@ module _ (p : Checked) (i : CleanImage) (k : Carrying) (tables : ℕ → ℕ) (f
     frozen = kept.memory ∙ h.frozen;
     steps = h.steps + n;
     stands = stands_there;
+    founded = leads_founded (code_for p) n st next h.founded leads;
+    selectors = leads_keep (regions_for p) k f.fits f.stops n h.steps st next (unmarked_stands p i k tables q before st w h) h.selectors leads;
+    handlers = leads_handled p k n h.steps st next f.fits (unmarked_stands p i k tables q before st w h) h.handlers leads;
     few = omega (arith, s.few, h.few);
     reaches = s.reaches;
     hides = λ none. s.plan.frames.hidden ∙ h.hides (s.ending none);
@@ -163,3 +185,11 @@ module _ (p : Checked) (i : CleanImage) (k : Carrying) (tables : ℕ → ℕ) (f
     once = s.once;
     forced = s.forced;
   }
+
+-- where no step raises an exception or begins a forced unwind
+pub stands_behind : (p : Checked) (i : CleanImage) (k : Carrying) (tables : ℕ → ℕ) → Facts p i k tables → (q r : Plan) (before turns n : ℕ) (st next : State) (w u : abi.World) (items : List Item) → StandsBy p i k tables q before st w →
+    Leads (code_for p) n st (goes_to next) → ((j : ℕ) (middle : State) → j < n → Leads (code_for p) j st (goes_to middle) → CalmAt (code_for p) middle) → RuntimeKept w u items → ShownBehind p k q r turns st next w u items →
+    StandsBy p i k tables r (before + turns) next u
+stands_behind p i k tables f q r before turns n st next w u items h leads calm kept s =
+    marked_behind p i k tables f q r before turns n st next w u items h leads
+    (λ j middle less l. calm_marked (aims p q (st.top ∷ st.frames) w) (code_for p) middle (λ z. tt) (calm j middle less l)) (way_kept w u items kept) s

@@ -22,7 +22,7 @@ use Rattle.step_law.proofs.Aligned.{CallsAlign}
 use Rattle.step_law.proofs.Exceptions.{gone_destroyed}
 
 -- what is in none of two lists is not in the second
-in_neither : (xs ys : List ℕ) (e : ℕ) → contains (xs ++ ys) e ≡ false → contains ys e ≡ false
+pub in_neither : (xs ys : List ℕ) (e : ℕ) → contains (xs ++ ys) e ≡ false → contains ys e ≡ false
 in_neither [] ys e h = h
 in_neither (x ∷ xs) ys e h = by (x == e) h (in_neither xs ys e)
   where

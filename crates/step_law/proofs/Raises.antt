@@ -44,7 +44,7 @@ use Rattle.step_law.proofs.At.{in_unit, is_static, fetches, same_code}
 use Rattle.step_law.proofs.Exceptions.{gone_destroyed}
 use Rattle.step_law.proofs.Keeping.{unmarked_stands}
 
-built_thrown : (y : Exception) → is_built y ≡ true → IsThrown y
+pub built_thrown : (y : Exception) → is_built y ≡ true → IsThrown y
 built_thrown building h = absurd (cc h)
 built_thrown (native t d kept) h = tt
 built_thrown (foreign k token) h = tt
@@ -71,7 +71,7 @@ module _ (x : Run) (q : Plan) (before n : ℕ) (o : LinearOp) (st : State) (w : 
   destructor_there None h = tt
   destructor_there (Some m) h = h.known
 
-  stack_whole : isa.x w.hart sp + open_bytes q (st.top ∷ st.frames) ≡ stack_end
+  pub stack_whole : isa.x w.hart sp + open_bytes q (st.top ∷ st.frames) ≡ stack_end
   stack_whole = stack_at q n st w at.matches.back (stands_by q n st w at.matches at.runs)
 
   newest_there : (y : Entry) (ys : List Entry) → st.world.caught ≡ y ∷ ys → TypeIsThere q (type_at st.world y.number)

@@ -15,13 +15,16 @@ use Rattle.linear_invariant.specs.Stands.{NewMarked, StandsIn}
 use Rattle.linear_invariant.proofs.Calls.{all_spared}
 use Rattle.linear_invariant.proofs.Marks.{marks_change}
 use Rattle.linear_invariant.proofs.Steps.{step_stands}
+use Rattle.kept_selectors.proofs.Stubs.{steps_keep_selectors}
 use Rattle.machine_simulation.specs.Plan.{Plan}
 use Rattle.runtime_invariant.specs.Aims.{is_entered}
 use Rattle.whole_runs.proofs.Staying.{deepest_grows}
 use Rattle.step_law.specs.Facts.{regions_for, code_for, Facts}
 use Rattle.step_law.specs.Standing.{HeaderAims, IsAimed, aims, StandsBy}
+use Rattle.step_law.proofs.Handled.{leads_handled}
+use Rattle.step_law.proofs.Founded.{step_founded}
 use Rattle.step_law.proofs.Bounded.{bounded, stands_bounded}
-use Rattle.step_law.proofs.Keeping.{RuntimeKept, NotEntered, ShownBehind}
+use Rattle.step_law.proofs.Keeping.{RuntimeKept, NotEntered, unmarked_stands, ShownBehind}
 
 -- words that were aimed, and the one that is raised with its target
 abbrev pub aimed_or : Plan → List Activation → abi.World → (e d : ℕ) → Word → Type 0
@@ -72,6 +75,9 @@ module _ (p : Checked) (i : CleanImage) (k : Carrying) (tables : ℕ → ℕ) (f
     frozen = kept.memory ∙ h.frozen;
     steps = h.steps + 1;
     stands = stands_there;
+    founded = step_founded (code_for p) st next h.founded goes;
+    selectors = steps_keep_selectors (regions_for p) k h.steps st next f.fits f.stops (unmarked_stands p i k tables q before st w h) h.selectors goes;
+    handlers = leads_handled p k 1 h.steps st next f.fits (unmarked_stands p i k tables q before st w h) h.handlers (Paces.one_step (code_for p) st (goes_to next) goes);
     few = omega (arith, s.few, h.few);
     reaches = s.reaches;
     hides = λ none. s.plan.frames.hidden ∙ h.hides (s.ending none);

@@ -1,15 +1,14 @@
 -- An exception goes on behind a cleanup of a compiled function, in a whole run.
-use Rattle.std.proofs.Common.{◌≡◌, ◌∙◌, refl, sym, ap, subst, arith, ℕ, zero, suc, ◌<◌, inl, inr, ℤ, false, List, [], ◌∷◌, ◌++◌, Option, Some, None}
+use Rattle.std.proofs.Common.{◌≡◌, ◌∙◌, refl, sym, ap, subst, arith, ℕ, zero, suc, ◌<◌, inl, inr, false, List, [], ◌∷◌, None}
 use Rattle.cxa_runtime.specs.World as abi
 use Rattle.eh_run.specs.Program.{program_of}
-use Rattle.region_forms.specs.World.{Word, flying, Frame, World, type_at}
-use Rattle.linear_forms.specs.Linear.{LinearOp, plain, pad, resume}
-use Rattle.linear_forms.specs.Stub.{Function, CodeOp, compiled, end_catch, terminating, call_unexpected, linear}
-use Rattle.linear_forms.specs.Activation.{Activation, State, Code, Next, goes_to, finishes, Final, by_program, fault, fetch}
+use Rattle.region_forms.specs.World.{flying, World, type_at}
+use Rattle.linear_forms.specs.Linear.{resume}
+use Rattle.linear_forms.specs.Stub.{Function, compiled, end_catch, terminating, call_unexpected}
+use Rattle.linear_forms.specs.Activation.{Activation, State, Code, Next, goes_to, finishes, by_program, fault, fetch}
 use Rattle.linear_forms.specs.Machine.{step}
 use Rattle.linear_forms.specs.Operation.{resumed}
 use Rattle.linear_forms.specs.Pace.{pays_at, one_if, Leads}
-use Rattle.linear_forms.specs.Unwinding.{pad_entered}
 use Rattle.linear_forms.proofs.Paces
 use Rattle.exceptions_in_flight.specs.Aims.{ComesToPad}
 use Rattle.exceptions_in_flight.proofs.Targets.{flights_come_to_pads}
@@ -19,9 +18,7 @@ use Rattle.linear_invariant.proofs.Calls.{all_spared}
 use Rattle.source_bounds.specs.Compiled.{unit_for}
 use Rattle.machine_pieces.specs.Turning.{Turns}
 use Rattle.machine_simulation.specs.Plan.{Plan}
-use Rattle.address_bounds.specs.Reaches.{Needs}
-use Rattle.linear_forms.specs.Linear as forms
-use Rattle.address_invariant.specs.Extents.{Extents, extents_of}
+use Rattle.address_invariant.specs.Extents.{extents_of}
 use Rattle.address_invariant.specs.Reaching.{IsBegunCall, VariablesLie, CallsReach, ObjectsReach}
 use Rattle.address_invariant.specs.Laws.{GoesOn}
 use Rattle.address_invariant.proofs.Newest.{newest_was_made}
@@ -37,18 +34,9 @@ use Rattle.step_law.specs.Raises.{ResumesFollow}
 use Rattle.step_law.proofs.At.{fetches, same_code, step_acts, step_at}
 use Rattle.step_law.proofs.Exceptions.{calm_other}
 use Rattle.step_law.proofs.Keeping.{NotEntered, CalmAt, kept_by_turns, unmarked_stands, calm_forced, ShownBehind, stands_behind}
-use Rattle.step_law.proofs.Landing.{LandsIn, lands_in, lands_outside, lands_aligned, lands_once}
+use Rattle.step_law.proofs.Several.{no_pad_faults}
+use Rattle.step_law.proofs.Landing.{begun_in, LandsIn, lands_in, lands_outside, lands_aligned, lands_once}
 use Rattle.step_law.proofs.Raises.{is_running, resume_asked}
-
--- a call that is open has begun
-begun_in : (y : Extents) (u : forms.UnitCode) (needs : Needs) (v : World) (inner : List Activation) (a : Activation) (outer : List Activation) → CallsReach y u needs v (inner ++ a ∷ outer) → IsBegunCall v a.function a.frame.call
-begun_in y u needs v [] a outer h = h.0.begun
-begun_in y u needs v (b ∷ inner) a outer h = begun_in y u needs v inner a outer h.1
-
--- a pad that is none is a fault
-no_pad_faults : (op : Option CodeOp) (x : Word) (n : ℤ) (f : Function) (p : ℕ) (frame : Frame) (outer : List Activation) (w v : World) (e : Final) → pad_entered op x n f p frame outer w ≡ finishes e v → e ≡ fault
-no_pad_faults (Some (linear (pad o s))) x n f p frame outer w v e h = absurd (cc h)
-no_pad_faults op x n f p frame outer w v e h = cc h
 
 module _ (x : Run) (q : Plan) (before n s e d : ℕ) (st : State) (w : abi.World) (at : IsAt x q before n (resume s) st w) (is : st.top.frame.slots s ≡ flying e d) where
   abbrev code : Code

@@ -112,7 +112,7 @@ module _ (x : Run) (q : Plan) (before n : ℕ) (r : Option ℕ) (st : State) (w 
   abbrev code : Code
   code = code_for x.program
 
-  return_calm : CalmAt code st
+  pub return_calm : CalmAt code st
   return_calm op runs = let same : Some (linear (return r)) ≡ Some (linear (plain op)) = sym (fetches x q before n (return r) st w at) ∙ runs in absurd (cc same)
 
   module _ (a : Activation) (fs : List Activation) (m : ℕ) (frames : st.frames ≡ a ∷ fs) (callee : a.function ≡ compiled m) where

@@ -28,9 +28,11 @@ use Rattle.address_invariant.specs.Reaching.{ObjectsReach, Reaches}
 use Rattle.address_invariant.proofs.Plans.{plans_go_on}
 use Rattle.compiled_runs.specs.Given.{IsGiven}
 use Rattle.compiled_runs.specs.Starts.{plan_of_main, Started}
+use Rattle.kept_selectors.proofs.Ends.{first_selectors}
 use Rattle.step_law.specs.Facts.{regions_for, needs_for, Facts}
 use Rattle.step_law.specs.Standing.{IsAimed, StandsBy}
 use Rattle.step_law.specs.Starts.{StartsStand}
+use Rattle.step_law.proofs.Handled.{first_handled}
 use Rattle.step_law.proofs.Resized.{resized, resized_matches}
 
 -- No exception has number 0, and nothing is asked of its bytes: here it has as many as every other.
@@ -112,6 +114,9 @@ module _ (p : Checked) (i : CleanImage) (k : Carrying) (tables : ℕ → ℕ) (i
     frozen = runs_keep_memory.turns (program_of i).image s.turns (abi.begins (program_of i).hart input replies) s.after [] s.runs;
     steps = 0;
     stands = first_stands (regions_for p) k (IsAimed q (first.top ∷ first.frames) s.after) input replies f.fits (record { bytes = given.bytes; few = given.few; fit = given.ints });
+    founded = (main, refl);
+    selectors = first_selectors (unit_for p) k input replies f.fits.carries;
+    handlers = first_handled p input replies;
     few = omega arith;
     reaches = reach;
     hides = λ none. refl;

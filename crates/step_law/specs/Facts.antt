@@ -14,6 +14,7 @@ use Rattle.linear_forms.specs.UnitRun.{code_of}
 use Rattle.flight_homes.specs.Keeps.{Carrying}
 use Rattle.flight_homes.specs.Laws.{AreCarrying}
 use Rattle.flight_homes.specs.Lives.{known_in}
+use Rattle.kept_selectors.specs.Stopping.{CodeStops}
 use Rattle.linear_invariant.specs.Code.{CodeFits}
 use Rattle.address_bounds.specs.Givens.{needs_of}
 use Rattle.address_bounds.specs.Reaches.{Needs}
@@ -27,6 +28,7 @@ use Rattle.image_tables.specs.Read.{IsImageOf}
 use Rattle.machine_raises.specs.Pads.{PadsArePlain, FiltersAreInts}
 use Rattle.machine_raises.specs.Stacks.{table_of}
 use Rattle.stack_bounds.specs.Taken.{FramesAreSmall}
+use Rattle.raise_premises.specs.Premises.{JumpsAreInts}
 use Rattle.address_invariant.specs.Laws.{UnitReaches}
 use Rattle.operation_premises.specs.Known.{IsKnown}
 
@@ -47,6 +49,7 @@ pub record Facts (p : Checked) (i : CleanImage) (k : Carrying) (tables : ℕ →
   pub reach : UnitReaches (unit_for p) (needs_for p)
   pub carrying : AreCarrying (regions_for p) k
   pub fits : CodeFits (known_in (regions_for p)) (code_for p) k
+  pub stops : CodeStops (code_for p)
   pub image : IsImageOf (unit_for p) i
   pub lists : ListsNameTypes (unit_for p)
   pub chains : (t : ℕ) → t < length (unit_for p).types → ChainEnds (unit_for p).types t
@@ -55,6 +58,7 @@ pub record Facts (p : Checked) (i : CleanImage) (k : Carrying) (tables : ℕ →
   pub frames : (q : Plan) → q.unit ≡ unit_for p → FramesAreSmall q
   pub pads : (q : Plan) → q.unit ≡ unit_for p → PadsArePlain q
   pub filters : (q : Plan) → q.unit ≡ unit_for p → FiltersAreInts q
+  pub jumps : (q : Plan) → q.unit ≡ unit_for p → JumpsAreInts q
   pub named : (program_of i).image.places.terminate ≡ stub_word (records_end (unit_for p)) terminating 0
 
 -- All of it is so of every checked program and each file that is read as its image.

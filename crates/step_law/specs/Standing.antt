@@ -5,7 +5,7 @@ use Rattle.caught_stack.specs.declared.header.Header.{Header}
 use Rattle.elf_image.specs.Clean.{CleanImage}
 use Rattle.cxa_runtime.specs.World as abi
 use Rattle.region_forms.specs.World.{Word, flying}
-use Rattle.linear_forms.specs.Stub.{compiled}
+use Rattle.linear_forms.specs.Stub.{Function, compiled, call_unexpected}
 use Rattle.linear_forms.specs.Activation.{Activation, State}
 use Rattle.flight_homes.specs.Keeps.{Carrying}
 use Rattle.flight_homes.specs.Lives.{known_in}
@@ -13,6 +13,9 @@ use Rattle.linear_invariant.specs.Calls.{Marks}
 use Rattle.linear_invariant.specs.Forced.{newest_forced}
 use Rattle.linear_invariant.specs.Handled.{open_handlers}
 use Rattle.linear_invariant.specs.Stands.{StandsIn}
+use Rattle.kept_selectors.specs.Selectors.{SelectorsNamed}
+use Rattle.kept_handlers.specs.Depths.{Depths, CodeOpens}
+use Rattle.kept_handlers.specs.Handlers.{StateOpens}
 use Rattle.source_bounds.specs.Compiled.{unit_for}
 use Rattle.machine_simulation.specs.Plan.{Plan}
 use Rattle.machine_simulation.specs.Calls.{stack_end, open_bytes}
@@ -51,9 +54,31 @@ IsAimed q fs w x = ⊤
 abbrev pub aims : Checked → Plan → List Activation → abi.World → Marks
 aims p q fs w = record { known = known_in (regions_for p); words = IsAimed q fs w }
 
+-- where one of the runtime's own functions waits for a function of the program: call_unexpected for the handler
+abbrev pub WaitsForHandler : Function → ℕ → Type 0
+WaitsForHandler call_unexpected p = p ≡ 1
+WaitsForHandler f p = ⊤
+
+abbrev pub CallsFrom : Function → Activation → Type 0
+CallsFrom (compiled n) a = WaitsForHandler a.function a.place
+CallsFrom f a = ⊤
+
+-- The outermost of the open calls, the newest of which is one of a function, is of a compiled function: it is main's. And call_unexpected calls no compiled
+-- function but the handler.
+abbrev pub IsFounded : Function → List Activation → Type 0
+IsFounded f [] = (n : ℕ) × (f ≡ compiled n)
+IsFounded f (a ∷ fs) = CallsFrom f a × IsFounded a.function fs
+
+-- The open calls have no more handlers than the program's code opens, and what a specification stopped stays handled.
+pub record HandlersStay (p : Checked) (st : State) : Type 0 where
+  pub depths : Depths
+  pub code : CodeOpens (code_for p) depths
+  pub state : StateOpens depths st
+
 -- With a plan, behind so many turns. The state is one between steps, on a machine that runs the image; and linear_invariant says what it does of the
--- state, behind any number of steps. No more handlers are open than turns were made, since each handler's beginning has words. Behind addresses lie
--- ints. Only while terminate runs frames may be hidden, and no more than the deepest calls took; it waits once at most. The runtime has the forced unwind
+-- state, behind any number of steps. The outermost call is of a compiled function, and call_unexpected waits for handlers alone. Where calls carry what a pad
+-- caught, their slots have numbers of its filters. No more handlers are open than turns were made, since each handler's beginning has words. Behind addresses
+-- lie ints. Only while terminate runs frames may be hidden, and no more than the deepest calls took; it waits once at most. The runtime has the forced unwind
 -- that goes on next.
 pub record StandsBy (p : Checked) (i : CleanImage) (k : Carrying) (tables : ℕ → ℕ) (q : Plan) (before : ℕ) (st : State) (w : abi.World) : Type 0 where
   pub unit : q.unit ≡ unit_for p
@@ -63,6 +88,9 @@ pub record StandsBy (p : Checked) (i : CleanImage) (k : Carrying) (tables : ℕ 
   pub frozen : IsRunOf i w.hart
   pub steps : ℕ
   pub stands : StandsIn (aims p q (st.top ∷ st.frames) w) (code_for p) k steps st
+  pub founded : IsFounded st.top.function st.frames
+  pub selectors : SelectorsNamed (code_for p) k (st.top ∷ st.frames)
+  pub handlers : HandlersStay p st
   pub few : open_handlers st.world.caught ≤ before
   pub reaches : Reaches (extents_of q) (unit_for p) (needs_for p) st
   pub hides : st.world.ending ≡ false → q.hidden ≡ 0

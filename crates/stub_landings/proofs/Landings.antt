@@ -52,10 +52,10 @@ rethrows_land turns made agree i p n st next w h running at types plains ints on
     let all = rethrow_runs turns made agree words (Resting next) i p n st next w h.back enters on (stands_by p n st w h at.runs) running at step (subst (λ k. TypeIsThere p (type_at st.world k)) number types) plains ints in
     (ap (λ (u : World). u.items) all.0 ∙ sym (append-nil st.world.items), subst (λ k. RaisedTo p i st next w k (x w.hart sp) (length (linear_code (shape p n) (plain rethrow)) + words) (Resting next p)) (sym number) all.1)
 
-pub modules_land : CallsAreTurns → CallsAreMade → ValuesAreComputed → RaisesAgree → ModulesLand
-modules_land turns made values agree i pick p n st next w o wants v k token left h running at calls asks is reply free plains ints on =
+pub modules_land : CallsAreTurns → CallsAreMade → RaisesAgree → ModulesLand
+modules_land turns made agree i pick p n st next w o wants k token left h running at calls reply free plains ints on =
     let enters = enters_any i st.top next (raises_here st.top n at.runs) on in
-    let all = module_runs turns made values agree (pad_words next.top.function) (Resting next) i pick p n st next w h.back o wants v k token left enters on (stands_by p n st w h at.runs) running at calls asks is reply free plains ints in
+    let all = module_runs turns made agree (pad_words next.top.function) (Resting next) i pick p n st next w h.back o wants k token left enters on (stands_by p n st w h at.runs) running at calls reply free plains ints in
     (ap (λ (u : World). u.items) all.world, all.slot, all.below, all.raised)
 
 pub resumes_land : CallsAreTurns → CallsAreMade → ResumesAgree → ResumesLand

@@ -1,6 +1,5 @@
 -- What is raised, goes on or is unwound in a compiled function comes to a landing pad, of a compiled function or of one of the runtime's own.
 use Rattle.std.specs.Prelude.{◌≡◌, ℕ, ◌+◌, ◌<◌, false, ℤ, pos, List, [], ◌∷◌, length, slice_get, Option, Some}
-use Rattle.cxx_ast.specs.declared.name.Builtin.TheVariants.{Module}
 use Rattle.eh_outer.specs.declared.module.Reply.{Reply}
 use Rattle.eh_outer.specs.declared.module.Reply.TheVariants.{Raise}
 use Rattle.run_items.specs.declared.item.Item.TheVariants.{Foreign}
@@ -9,7 +8,7 @@ use Rattle.elf_image.specs.Clean.{CleanImage}
 use Rattle.caught_stack.specs.Live.{slots}
 use Rattle.cxa_runtime.specs.World as abi
 use Rattle.eh_run.specs.Program.{program_of}
-use Rattle.region_forms.specs.Form.{Place, Value, int_argument, no_arguments, argument_then, throw, rethrow}
+use Rattle.region_forms.specs.Form.{Place, Value, throw, rethrow}
 use Rattle.region_forms.specs.World.{type_at}
 use Rattle.region_forms.specs.Evaluation.{value_in}
 use Rattle.region_forms.specs.Effect.{is_full, newest_of}
@@ -26,7 +25,7 @@ use Rattle.machine_simulation.specs.Operations.{Matched, ForcedMatched}
 use Rattle.machine_simulation.specs.Returns.{closed}
 use Rattle.machine_simulation.specs.Runs.{StepAt}
 use Rattle.machine_simulation.specs.Objects.{with_object, Shows}
-use Rattle.machine_exceptions.specs.Answers.{CallsBuiltin}
+use Rattle.machine_exceptions.specs.Answers.{CallsModule}
 use Rattle.machine_raises.specs.Stacks.{IsRunning}
 use Rattle.machine_raises.specs.Pads.{PadsArePlain, FiltersAreInts}
 use Rattle.machine_raises.specs.Throws.{MayThrow, RaisedTo}
@@ -63,9 +62,8 @@ RethrowsLand = (i : CleanImage) (p : Plan) (n : ℕ) (st next : State) (w : abi.
 
 -- one that calls a module which raises, where fewer than 1,024 exceptions are live
 abbrev pub ModulesLand : Type 0
-ModulesLand = (i : CleanImage) (pick : ℕ → ℕ) (p : Plan) (n : ℕ) (st next : State) (w : abi.World) (o : LinearOp) (wants : Option Place) (v : Value) (k token : ℕ) (left : List Reply) → Matches p st w → IsRunning p i w.hart → StepAt p st next n o →
-    CallsBuiltin Module (argument_then (int_argument v) no_arguments) wants o → ValueAsked p n st.top.frame st.world v → value_in (slot_kinds p n) st.top.frame st.world v ≡ Some (pos k) → slice_get st.world.replies k ≡ Some (Raise token ∷ left) →
-    is_full st.world ≡ false → PadsArePlain p → FiltersAreInts p → GoesOn next →
+ModulesLand = (i : CleanImage) (pick : ℕ → ℕ) (p : Plan) (n : ℕ) (st next : State) (w : abi.World) (o : LinearOp) (wants : Option Place) (k token : ℕ) (left : List Reply) → Matches p st w → IsRunning p i w.hart → StepAt p st next n o →
+    CallsModule p n st wants o (pos k) → slice_get st.world.replies k ≡ Some (Raise token ∷ left) → is_full st.world ≡ false → PadsArePlain p → FiltersAreInts p → GoesOn next →
     let e = st.world.last_number + 1 in
     Shows st next (Foreign e k token ∷ []) × (slot : ℕ) × (slot < slots) ×
     RaisedForTo p i pick st next w e (length (linear_code (shape p n) o) + pad_words next.top.function) (Foreign e k token ∷ []) (λ u. Rests (resting (with_object p e slot) next) next u)

@@ -38,7 +38,6 @@ pub fn modules_land()
 {
     calls_are_turns();
     calls_are_made();
-    values_are_computed();
     raises_agree();
 }
 

@@ -5,6 +5,8 @@
 #[cfg(test)]
 mod clean_images;
 #[cfg(test)]
+mod documented;
+#[cfg(test)]
 mod dumps;
 #[cfg(test)]
 mod frame_lists;

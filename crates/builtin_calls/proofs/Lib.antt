@@ -1,0 +1,11 @@
+pub mod Trees
+pub mod Rules
+pub mod Expressions
+pub mod Blocks
+pub mod Functions
+pub mod Declarations
+pub mod Lowered
+pub mod LoweredStatements
+pub mod LoweredPrograms
+pub mod Forms
+pub mod Programs

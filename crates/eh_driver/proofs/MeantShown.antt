@@ -1,0 +1,86 @@
+-- What is stored for a program, and run, is the compiled program.
+use Rattle.std.proofs.Common.{◌≡◌, ◌≤◌, ◌^◌, ℕ, List, length, Result, Ok, Err, refl, sym, subst}
+use Rattle.std.specs.Prelude.{IsOkAnd}
+use Rattle.std.proofs.lemmas.List.{length-map}
+use Rattle.run_items.specs.Output.{TakesAll}
+use Rattle.eh_outer.specs.Module.{ModuleView}
+use Rattle.eh_outer.specs.Sink.{SinkView}
+use Rattle.cxx_ast.specs.Plain.{Program}
+use Rattle.cxx_ast.specs.Broken.{Valid}
+use Rattle.cxx_ast.specs.Checked.{IsChecked, checked}
+use Rattle.cxx_front.specs.Source.{IsProgram}
+use Rattle.cxx_image.specs.Image.{image_for}
+use Rattle.source_bounds.specs.Compiled.{emitted_for}
+use Rattle.source_bounds.specs.Laws.{CheckedIsLinkable}
+use Rattle.table_forms.specs.Fault.{Fault}
+use Rattle.elf_image.specs.Clean.{CleanImage}
+use Rattle.elf_image.specs.Runnable.{runnable}
+use Rattle.image_link.specs.Laws.{ImagesAreSmall}
+use Rattle.image_link.specs.Runs.{UnitStands, RunsUnit}
+use Rattle.foreign_host.specs.Host.{GuestsAreInts}
+use Rattle.meaning_forms.specs.declared.ending.MeanEnd.TheVariants as meanings
+use Rattle.cxa_runtime.specs.Kept.{replies_of}
+use Rattle.cxa_runtime.specs.Run.{Ran}
+use Rattle.compiled_runs.specs.Given.{IsGiven}
+use Rattle.step_law.specs.Complete.{CheckedImagesAreCompiled}
+use Rattle.eh_commands.specs.declared.status.Status.{Status}
+use Rattle.eh_commands.specs.File.{Asked}
+use Rattle.eh_commands.specs.RunEnd.{run_lines, status_of_run}
+use Rattle.eh_commands.specs.RunSource.{CompiledRunsThis}
+use Rattle.eh_driver.specs.Promise.{AreBytes, AreCompiled, ShowsMeant, meaning_for}
+
+-- the laws of what is compiled
+pub record CompilerLaws : Type 0 where
+  pub compiled : CheckedImagesAreCompiled
+  pub linkable : CheckedIsLinkable
+  pub small : ImagesAreSmall
+
+-- what is so of all that is asked: so many turns, and modules that answer with ints
+pub record IsAsked (a : Asked) : Type 0 where
+  pub turns : a.turns ≤ 2 ^ 40
+  pub few : length a.modules ≤ 64
+  pub ints : GuestsAreInts a.modules
+
+-- a valid program is a checked one
+is_checked : (source : List ℕ) (p : Program) → IsProgram source p → Valid p → IsChecked (checked p)
+is_checked source p program holds = record {
+  source = source;
+  tokens = program.tokens;
+  program = p;
+  lexed = program.lexed;
+  tree = program.tree;
+  valid = holds;
+  resolved = refl;
+}
+
+module _ (laws : CompilerLaws) (source : List ℕ) (p : Program) (program : IsProgram source p) (holds : Valid p) where
+  abbrev bytes : List ℕ
+  bytes = image_for (checked p)
+
+  -- the image that is stored
+  pub are_compiled : RunsUnit (emitted_for (checked p)) bytes → AreCompiled (checked p) bytes
+  are_compiled runs = by (runnable bytes) refl runs
+    where
+      by : (r : Result CleanImage Fault) → runnable bytes ≡ r → IsOkAnd r (UnitStands (emitted_for (checked p))) → AreCompiled (checked p) bytes
+      by (Ok i) read stands =
+          let is = is_checked source p program holds in
+          let linkable = laws.linkable (checked p) is in
+          record {
+            image = i;
+            read = read;
+            words = laws.small.words (emitted_for (checked p)) linkable;
+            small = laws.small.bytes (emitted_for (checked p)) linkable;
+            compiled = laws.compiled (checked p) is bytes i read stands;
+          }
+      by (Err fault) read stands = absurd stands
+
+  -- the run that is shown
+  pub meant_shown : (a : Asked) → IsAsked a → (input : List ℕ) → AreBytes input → ((meaning_for a p input).end ≡ meanings.Undefined → ⊥) → (out out' : SinkView) (status : Status) (r : Ran) → CompiledRunsThis a r (checked p) input →
+      status ≡ status_of_run r.end → TakesAll (run_lines a.trace a.count r) out out' → ShowsMeant a p input out out' status
+  meant_shown a asked input ints defined out out' status r (runs, this) end took =
+      let (i, read, run) = this in
+      let stands : UnitStands (emitted_for (checked p)) i = subst (λ y. IsOkAnd y (UnitStands (emitted_for (checked p)))) read runs in
+      let compiled = laws.compiled (checked p) (is_checked source p program holds) bytes i read stands in
+      let few : length (replies_of a.modules) ≤ 64 = subst (λ n. n ≤ 64) (sym (length-map a.modules (λ (seen : ModuleView). seen.rest))) asked.few in
+      let given : IsGiven input (replies_of a.modules) = record { bytes = ints; few = few; ints = asked.ints } in
+      (r, this, compiled.means input (replies_of a.modules) a.turns r given asked.turns run defined, end, took.gains)

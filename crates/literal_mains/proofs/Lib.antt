@@ -1,9 +1,0 @@
-pub mod Words
-pub mod Low
-pub mod Trees
-pub mod Literals
-pub mod Spelled
-pub mod Functions
-pub mod Programs
-pub mod Units
-pub mod Runs
