@@ -51,7 +51,7 @@ called_below a (b ∷ fs) is founded nest = by b.function refl (subst (λ f. is_
     by (compiled n) same h = inl (record { number = n; caller = b; others = fs; frames = refl; is = same })
     by end_catch same h = absurd (cc h)
     by terminating same h = absurd (cc h)
-    by call_unexpected same h = inr (record { unexpected = b; others = fs; frames = refl; is = same; called = called_by b fs same founded.1 nest.1 })
+    by call_unexpected same h = inr (record { unexpected = b; others = fs; frames = refl; is = same; called = called_by b fs same founded nest.1 })
 
 module _ (x : Run) (q : Plan) (before : ℕ) (z : ℤ) (st : State) (w : abi.World) (at : StandsAt x q before st w) where
   abbrev code : Code

@@ -58,7 +58,7 @@ use Rattle.step_law.proofs.Keeping.{NotEntered, CalmAt, calm_marked, way_kept, k
 -- where the outermost call is of a compiled function, calls were made
 calls_made : (y : Extents) (u : UnitCode) (needs : Needs) (v : World) (a : Activation) (fs : List Activation) → IsFounded a.function fs → CallsReach y u needs v (a ∷ fs) → 0 < v.calls
 calls_made y u needs v a [] founded h = let begun : a.frame.call < v.calls = subst (λ f. IsBegunCall v f a.frame.call) founded.1 h.0.begun in omega (arith, begun)
-calls_made y u needs v a (b ∷ fs) founded h = calls_made y u needs v b fs founded.1 h.1
+calls_made y u needs v a (b ∷ fs) founded h = calls_made y u needs v b fs founded h.1
 
 -- the function's last operation, from which the unwind goes on, where things stand then, and what was shown up to it
 pub record LastThere (x : Run) (q lq : Plan) (p : ℕ) (v : World) (items : List Item) (gs : List Activation) (m : ℕ) (st : State) (w : abi.World) : Type 0 where

@@ -22,7 +22,7 @@ use Rattle.machine_exceptions.specs.Enters.{is_crowded}
 use Rattle.machine_exceptions.specs.Terminates.{TerminatesAtOnce}
 use Rattle.machine_raises.specs.Cancels.{Cancels}
 use Rattle.step_law.specs.Facts.{code_for}
-use Rattle.step_law.specs.Standing.{WaitsForHandler, CallsFrom, IsFounded}
+use Rattle.step_law.specs.Standing.{IsFounded}
 use Rattle.step_law.specs.Passing.{StoppedTerminates, UnexpectedReturns}
 use Rattle.step_law.specs.Rows.{Run, IsAt, FollowsIn, QuietStepsFollow, LinesFollow, BytesFollow, CallsFollow, ReturnsFollow, MainsFollow, ExitsFollow, MakesFollow, FreesFollow, EntersFollow, AnswersFollow, AbortsFollow, HandlersAbort}
 use Rattle.step_law.specs.Raises.{ResumesFollow}
@@ -249,7 +249,7 @@ module _ (rows : Rows) (x : Run) (q : Plan) (before n : ℕ) (few : before < 2 ^
       -- a destructor that end_catch called
       caught : (waiting : Activation) (fs : List Activation) → st.frames ≡ waiting ∷ fs → waiting.function ≡ end_catch → FollowsIn x before st w
       caught waiting [] is own =
-          let founded = (subst (IsFounded st.top.function) is at.stands.founded).1 in
+          let founded = subst (IsFounded st.top.function) is at.stands.founded in
           let no : compiled founded.0 ≡ end_catch = sym founded.1 ∙ own in
           absurd (cc no)
       caught waiting (a ∷ fs) is own = by_caller a.function refl (subst (λ gs. CallsNest (st.top ∷ gs)) is at.stands.stands.stand.nest).1.0
@@ -263,14 +263,12 @@ module _ (rows : Rows) (x : Run) (q : Plan) (before n : ℕ) (few : before < 2 ^
       -- an unexpected handler
       handled : (waiting : Activation) (fs : List Activation) → st.frames ≡ waiting ∷ fs → waiting.function ≡ call_unexpected → IsFounded st.top.function (waiting ∷ fs) → FollowsIn x before st w
       handled waiting [] is own founded =
-          let no : compiled founded.1.0 ≡ call_unexpected = sym founded.1.1 ∙ own in
+          let no : compiled founded.0 ≡ call_unexpected = sym founded.1 ∙ own in
           absurd (cc no)
       handled waiting (a ∷ fs) is own founded =
-          let from : CallsFrom (compiled n) waiting = subst (λ f. CallsFrom f waiting) at.runs founded.0 in
-          let place : waiting.place ≡ 1 = subst (λ f. WaitsForHandler f waiting.place) own from in
           let there = returns_to_stopped at.stands.handlers.depths st n waiting (a ∷ fs) at.stands.handlers.state at.runs is own in
           let stays = handles waiting there.1 st.world there.2 in
-          rows.handlers_return x q before n stays.type r stays.destructor stays.kept waiting a fs st w at (record { frames = is; stub = own; place = place; native = stays.native })
+          rows.handlers_return x q before n stays.type r stays.destructor stays.kept waiting a fs st w at (record { frames = is; stub = own; place = there.0; native = stays.native })
 
       by : (fs : List Activation) → st.frames ≡ fs → FollowsIn x before st w
       by [] is = rows.mains x q before n r st w at is

@@ -54,20 +54,10 @@ IsAimed q fs w x = ⊤
 abbrev pub aims : Checked → Plan → List Activation → abi.World → Marks
 aims p q fs w = record { known = known_in (regions_for p); words = IsAimed q fs w }
 
--- where one of the runtime's own functions waits for a function of the program: call_unexpected for the handler
-abbrev pub WaitsForHandler : Function → ℕ → Type 0
-WaitsForHandler call_unexpected p = p ≡ 1
-WaitsForHandler f p = ⊤
-
-abbrev pub CallsFrom : Function → Activation → Type 0
-CallsFrom (compiled n) a = WaitsForHandler a.function a.place
-CallsFrom f a = ⊤
-
--- The outermost of the open calls, the newest of which is one of a function, is of a compiled function: it is main's. And call_unexpected calls no compiled
--- function but the handler.
+-- the outermost of the open calls, the newest of which is one of a function, is of a compiled function: it is main's
 abbrev pub IsFounded : Function → List Activation → Type 0
 IsFounded f [] = (n : ℕ) × (f ≡ compiled n)
-IsFounded f (a ∷ fs) = CallsFrom f a × IsFounded a.function fs
+IsFounded f (a ∷ fs) = IsFounded a.function fs
 
 -- The open calls have no more handlers than the program's code opens, and what a specification stopped stays handled.
 pub record HandlersStay (p : Checked) (st : State) : Type 0 where
@@ -76,8 +66,8 @@ pub record HandlersStay (p : Checked) (st : State) : Type 0 where
   pub state : StateOpens depths st
 
 -- With a plan, behind so many turns. The state is one between steps, on a machine that runs the image; and linear_invariant says what it does of the
--- state, behind any number of steps. The outermost call is of a compiled function, and call_unexpected waits for handlers alone. Where calls carry what a pad
--- caught, their slots have numbers of its filters. No more handlers are open than turns were made, since each handler's beginning has words. Behind addresses
+-- state, behind any number of steps. The outermost call is of a compiled function. Where calls carry what a pad caught, their slots have numbers of its
+-- filters. No more handlers are open than turns were made, since each handler's beginning has words. Behind addresses
 -- lie ints. Only while terminate runs frames may be hidden, and no more than the deepest calls took; it waits once at most. The runtime has the forced unwind
 -- that goes on next.
 pub record StandsBy (p : Checked) (i : CleanImage) (k : Carrying) (tables : ℕ → ℕ) (q : Plan) (before : ℕ) (st : State) (w : abi.World) : Type 0 where
