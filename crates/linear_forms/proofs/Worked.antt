@@ -14,8 +14,9 @@ use Rattle.meaning_forms.proofs.Trees.{nm, pa, fn, cl, ck}
 use Rattle.region_forms.specs.Layout.{layout_of}
 use Rattle.region_forms.specs.LowerProgram.{regions_of}
 use Rattle.region_forms.specs.Meaning.{regions_meaning}
+use Rattle.linear_forms.specs.Pace.{paying, counted}
 use Rattle.linear_forms.specs.Unit.{unit_of}
-use Rattle.linear_forms.specs.UnitRun.{unit_run, Seen, seen, seen_of, seen_run}
+use Rattle.linear_forms.specs.UnitRun.{code_of, first_state, unit_run, Seen, seen, seen_of, seen_run}
 
 abbrev rows : List Statement → Statements
 rows [] = no_statements
@@ -100,6 +101,16 @@ leaves_a_loop = ck classes [] (
 leaves_a_loop-shows : Shows leaves_a_loop (seen (Line (pos 7) ∷ Line (pos 0) ∷ Line (pos 1) ∷ []) (Exit (pos 2)) 2 [])
 unfolding leaves_a_loop uleb_spelling uleb_spelling_within
 leaves_a_loop-shows = (refl, refl)
+
+-- Ten of its steps may pay for a turn: two constructors, two destructors, two tests of the loop, two of the `if`, and two behind the destructor, of where the exit goes on.
+-- Five are calls, or turn back.
+abbrev Paces : Checked → ℕ → ℕ → Type 0
+Paces p pays counts =
+    let u = unit_of (regions_of p (layout_of p)) in (paying (code_of u) 1000 (first_state u [] []) ≡ pays) × (counted (code_of u) 1000 (first_state u [] []) ≡ counts)
+
+leaves_a_loop-paces : Paces leaves_a_loop 10 5
+unfolding leaves_a_loop uleb_spelling uleb_spelling_within
+leaves_a_loop-paces = (refl, refl)
 
 -- An exception is thrown again: its handler is left on the way, and it is given back where the outer one is left.
 --     int main() { try { try { throw 3; } catch (int e) { A a(1); throw; } } catch (...) { write_int(4); } return 0; }

@@ -29,7 +29,7 @@ use Rattle.machine_simulation.specs.StubCalls.{DestructorWaits, UnexpectedWaits,
 use Rattle.machine_simulation.specs.Calls.{CallsWait}
 use Rattle.machine_simulation.specs.Exceptions.{Addresses, addresses_of, IsFunction}
 use Rattle.machine_simulation.specs.Matches.{Matches}
-use Rattle.machine_simulation.specs.Runs.{StepAt}
+use Rattle.machine_simulation.specs.Steps.{StepAt}
 use Rattle.machine_simulation.specs.Returns.{ResultStands}
 use Rattle.machine_simulation.proofs.Words.{even_base}
 use Rattle.machine_simulation.proofs.Matching.{Stands, stands_by}

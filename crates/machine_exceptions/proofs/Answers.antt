@@ -38,7 +38,7 @@ use Rattle.machine_simulation.specs.Plan.{Plan, function, shape, slot_kinds, rou
 use Rattle.machine_simulation.specs.Matches.{RuntimeMatches, Matches}
 use Rattle.machine_simulation.specs.Operations.{Matched}
 use Rattle.machine_simulation.specs.Asked.{WantedAsked}
-use Rattle.machine_simulation.specs.Runs.{StepAt}
+use Rattle.machine_simulation.specs.Steps.{StepAt}
 use Rattle.machine_simulation.proofs.Words.{OperationAt, operation_at}
 use Rattle.machine_simulation.proofs.Asked.{wanted_stands}
 use Rattle.machine_simulation.proofs.Matching.{Stands, stands_by, runtime_stays}

@@ -13,7 +13,7 @@ use Rattle.linear_forms.specs.Operation.{settled, wanted_by}
 use Rattle.linear_forms.specs.StubOperation.{given_back, newest_left}
 use Rattle.linear_forms.specs.UnitRun.{code_of}
 use Rattle.machine_simulation.specs.Plan.{Plan}
-use Rattle.machine_simulation.specs.Runs.{StepAt}
+use Rattle.machine_simulation.specs.Steps.{StepAt}
 use Rattle.machine_simulation.proofs.Quiet.{step_is, plain_is}
 use Rattle.machine_exceptions.specs.Leaves.{behind}
 use Rattle.region_forms.specs.Lives.{can_travel, may_leave}

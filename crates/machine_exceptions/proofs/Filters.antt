@@ -31,7 +31,7 @@ use Rattle.machine_pieces.proofs.Values.{value_evaluates, both, bne_done, code_a
 use Rattle.machine_simulation.specs.Plan.{Plan, function, shape, slot_kinds, routine, first_word, setting}
 use Rattle.machine_simulation.specs.Matches.{Matches}
 use Rattle.machine_simulation.specs.Operations.{Matched}
-use Rattle.machine_simulation.specs.Runs.{StepAt}
+use Rattle.machine_simulation.specs.Steps.{StepAt}
 use Rattle.machine_simulation.proofs.Words.{OperationAt, operation_at}
 use Rattle.machine_simulation.proofs.Matching.{Stands, stands_by, ready_here, some_steps, Arrives, matched, memory_at}
 use Rattle.machine_simulation.proofs.Quiet.{moved, step_is}

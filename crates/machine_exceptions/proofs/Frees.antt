@@ -30,7 +30,7 @@ use Rattle.machine_simulation.specs.Plan.{Plan, shape, routine, first_word, sett
 use Rattle.machine_simulation.specs.Exceptions.{Addresses, LinearExceptions, KeptExceptions, addresses_of, exceptions_in, kept_by, destroyed, live_in, HeaderIs, ExceptionsMatch, PlanHas}
 use Rattle.machine_simulation.specs.Matches.{MemoryMatches, Matches}
 use Rattle.machine_simulation.specs.Operations.{Matched}
-use Rattle.machine_simulation.specs.Runs.{StepAt}
+use Rattle.machine_simulation.specs.Steps.{StepAt}
 use Rattle.machine_simulation.proofs.Words.{operation_at}
 use Rattle.machine_simulation.proofs.Matching.{Stands, stands_by, runtime_stays}
 use Rattle.machine_simulation.proofs.Quiet.{moved, step_is}

@@ -40,7 +40,7 @@ use Rattle.machine_stubs.specs.Calls.{asked, CallsAreMade}
 use Rattle.machine_simulation.specs.Plan.{Plan, shape, routine, first_word, setting}
 use Rattle.machine_simulation.specs.Exceptions.{Addresses, addresses_of, exceptions_in, kept_by, destroyed, live_in, ExceptionsMatch, PlanHas}
 use Rattle.machine_simulation.specs.Matches.{RuntimeMatches, MemoryMatches, Matches}
-use Rattle.machine_simulation.specs.Runs.{StepAt}
+use Rattle.machine_simulation.specs.Steps.{StepAt}
 use Rattle.machine_simulation.proofs.Words.{operation_at}
 use Rattle.machine_simulation.proofs.Matching.{Stands, stands_by, Arrives, memory_at, runtime_stays}
 use Rattle.machine_simulation.proofs.Quiet.{moved, step_is, plain_is}

@@ -28,7 +28,7 @@ use Rattle.machine_simulation.specs.Plan.{Plan, shape, slot_kinds}
 use Rattle.machine_simulation.specs.Matches.{Matches}
 use Rattle.machine_simulation.specs.Operations.{Matched}
 use Rattle.machine_simulation.specs.Asked.{WantedAsked}
-use Rattle.machine_simulation.specs.Runs.{StepAt}
+use Rattle.machine_simulation.specs.Steps.{StepAt}
 use Rattle.machine_simulation.proofs.Asked.{wanted_stands}
 use Rattle.machine_simulation.proofs.Matching.{stands_by, runtime_stays}
 use Rattle.machine_simulation.proofs.Holding.{same_number}

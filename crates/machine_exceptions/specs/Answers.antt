@@ -16,7 +16,7 @@ use Rattle.machine_simulation.specs.Plan.{Plan, shape, slot_kinds}
 use Rattle.machine_simulation.specs.Matches.{Matches}
 use Rattle.machine_simulation.specs.Operations.{Matched}
 use Rattle.machine_simulation.specs.Asked.{ValueAsked, WantedAsked}
-use Rattle.machine_simulation.specs.Runs.{StepAt}
+use Rattle.machine_simulation.specs.Steps.{StepAt}
 
 -- an operation calls a built-in function, for a place that wants its value or for none
 abbrev pub CallsBuiltin : Builtin → Arguments → Option Place → LinearOp → Type 0

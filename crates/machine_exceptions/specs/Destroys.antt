@@ -17,7 +17,7 @@ use Rattle.machine_simulation.specs.Plan.{Plan, function, shape, slot_kinds}
 use Rattle.machine_simulation.specs.Calls.{open_bytes}
 use Rattle.machine_simulation.specs.Exceptions.{live_in}
 use Rattle.machine_simulation.specs.Matches.{Matches}
-use Rattle.machine_simulation.specs.Runs.{StepAt}
+use Rattle.machine_simulation.specs.Steps.{StepAt}
 use Rattle.machine_simulation.specs.Entering.{WordsFit, opened, frame_for}
 use Rattle.machine_simulation.specs.Returns.{closed, ResultStands}
 use Rattle.machine_simulation.specs.Objects.{without_object, Shows}

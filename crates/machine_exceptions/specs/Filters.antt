@@ -10,7 +10,7 @@ use Rattle.machine_pieces.specs.Numbers.{IsInt}
 use Rattle.machine_simulation.specs.Plan.{Plan, shape}
 use Rattle.machine_simulation.specs.Matches.{Matches}
 use Rattle.machine_simulation.specs.Operations.{Matched}
-use Rattle.machine_simulation.specs.Runs.{StepAt}
+use Rattle.machine_simulation.specs.Steps.{StepAt}
 use Rattle.machine_exceptions.specs.Makes.{IsWordSlot}
 
 -- A step at a jump on a filter, whose slot holds a selector, is matched by at most as many turns as the operation has words, and by at least one.

@@ -9,7 +9,7 @@ use Rattle.machine_forms.specs.LinearCode.{linear_code}
 use Rattle.machine_simulation.specs.Plan.{Plan, shape}
 use Rattle.machine_simulation.specs.Matches.{Matches}
 use Rattle.machine_simulation.specs.Operations.{Matched}
-use Rattle.machine_simulation.specs.Runs.{StepAt}
+use Rattle.machine_simulation.specs.Steps.{StepAt}
 use Rattle.machine_simulation.specs.Objects.{without_object, HoldsObject, Shows}
 
 -- A step that frees an exception, whose address the slot holds, is matched by as many turns as the operation has

@@ -18,7 +18,7 @@ use Rattle.machine_pieces.specs.Turning.{Reaches}
 use Rattle.machine_simulation.specs.Plan.{Plan}
 use Rattle.machine_simulation.specs.Exceptions.{live_in}
 use Rattle.machine_simulation.specs.Matches.{Matches}
-use Rattle.machine_simulation.specs.Runs.{StepAt}
+use Rattle.machine_simulation.specs.Steps.{StepAt}
 use Rattle.machine_simulation.specs.Objects.{without_object, Shows}
 
 -- so many steps of the machine for linear code lead from a state to another

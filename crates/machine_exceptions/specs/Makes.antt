@@ -13,7 +13,7 @@ use Rattle.machine_forms.specs.Shape.{slot_offset}
 use Rattle.machine_forms.specs.LinearCode.{linear_code}
 use Rattle.machine_simulation.specs.Plan.{Plan, shape, slot_kinds}
 use Rattle.machine_simulation.specs.Matches.{Matches}
-use Rattle.machine_simulation.specs.Runs.{StepAt}
+use Rattle.machine_simulation.specs.Steps.{StepAt}
 use Rattle.machine_simulation.specs.Objects.{with_object, Shows}
 use Rattle.machine_exceptions.specs.Picks.{MatchedFor}
 

@@ -22,7 +22,7 @@ use Rattle.machine_stubs.specs.Stretches.{stub_word}
 use Rattle.machine_simulation.specs.Plan.{Plan, function, shape, slot_kinds}
 use Rattle.machine_simulation.specs.Calls.{open_bytes}
 use Rattle.machine_simulation.specs.Matches.{Matches}
-use Rattle.machine_simulation.specs.Runs.{StepAt}
+use Rattle.machine_simulation.specs.Steps.{StepAt}
 use Rattle.machine_simulation.specs.Entering.{opened, frame_for}
 use Rattle.machine_simulation.specs.Returns.{ResultStands}
 use Rattle.machine_exceptions.specs.Answers.{CallsBuiltin}

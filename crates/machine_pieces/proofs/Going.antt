@@ -30,9 +30,6 @@ kept_all r i low small e = omega (arith, low, small)
 
 -- ---- the next word
 
-pub ends_below : (memory : List Part) (g : Ground) (here : ℕ) (y : Piece) → PieceAt memory g here y → address g (here + 1) < 2 ^ 64
-ends_below memory g here y h = omega (arith, h.word.below)
-
 pub next_is : (g : Ground) (here : ℕ) (y : Piece) (s : State) → PieceAt s.memory g here y → s.pc ≡ address g here → next s ≡ address g (here + 1)
 next_is g here y s h at = omega (arith, h.word.below, at)
 

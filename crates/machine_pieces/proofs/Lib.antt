@@ -13,13 +13,6 @@ pub mod Testing
 pub mod Framing
 pub mod Routines
 pub mod Turning
-mod Worked
-mod SmallMain
+mod Calling
 mod Writing
 mod Addressing
-mod Initial
-mod Placing
-pub mod Fitting
-mod Imaged
-mod Starting
-pub mod Lowering

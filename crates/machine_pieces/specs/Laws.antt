@@ -1,30 +1,12 @@
 -- What the calls of laws state.
-use Rattle.std.specs.Prelude.{◌≡◌, ℕ, ◌+◌, ◌*◌, ◌%◌, ◌^◌, ◌<◌, ◌≤◌, ◌==◌, false, ℤ, List, [], ◌∷◌, ◌++◌, map, length, slice_get, Some, suc, negsuc}
-use Rattle.std.specs.List.{flat_map, AllByRecursion}
+use Rattle.std.specs.Prelude.{◌≡◌, ℕ, ◌+◌, ◌%◌, ◌^◌, ◌<◌, ◌≤◌, ℤ, List, [], ◌∷◌, ◌++◌, map, length, slice_get, Some, suc, negsuc}
+use Rattle.std.specs.List.{flat_map}
 use Rattle.run_items.specs.declared.item.Item.TheVariants.{Line}
 use Rattle.cxa_runtime.specs.declared.effect.End.TheVariants.{Exit}
 use Rattle.cxa_runtime.specs.Raising.{Image}
 use Rattle.cxa_runtime.specs.Run.{run}
 use Rattle.cxa_runtime.specs.World as machine
-use Rattle.linear_forms.specs.Linear.{FunctionCode, UnitCode}
 use Rattle.machine_pieces.specs.Numbers.{IsInt, extended}
-use Rattle.eh_outer.specs.declared.module.Reply.{Reply}
-use Rattle.cxx_ast.specs.declared.name.Name.{Name}
-use Rattle.cxx_ast.specs.Plain.{Checked}
-use Rattle.region_forms.specs.Layout.{Layout}
-use Rattle.region_forms.specs.LowerProgram.{regions_of}
-use Rattle.linear_forms.specs.Unit.{unit_of}
-use Rattle.rv64_machine.specs.Initial.{initial}
-use Rattle.machine_pieces.specs.MainTree.{LineTree, AnswerTree, main_function}
-use Rattle.machine_forms.specs.Emitted.{emitted_of, emitted_stubs}
-use Rattle.machine_pieces.specs.UnitAt.{whole_words}
-use Rattle.elf_image.specs.Clean.{CleanImage}
-use Rattle.elf_image.specs.Stands.{ImageStands}
-use Rattle.image_forms.specs.Placed.{code_at, all_code}
-use Rattle.image_forms.specs.Linked.{contents_for}
-use Rattle.eh_run.specs.Program.{program_of}
-use Rattle.machine_pieces.specs.Begins.{Begins}
-use Rattle.machine_pieces.specs.SmallMain.{main_ops}
 use Rattle.rv64_isa.specs.Format.{IsInRange}
 use Rattle.rv64_isa.specs.Listing.{form_of}
 use Rattle.rv64_isa.specs.State.{State, Part, with_value}
@@ -46,7 +28,7 @@ use Rattle.machine_forms.specs.Routine.{Routine, op_word}
 use Rattle.linear_forms.specs.Stub.{Function}
 use Rattle.machine_forms.specs.ValueCode.{needs, value_code, test_code}
 use Rattle.machine_pieces.specs.Memory.{Written, WordAt, Holds, MayWrite, shape_of, Apart}
-use Rattle.machine_pieces.specs.Standing.{Ground, address, PieceFits, PieceAt, PiecesAt, WordsAt, HaveBits}
+use Rattle.machine_pieces.specs.Standing.{Ground, address, PieceFits, PieceAt, PiecesAt}
 use Rattle.machine_pieces.specs.Going.{Goes, Computes, Gives, passed_over, Stores}
 use Rattle.machine_pieces.specs.Frames.{Setting, byte_of, RootFits, ValueStands, Ready, Reached, location_byte}
 use Rattle.machine_pieces.specs.Transfers.{HasRoom, LacksRoom, Overflows, HasFrame, Enters, Leaves, Jumps, Calls}
@@ -120,25 +102,3 @@ pub record CallsAreTurns : Type 0 where
       Turns image 1 w (machine.gives a0 (extended (negsuc 0)) (after_step s w)) []
   pub exit : (image : Image) (pick : ℕ → ℕ) (k : ℕ) (w : machine.World) (s : State) (z : ℤ) → step_of w.hart ≡ (Ecall, s) → x s a7 ≡ 0 → x s a0 ≡ extended z → IsInt z →
       run image pick (suc k) w ≡ record { items = []; end = Exit z; world = after_step s w }
-
--- A unit whose main writes ints and returns one: the run from the first word on shows exactly those lines, in their order, and exits with
--- what main returns, within 21 turns and 4 for each line. So does each checked program whose one function is `int main()` with calls of
--- write_int on literals and a return of a literal, on a new machine that stands at the first of its words: those of the runtime's own
--- functions and of what is emitted for the program.
-pub record SmallMainsRun : Type 0 where
-  pub unit : (image : Image) (pick : ℕ → ℕ) (n : ℕ) (u : UnitCode) (base : ℕ) (fc : FunctionCode) (r i l : ℕ) (lines : List ℤ) (z : ℤ) (w : machine.World) → (i == l) ≡ false → Begins u base fc r w.hart →
-      fc.ops ≡ main_ops r lines z i l → AllByRecursion IsInt lines → IsInt z → 21 + 4 * length lines ≤ n →
-      ((run image pick n w).items ≡ map Line lines) × ((run image pick n w).end ≡ Exit z)
-  pub program : (image : Image) (pick : ℕ → ℕ) (n : ℕ) (p : Checked) (layout : Layout) (name : Name) (tokens : ℕ) (lines : List LineTree) (a : AnswerTree) (base : ℕ) (parts : List Part) (input : List ℕ)
-      (replies : List (List Reply)) → p.functions ≡ main_function name tokens lines a ∷ [] → p.main ≡ 0 → AllByRecursion IsInt (map (λ t. t.value) lines) → IsInt a.value →
-      whole_words (unit_of (regions_of p layout)) < 2 ^ 28 → WordsAt (initial parts).memory base (emitted_stubs.code ++ (emitted_of (unit_of (regions_of p layout))).code) → 21 + 4 * length lines ≤ n →
-      let ran = run image pick n (machine.begins (record (initial parts) { pc = base }) input replies) in (ran.items ≡ map Line (map (λ t. t.value) lines)) × (ran.end ≡ Exit a.value)
-
--- The linked image of a checked program whose one function is `int main()` with calls of write_int on literals and a return of a literal,
--- whatever file it was read of: the run of at least 21 steps and 4 for each line shows exactly those lines, in their order, and exits
--- with what main returns. Taken for granted is that each word has 32 bits, and that the code ends below 2^30.
-pub record LinkedMainsRun : Type 0 where
-  pub runs : (pick : ℕ → ℕ) (n : ℕ) (p : Checked) (layout : Layout) (name : Name) (tokens : ℕ) (lines : List LineTree) (a : AnswerTree) (i : CleanImage) (input : List ℕ) (replies : List (List Reply)) →
-      p.functions ≡ main_function name tokens lines a ∷ [] → p.main ≡ 0 → AllByRecursion IsInt (map (λ t. t.value) lines) → IsInt a.value →
-      let u = emitted_of (unit_of (regions_of p layout)) in ImageStands (contents_for u) i.image → code_at u + 4 * length (all_code u) < 2 ^ 30 → HaveBits (all_code u) → 21 + 4 * length lines ≤ n →
-      let ran = run (program_of i).image pick n (machine.begins (program_of i).hart input replies) in (ran.items ≡ map Line (map (λ t. t.value) lines)) × (ran.end ≡ Exit a.value)

@@ -6,9 +6,6 @@ pub mod Going
 pub mod Frames
 pub mod Transfers
 pub mod Turning
-pub mod SmallMain
 pub mod RuntimeCalls
 pub mod UnitAt
-pub mod Begins
-pub mod MainTree
 pub mod Laws

@@ -1,5 +1,5 @@
 // Laws of code on the machine: calls of no effect, whose contracts state what holds of every program.
-ghost use Rattle.machine_pieces.specs.Laws.{AddressesAreComputed, CallsAreTurns, ControlGoes, LinkedMainsRun, PlacesAreWritten, SmallMainsRun, StoresAreRead, ValuesAreComputed, WordsAreFetched};
+ghost use Rattle.machine_pieces.specs.Laws.{AddressesAreComputed, CallsAreTurns, ControlGoes, PlacesAreWritten, StoresAreRead, ValuesAreComputed, WordsAreFetched};
 
 /// Where code stands the machine does what its pieces say.
 pub fn words_are_fetched()
@@ -19,16 +19,6 @@ pub fn values_are_computed()
 /// Prologues, epilogues, jumps and calls go where they say.
 pub fn control_goes()
     ensures { ControlGoes }
-{}
-
-/// The words of a unit whose main writes ints and returns one show those lines and exit with what it returns.
-pub fn small_mains_run()
-    ensures { SmallMainsRun }
-{}
-
-/// The linked image of a program that writes ints and returns one shows those lines and exits with what main returns.
-pub fn linked_mains_run()
-    ensures { LinkedMainsRun }
 {}
 
 /// The words that write an int to a place write it there alone.

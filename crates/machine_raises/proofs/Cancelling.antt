@@ -44,7 +44,7 @@ use Rattle.raise_simulation.specs.Resumes.{ForcedAgree}
 use Rattle.machine_simulation.specs.Plan.{Plan, function, shape, slot_kinds, routine, first_word, setting}
 use Rattle.machine_simulation.specs.Matches.{RuntimeMatches}
 use Rattle.machine_simulation.specs.Operations.{Matched, ForcedMatched}
-use Rattle.machine_simulation.specs.Runs.{StepAt}
+use Rattle.machine_simulation.specs.Steps.{StepAt}
 use Rattle.machine_simulation.proofs.Words.{OperationAt, operation_at}
 use Rattle.machine_simulation.proofs.Matching.{Stands, stands_by, ready_here}
 use Rattle.machine_simulation.proofs.Asked.{value_stands}

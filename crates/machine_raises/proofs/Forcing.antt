@@ -49,7 +49,7 @@ use Rattle.raise_simulation.specs.Resumes.{ForcedAgree}
 use Rattle.machine_simulation.specs.Plan.{Plan, shape, routine, first_word, setting}
 use Rattle.machine_simulation.specs.Matches.{RuntimeMatches}
 use Rattle.machine_simulation.specs.Operations.{Matched}
-use Rattle.machine_simulation.specs.Runs.{StepAt}
+use Rattle.machine_simulation.specs.Steps.{StepAt}
 use Rattle.machine_simulation.proofs.Words.{operation_at}
 use Rattle.machine_simulation.proofs.Matching.{Stands, stands_by}
 use Rattle.machine_simulation.proofs.Quiet.{step_is}

@@ -48,7 +48,7 @@ use Rattle.machine_simulation.specs.Plan.{Plan, shape, slot_kinds, routine, firs
 use Rattle.machine_simulation.specs.Calls.{stored_in}
 use Rattle.machine_simulation.specs.Exceptions.{addresses_of, exceptions_in, kept_by, destroyed, live_in}
 use Rattle.machine_simulation.specs.Matches.{RuntimeMatches, MemoryMatches}
-use Rattle.machine_simulation.specs.Runs.{StepAt}
+use Rattle.machine_simulation.specs.Steps.{StepAt}
 use Rattle.machine_simulation.proofs.Words.{OperationAt, operation_at}
 use Rattle.machine_simulation.proofs.Matching.{Stands, stands_by, runtime_stays}
 use Rattle.machine_exceptions.specs.Answers.{CallsModule}

@@ -50,7 +50,7 @@ use Rattle.machine_simulation.specs.Plan.{Plan, shape, routine, first_word, sett
 use Rattle.machine_simulation.specs.Exceptions.{addresses_of, exceptions_in, kept_by, destroyed, HeaderIs, HasHeader}
 use Rattle.machine_simulation.specs.Matches.{RuntimeMatches}
 use Rattle.machine_simulation.specs.Operations.{Matched}
-use Rattle.machine_simulation.specs.Runs.{StepAt}
+use Rattle.machine_simulation.specs.Steps.{StepAt}
 use Rattle.machine_simulation.proofs.Words.{operation_at}
 use Rattle.machine_simulation.proofs.Matching.{Stands, stands_by}
 use Rattle.machine_simulation.proofs.Quiet.{step_is}

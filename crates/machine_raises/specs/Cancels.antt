@@ -15,7 +15,7 @@ use Rattle.machine_simulation.specs.Asked.{ValueAsked}
 use Rattle.machine_simulation.specs.Matches.{Matches}
 use Rattle.machine_simulation.specs.Operations.{ForcedMatched}
 use Rattle.machine_simulation.specs.Returns.{closed}
-use Rattle.machine_simulation.specs.Runs.{StepAt}
+use Rattle.machine_simulation.specs.Steps.{StepAt}
 use Rattle.machine_simulation.specs.Objects.{Shows}
 use Rattle.machine_raises.specs.Stacks.{IsRunning}
 use Rattle.machine_raises.specs.Pads.{PadsArePlain, FiltersAreInts}

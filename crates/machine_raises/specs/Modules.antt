@@ -22,7 +22,7 @@ use Rattle.machine_forms.specs.LinearCode.{linear_code}
 use Rattle.machine_simulation.specs.Plan.{Plan, shape}
 use Rattle.machine_simulation.specs.Matches.{Matches}
 use Rattle.machine_simulation.specs.Returns.{closed}
-use Rattle.machine_simulation.specs.Runs.{StepAt}
+use Rattle.machine_simulation.specs.Steps.{StepAt}
 use Rattle.machine_exceptions.specs.Answers.{CallsModule}
 use Rattle.machine_simulation.specs.Objects.{with_object, Shows}
 use Rattle.machine_exceptions.specs.Picks.{MatchedFor}

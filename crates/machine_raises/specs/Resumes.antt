@@ -20,7 +20,7 @@ use Rattle.machine_simulation.specs.Exceptions.{destroyed, live_in}
 use Rattle.machine_simulation.specs.Matches.{Matches}
 use Rattle.machine_simulation.specs.Operations.{Matched}
 use Rattle.machine_simulation.specs.Returns.{closed}
-use Rattle.machine_simulation.specs.Runs.{StepAt}
+use Rattle.machine_simulation.specs.Steps.{StepAt}
 use Rattle.machine_simulation.specs.Objects.{Shows}
 use Rattle.machine_exceptions.specs.Enters.{IsThrown}
 use Rattle.machine_raises.specs.Stacks.{IsRunning}

@@ -11,7 +11,7 @@ use Rattle.linear_forms.specs.Activation.{State}
 use Rattle.machine_forms.specs.LinearCode.{linear_code}
 use Rattle.machine_simulation.specs.Plan.{Plan, shape}
 use Rattle.machine_simulation.specs.Matches.{Matches}
-use Rattle.machine_simulation.specs.Runs.{StepAt}
+use Rattle.machine_simulation.specs.Steps.{StepAt}
 use Rattle.machine_simulation.specs.Objects.{Shows}
 use Rattle.machine_raises.specs.Stacks.{IsRunning}
 use Rattle.machine_raises.specs.Pads.{PadsArePlain, FiltersAreInts}

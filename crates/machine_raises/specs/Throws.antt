@@ -19,7 +19,7 @@ use Rattle.machine_simulation.specs.Exceptions.{HasHeader}
 use Rattle.machine_simulation.specs.Matches.{Matches}
 use Rattle.machine_simulation.specs.Operations.{Matched}
 use Rattle.machine_simulation.specs.Returns.{closed}
-use Rattle.machine_simulation.specs.Runs.{StepAt}
+use Rattle.machine_simulation.specs.Steps.{StepAt}
 use Rattle.machine_simulation.specs.Objects.{HoldsObject, Shows}
 use Rattle.machine_raises.specs.Stacks.{IsRunning}
 use Rattle.machine_raises.specs.Pads.{PadsArePlain, FiltersAreInts}

@@ -1,5 +1,5 @@
 -- Which items a step of the machine for linear code has more.
-use Rattle.std.proofs.Common.{◌≡◌, ◌∙◌, sym, ap, ℕ, suc, zero, ℤ, List, [], ◌++◌, append-nil, append_assoc, Option, Some, None, inl, inr}
+use Rattle.std.proofs.Common.{◌≡◌, ◌∙◌, sym, ap, ℕ, ℤ, List, [], ◌++◌, append-nil, Option, Some, None, inl, inr}
 use Rattle.run_items.specs.declared.item.Item.{Item}
 use Rattle.region_forms.specs.Form.{Kinds, Place, evaluate, store, bind}
 use Rattle.region_forms.specs.World.{Frame, World}
@@ -10,7 +10,7 @@ use Rattle.linear_forms.specs.Activation.{State}
 use Rattle.machine_simulation.specs.Plan.{Plan, slot_kinds}
 use Rattle.machine_simulation.specs.Calls.{wanted}
 use Rattle.machine_simulation.specs.Operations.{IsQuiet}
-use Rattle.machine_simulation.specs.Runs.{StepAt, StepMade, StepsMade}
+use Rattle.machine_simulation.specs.Steps.{StepAt, StepMade}
 use Rattle.machine_simulation.proofs.Quiet.{store_step, bind_step, value_step, label_step, jump_step, test_step}
 use Rattle.machine_simulation.proofs.Given.{same_beside}
 use Rattle.machine_simulation.proofs.Entering.{call_step}
@@ -48,7 +48,7 @@ quiet_items p n st next o h quiet = absurd quiet
 nothing_more : (st next : State) (items : List Item) → items ≡ [] → next.world.items ≡ st.world.items → next.world.items ≡ st.world.items ++ items
 nothing_more st next items none same = same ∙ sym (append-nil st.world.items) ∙ ap (λ is. st.world.items ++ is) (sym none)
 
-step_items : (p q : Plan) (st next : State) (most : ℕ) (items : List Item) → StepMade p st next q most items → next.world.items ≡ st.world.items ++ items
+pub step_items : (p q : Plan) (st next : State) (most : ℕ) (items : List Item) → StepMade p st next q most items → next.world.items ≡ st.world.items ++ items
 step_items p q st next most items (inl s) = nothing_more st next items s.nothing_shown (quiet_items p s.number st next s.operation s.at s.quiet)
 step_items p q st next most items (inr (inl s)) = s.line.more
 step_items p q st next most items (inr (inr (inl s))) =
@@ -63,9 +63,3 @@ step_items p q st next most items (inr (inr (inr (inr s)))) =
     let went = return_step p s.number s.caller st next s.waiting s.others s.result s.operation s.at.runs s.at.there s.frames s.callee s.waits s.at.step in
     nothing_more st next items s.nothing_shown
     (ap (λ (y : State). y.world.items) (sym went.next_is) ∙ finished_items (slot_kinds p s.caller) (wanted s.operation) went.value s.waiting.frame went.frame st.world went.world went.stored)
-
-pub steps_items : (n : ℕ) (p q : Plan) (st last : State) (most : ℕ) (items : List Item) → StepsMade n p st last q most items → last.world.items ≡ st.world.items ++ items
-steps_items zero p q st last most items made =
-    ap (λ (y : State). y.world.items) made.1 ∙ sym (append-nil st.world.items) ∙ ap (λ is. st.world.items ++ is) (sym made.2)
-steps_items (suc n) p q st last most items made =
-    steps_items n made.1 q made.0 last made.3 made.5 made.7 ∙ ap (λ is. is ++ made.5) (step_items p made.1 st made.0 made.2 made.4 made.6) ∙ append_assoc st.world.items made.4 made.5 ∙ ap (λ is. st.world.items ++ is) (sym made.9)

@@ -25,14 +25,12 @@ pub mod Ending
 pub mod Lines
 pub mod Reading
 pub mod Exiting
-pub mod Runs
 pub mod ValueFields
 pub mod Fields
 pub mod Units
 pub mod Jumping
 pub mod Beginning
 pub mod Items
-pub mod Whole
 pub mod Frames
 pub mod Room
 pub mod LiveThere

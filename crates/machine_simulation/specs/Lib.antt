@@ -13,11 +13,10 @@ pub mod Ending
 pub mod Lines
 pub mod Bytes
 pub mod Exits
-pub mod Runs
+pub mod Steps
 pub mod Fields
 pub mod Units
 pub mod Beginning
-pub mod Whole
 pub mod Frames
 pub mod Room
 pub mod Laws

@@ -10,9 +10,7 @@ ghost use Rattle.machine_simulation.specs.Laws.{OperationsRun, StoresStayApart};
 ghost use Rattle.machine_simulation.specs.Lines.{LinesRun};
 ghost use Rattle.machine_simulation.specs.Returns.{ReturnsRun};
 ghost use Rattle.machine_simulation.specs.Room.{StackHasRoom};
-ghost use Rattle.machine_simulation.specs.Runs.{StepsRun};
 ghost use Rattle.machine_simulation.specs.Units.{UnitsStand};
-ghost use Rattle.machine_simulation.specs.Whole.{ProgramsRunPlainly};
 
 use machine_pieces::laws::{addresses_are_computed, calls_are_turns, places_are_written};
 use machine_stubs::laws::stubs_stand;
@@ -76,15 +74,6 @@ pub fn exits_end()
     calls_are_turns();
 }
 
-/// Runs of such steps, with calls inside one another, are matched as a whole: the same items, at most so many turns, and the exit number.
-pub fn steps_run()
-    ensures { StepsRun }
-{
-    places_are_written();
-    addresses_are_computed();
-    calls_are_turns();
-}
-
 /// Every piece that an operation of a short function becomes has its fields in their ranges.
 pub fn pieces_fit()
     ensures { PiecesFit }
@@ -101,15 +90,6 @@ pub fn units_stand()
 pub fn main_begins()
     ensures { MainBegins }
 {}
-
-/// A program whose main comes to its return, or to a call of exit, by such steps runs alike on both machines: the same items, and the same exit number.
-pub fn programs_run_plainly()
-    ensures { ProgramsRunPlainly }
-{
-    places_are_written();
-    addresses_are_computed();
-    calls_are_turns();
-}
 
 /// Frames of no more than 2,032 bytes, as every checked program has them, are as the simulation asks.
 pub fn frames_are_laid_out()

@@ -16,7 +16,7 @@ use Rattle.machine_pieces.specs.Turning.{Reaches}
 use Rattle.machine_simulation.specs.Plan.{Plan}
 use Rattle.machine_simulation.specs.Exceptions.{live_in}
 use Rattle.machine_simulation.specs.Matches.{Matches}
-use Rattle.machine_simulation.specs.Runs.{StepAt}
+use Rattle.machine_simulation.specs.Steps.{StepAt}
 use Rattle.machine_simulation.specs.Entering.{opened, frame_for}
 use Rattle.machine_simulation.specs.Returns.{closed, ResultStands}
 use Rattle.machine_simulation.specs.Objects.{without_object, Shows}

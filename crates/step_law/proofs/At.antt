@@ -22,7 +22,7 @@ use Rattle.machine_simulation.specs.Plan.{Plan, function, shape}
 use Rattle.machine_simulation.specs.Matches.{Matches}
 use Rattle.machine_simulation.specs.Objects.{Shows}
 use Rattle.machine_simulation.specs.Operations.{Matched}
-use Rattle.machine_simulation.specs.Runs.{StepAt}
+use Rattle.machine_simulation.specs.Steps.{StepAt}
 use Rattle.machine_simulation.proofs.Quiet.{step_is}
 use Rattle.stack_bounds.specs.Taken.{terminate_calls, is_terminate_call}
 use Rattle.address_bounds.specs.Reaches.{LinearReaches}

@@ -23,7 +23,7 @@ use Rattle.machine_simulation.specs.Asked.{ObjectAsked, ArgumentsAsked}
 use Rattle.machine_simulation.specs.Calls.{CallOf, call_of, open_bytes}
 use Rattle.machine_simulation.specs.Entering.{opened, given_to, CallFits, frame_for, CallsRun}
 use Rattle.machine_simulation.specs.Matches.{Matches}
-use Rattle.machine_simulation.specs.Runs.{StepAt, StepMade}
+use Rattle.machine_simulation.specs.Steps.{StepAt, StepMade}
 use Rattle.machine_simulation.proofs.Calling.{same_next, enters_to}
 use Rattle.machine_simulation.proofs.Entering.{call_step}
 use Rattle.machine_simulation.proofs.Given.{same_beside}
@@ -47,7 +47,7 @@ use Rattle.step_law.proofs.At.{is_inside, is_static, reaches_there, fetches, sam
 use Rattle.step_law.proofs.Builtins.{kinds_same}
 use Rattle.step_law.proofs.CallForms.{IsCallOp, call_is, calls_or, CallKnown, call_known, ObjectKnown, filled, GivenFits, given_fits}
 use Rattle.step_law.proofs.Keeping.{NotEntered, CalmAt, IsCalm, kept_by_turns, calm_forced, stands_behind}
-use Rattle.step_law.proofs.Quiet.{step_shows}
+use Rattle.machine_simulation.proofs.Items.{step_items}
 
 calls_calmly : (wants : Option Place) (n : ℕ) (o : Option (List Word)) → IsCalm (calls_or wants n o)
 calls_calmly wants n None = tt
@@ -102,7 +102,7 @@ module _ (x : Run) (q : Plan) (before n : ℕ) (o : LinearOp) (st : State) (w : 
           inr (inr (inr (inl (record { number = n; operation = o; at = at; call = c; given = given; is = calling; passed = passed; fits = fits; plan = refl; turns = refl; nothing_shown = refl })))) in
           inl (subst (λ y. RoundGoesOn (program_of x.image).image x.pick y (Standing x.program x.image x.carrying x.tables) before st w) (same_code x q before n o st w a)
           (matched_goes_on (program_of x.image).image x.pick q st w (Standing x.program x.image x.carrying x.tables) before next n o (length (linear_code (shape q n) o) + 4) [] (λ u. Matches r next u) at (omega arith)
-          (step_shows q r st next (length (linear_code (shape q n) o) + 4) [] made)
+          (step_items q r st next (length (linear_code (shape q n) o) + 4) [] made)
           (run (program_of x.image).image q n st next w o c given a.matches a.runs a.there calling passed fits at.step) (λ turns u turned matches. stands r stack refl turns u turned matches)))
         where
           stands : (r : Plan) (stack : ℕ) → r ≡ opened q c.number st.world.calls stack → (turns : ℕ) (u : abi.World) → Turns (program_of x.image).image turns w u [] → Matches r next u → Standing x.program x.image x.carrying x.tables (before + turns) next u

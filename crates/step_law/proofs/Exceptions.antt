@@ -32,7 +32,7 @@ use Rattle.machine_simulation.specs.Plan.{Plan, function}
 use Rattle.machine_simulation.specs.Exceptions.{destroyed_by, destroyed}
 use Rattle.machine_simulation.specs.Matches.{Matches}
 use Rattle.machine_simulation.specs.Objects.{with_object, without_object, HoldsObject, Shows}
-use Rattle.machine_simulation.specs.Runs.{StepAt}
+use Rattle.machine_simulation.specs.Steps.{StepAt}
 use Rattle.machine_exceptions.specs.Enters.{handlers_of, MayEnter, is_crowded, EntersRun}
 use Rattle.machine_exceptions.specs.Frees.{FreesRun}
 use Rattle.machine_exceptions.specs.Makes.{IsWordSlot, MakesRun}

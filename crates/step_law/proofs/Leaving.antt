@@ -29,7 +29,7 @@ use Rattle.machine_simulation.specs.Exceptions.{live_in}
 use Rattle.machine_simulation.specs.Matches.{Matches}
 use Rattle.machine_simulation.specs.Objects.{without_object, Shows}
 use Rattle.machine_simulation.specs.Plan.{Plan}
-use Rattle.machine_simulation.specs.Runs.{StepAt}
+use Rattle.machine_simulation.specs.Steps.{StepAt}
 use Rattle.machine_simulation.proofs.LiveThere.{built_there}
 use Rattle.machine_exceptions.specs.Leaves.{StepsTo, behind, AtLeave, destroying, destroyed_world, LeavesRun}
 use Rattle.machine_exceptions.proofs.CatchSteps.{in_catch, no_words, still_step, last_step, back_step}

@@ -13,14 +13,14 @@ use Rattle.machine_forms.specs.LinearCode.{linear_code}
 use Rattle.machine_simulation.specs.Plan.{shape, function}
 use Rattle.machine_simulation.specs.Lines.{Writes, LinesRun}
 use Rattle.machine_simulation.specs.Bytes.{Reads, AreBytes, BytesRun}
-use Rattle.machine_simulation.specs.Runs.{StepMade}
+use Rattle.machine_simulation.specs.Steps.{StepMade}
 use Rattle.machine_exceptions.specs.Answers.{CallsBuiltin}
 use Rattle.runtime_invariant.specs.Aims.{is_entered}
 use Rattle.step_law.specs.Facts.{needs_for, code_for}
 use Rattle.step_law.specs.Rows.{LinesFollow, BytesFollow}
 use Rattle.step_law.proofs.At.{is_static, reaches_there, acts_to, stays_follow}
 use Rattle.step_law.proofs.Builtins.{builtin_stays, is_given, one_value, builtin_static, builtin_room, wanted_asked, kinds_same, one_asked}
-use Rattle.step_law.proofs.Quiet.{step_shows}
+use Rattle.machine_simulation.proofs.Items.{step_items}
 use Rattle.step_law.proofs.Settling.{Settles, finished_settles}
 
 writes_one : (v : Value) (o : LinearOp) → Writes v o → CallsBuiltin WriteInt (argument_then (int_argument v) no_arguments) None o
@@ -67,4 +67,4 @@ bytes_follow run x q before n wants o st w a reads =
     let bytes = are_bytes st.world.input a.stands.stands.world.given.bytes in
     let made : StepMade q st next q (length (linear_code (shape q n) o)) [] =
     inr (inr (inl (record { number = n; operation = o; at = at; wants = wants; reads = reads; bytes = bytes; asked = asked; plan = refl; turns = refl; nothing_shown = refl }))) in
-    ([], (λ e. refl), step_shows q q st next (length (linear_code (shape q n) o)) [] made, run (program_of x.image).image q n st next w o wants a.matches at.runs at.there reads bytes asked at.step))
+    ([], (λ e. refl), step_items q q st next (length (linear_code (shape q n) o)) [] made, run (program_of x.image).image q n st next w o wants a.matches at.runs at.there reads bytes asked at.step))

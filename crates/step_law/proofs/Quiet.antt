@@ -1,6 +1,5 @@
 -- Operations that do nothing outside their call, in a whole run.
-use Rattle.std.proofs.Common.{append-nil, ◌≡◌, ◌∙◌, refl, sym, ap, subst, ℕ, ℤ, true, List, [], ◌++◌, ◌+◌, arith, inl, length, is_some, Some}
-use Rattle.run_items.specs.declared.item.Item.{Item}
+use Rattle.std.proofs.Common.{◌≡◌, ◌∙◌, refl, sym, ap, subst, ℕ, ℤ, true, [], inl, length, is_some, Some}
 use Rattle.cxa_runtime.specs.World as abi
 use Rattle.eh_run.specs.Program.{program_of}
 use Rattle.region_forms.specs.Form.{Root, in_slot, through, in_global, Place, evaluate, store, bind}
@@ -17,8 +16,8 @@ use Rattle.machine_simulation.specs.Asked.{LiveAsked}
 use Rattle.machine_simulation.specs.Matches.{Matches}
 use Rattle.machine_simulation.specs.Operations.{IsQuiet}
 use Rattle.machine_simulation.specs.Laws.{OperationsRun}
-use Rattle.machine_simulation.specs.Runs.{StepAt, StepMade}
-use Rattle.machine_simulation.proofs.Items.{steps_items}
+use Rattle.machine_simulation.specs.Steps.{StepAt, StepMade}
+use Rattle.machine_simulation.proofs.Items.{step_items}
 use Rattle.machine_simulation.proofs.LiveThere.{live_there}
 use Rattle.machine_simulation.proofs.Quiet.{store_step, test_step}
 use Rattle.machine_simulation.proofs.Stored.{stored_there}
@@ -65,12 +64,6 @@ module _ (p : Plan) (n : ℕ) (st next : State) (w : abi.World) (m : Matches p s
   quiet_live (jump l) at quiet = tt
   quiet_live o at quiet = absurd quiet
 
--- one step shows what laws of steps one after the other say
-pub step_shows : (q r : Plan) (st next : State) (most : ℕ) (items : List Item) → StepMade q st next r most items → next.world.items ≡ st.world.items ++ items
-step_shows q r st next most items made =
-    let count : most ≡ most + 0 = omega arith in
-    steps_items 1 q r st next most items (next, r, most, 0, items, [], made, (refl, refl, refl), count, sym (append-nil items))
-
 pub quiet_steps_follow : OperationsRun → QuietStepsFollow
 quiet_steps_follow run x q before n o st w a quiet =
     stays_follow x q before n o st w a (quiet_stays _ st o quiet)
@@ -79,4 +72,4 @@ quiet_steps_follow run x q before n o st w a quiet =
     let asked = all_is_asked.operations q (needs_for x.program) n st o (is_inside x q before n o st w a) (is_static x q before n o st w a) (reaches_there x q before n o st w a) live in
     let made : StepMade q st next q (length (linear_code (shape q n) o)) [] =
     inl (record { number = n; operation = o; at = at; quiet = quiet; asked = asked; plan = refl; turns = refl; nothing_shown = refl }) in
-    ([], (λ e. refl), step_shows q q st next (length (linear_code (shape q n) o)) [] made, run (program_of x.image).image q n st next w o a.matches at.runs at.there quiet asked at.step))
+    ([], (λ e. refl), step_items q q st next (length (linear_code (shape q n) o)) [] made, run (program_of x.image).image q n st next w o a.matches at.runs at.there quiet asked at.step))

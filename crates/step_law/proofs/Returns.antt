@@ -32,7 +32,7 @@ use Rattle.machine_simulation.specs.Ending.{MainsEnd}
 use Rattle.machine_simulation.specs.Exits.{CallsExit, ExitsEnd}
 use Rattle.machine_simulation.specs.Matches.{Matches}
 use Rattle.machine_simulation.specs.Returns.{closed, ResultStands, ReturnsRun}
-use Rattle.machine_simulation.specs.Runs.{StepAt, StepMade}
+use Rattle.machine_simulation.specs.Steps.{StepAt, StepMade}
 use Rattle.machine_simulation.proofs.Closing.{plan_popped}
 use Rattle.machine_simulation.proofs.Returning.{ReturnStep, return_step, CallWaits, call_waits}
 use Rattle.machine_exceptions.specs.Answers.{CallsBuiltin}
@@ -59,7 +59,8 @@ use Rattle.step_law.proofs.Aligned.{CallsAlign, align_return}
 use Rattle.step_law.proofs.At.{there_is, is_static, fetches, same_code, step_acts, step_at}
 use Rattle.step_law.proofs.Builtins.{WantedStatic, WantedRoom, given_effect, builtin_is, one_value, one_asked, kinds_same}
 use Rattle.step_law.proofs.Keeping.{NotEntered, CalmAt, kept_by_turns, calm_forced, stands_behind}
-use Rattle.step_law.proofs.Quiet.{step_shows, stored_live}
+use Rattle.machine_simulation.proofs.Items.{step_items}
+use Rattle.step_law.proofs.Quiet.{stored_live}
 use Rattle.step_law.proofs.Settling.{Settles, SameBeside, unchanged, finished_settles}
 
 -- where the value of a call goes
@@ -249,7 +250,7 @@ module _ (x : Run) (q : Plan) (before n : ℕ) (r : Option ℕ) (st : State) (w 
             nothing_shown = refl;
           })))) in
           inl (subst (λ y. RoundGoesOn (program_of x.image).image x.pick y (Standing x.program x.image x.carrying x.tables) before st w) (same_code x q before n (return r) st w at)
-          (matched_goes_on (program_of x.image).image x.pick q st w (Standing x.program x.image x.carrying x.tables) before next n (return r) most [] (λ u. Matches p next u) step_is_at (omega arith) (step_shows q p st next most [] made)
+          (matched_goes_on (program_of x.image).image x.pick q st w (Standing x.program x.image x.carrying x.tables) before next n (return r) most [] (λ u. Matches p next u) step_is_at (omega arith) (step_items q p st next most [] made)
           (run (program_of x.image).image q n m st next w a fs r waits.waits.op at.matches at.runs at.there frames callee waits.waits.there result asked step_is_at.step) (λ turns u turned matches. stands turns u turned matches)))
 
     pub returns_to : ReturnsRun → FollowsIn x before st w

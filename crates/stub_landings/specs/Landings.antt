@@ -23,7 +23,7 @@ use Rattle.machine_simulation.specs.Asked.{ValueAsked}
 use Rattle.machine_simulation.specs.Matches.{Matches}
 use Rattle.machine_simulation.specs.Operations.{Matched, ForcedMatched}
 use Rattle.machine_simulation.specs.Returns.{closed}
-use Rattle.machine_simulation.specs.Runs.{StepAt}
+use Rattle.machine_simulation.specs.Steps.{StepAt}
 use Rattle.machine_simulation.specs.Objects.{with_object, Shows}
 use Rattle.machine_exceptions.specs.Answers.{CallsModule}
 use Rattle.machine_raises.specs.Stacks.{IsRunning}

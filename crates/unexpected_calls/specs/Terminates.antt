@@ -22,7 +22,7 @@ use Rattle.machine_simulation.specs.Exceptions.{destroyed, live_in}
 use Rattle.machine_simulation.specs.Matches.{Matches}
 use Rattle.machine_simulation.specs.Objects.{Shows}
 use Rattle.machine_simulation.specs.Returns.{ResultStands, closed}
-use Rattle.machine_simulation.specs.Runs.{StepAt}
+use Rattle.machine_simulation.specs.Steps.{StepAt}
 use Rattle.machine_exceptions.specs.Leaves.{StepsTo}
 use Rattle.machine_exceptions.specs.Terminates.{in_handler}
 use Rattle.raise_ends.specs.Ends.{RunEnds, NoneIsCalled, HandlerFits, plan_in_handler}

@@ -21,7 +21,7 @@ use Rattle.machine_pieces.specs.Turning.{Turns, ForcedTurns, Reaches, ForcedReac
 use Rattle.machine_simulation.specs.Plan.{Plan, function, shape}
 use Rattle.machine_simulation.specs.Objects.{Shows}
 use Rattle.machine_simulation.specs.Operations.{Matched, ForcedMatched}
-use Rattle.machine_simulation.specs.Runs.{StepAt}
+use Rattle.machine_simulation.specs.Steps.{StepAt}
 use Rattle.machine_exceptions.specs.Leaves.{StepsTo}
 use Rattle.machine_exceptions.specs.Picks.{TurnsFor, MatchedFor}
 use Rattle.whole_runs.specs.Turns.{Invariant, Made}

@@ -1,4 +1,4 @@
-use Rattle.machine_pieces.proofs.SmallMain.{calls_are_turns}
+use Rattle.machine_pieces.proofs.Calling.{calls_are_turns}
 use Rattle.machine_pieces.proofs.laws.calls_are_turns.Goals as goal
 
 pub returns : goal.returns

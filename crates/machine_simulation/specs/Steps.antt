@@ -1,29 +1,22 @@
--- Runs of steps one after the other, and whole runs of main.
-use Rattle.std.specs.Prelude.{◌≡◌, ◌⊎◌, ℕ, zero, suc, ◌+◌, ◌≤◌, ℤ, List, [], ◌∷◌, ◌++◌, length, slice_get, Option, Some}
+-- Single steps without exceptions: what is asked of one, the most turns that it takes, and what it shows.
+use Rattle.std.specs.Prelude.{◌≡◌, ◌⊎◌, ℕ, ◌+◌, List, [], ◌∷◌, length, slice_get, Option, Some}
 use Rattle.run_items.specs.declared.item.Item.{Item}
-use Rattle.cxa_runtime.specs.declared.effect.End.TheVariants.{Exit}
 use Rattle.cxa_runtime.specs.World as abi
-use Rattle.cxa_runtime.specs.Raising.{Image}
-use Rattle.cxa_runtime.specs.Run.{run}
-use Rattle.meaning_forms.specs.Outcome.{exit}
 use Rattle.region_forms.specs.Form.{Place, Value}
-use Rattle.region_forms.specs.World.{Word, World}
+use Rattle.region_forms.specs.World.{Word}
 use Rattle.linear_forms.specs.Linear.{LinearOp, return}
 use Rattle.linear_forms.specs.Stub.{compiled}
-use Rattle.linear_forms.specs.Activation.{Activation, State, goes_to, finishes, by_program}
+use Rattle.linear_forms.specs.Activation.{Activation, State, goes_to}
 use Rattle.linear_forms.specs.Machine.{step}
 use Rattle.linear_forms.specs.UnitRun.{code_of}
 use Rattle.machine_forms.specs.LinearCode.{linear_code}
-use Rattle.machine_pieces.specs.Turning.{Reaches}
 use Rattle.machine_simulation.specs.Plan.{Plan, function, shape, slot_kinds}
 use Rattle.machine_simulation.specs.Calls.{CallOf, call_of, wanted, stored_behind}
-use Rattle.machine_simulation.specs.Matches.{Matches}
 use Rattle.machine_simulation.specs.Operations.{IsQuiet}
 use Rattle.machine_simulation.specs.Asked.{ValueAsked, WantedAsked, OperationAsked}
 use Rattle.machine_simulation.specs.Returns.{closed, ResultStands}
 use Rattle.machine_simulation.specs.Entering.{opened, frame_for, given_to, CallFits}
 use Rattle.machine_simulation.specs.Lines.{Writes, LineIs}
-use Rattle.machine_simulation.specs.Exits.{CallsExit}
 use Rattle.machine_simulation.specs.Bytes.{Reads, AreBytes}
 
 -- a step at an operation of the newest call
@@ -103,46 +96,3 @@ pub record ReturnStep (p : Plan) (st next : State) (q : Plan) (most : ℕ) (item
 abbrev pub StepMade : Plan → State → State → Plan → ℕ → List Item → Type 0
 StepMade p st next q most items =
     QuietStep p st next q most items ⊎ LineStep p st next q most items ⊎ ByteStep p st next q most items ⊎ CallStep p st next q most items ⊎ ReturnStep p st next q most items
-
--- so many of them, one after the other
-abbrev pub StepsMade : ℕ → Plan → State → State → Plan → ℕ → List Item → Type 0
-StepsMade zero p st next q most items = (q ≡ p) × (next ≡ st) × (items ≡ [])
-StepsMade (suc n) p st next q most items =
-    (middle : State) × (r : Plan) × (first : ℕ) × (rest : ℕ) × (shown : List Item) × (later : List Item) ×
-    StepMade p st middle r first shown × StepsMade n r middle next q rest later × (most ≡ first + rest) × (items ≡ shown ++ later)
-
--- the end of a run, with the most turns that it takes: main returns
-pub record MainReturns (p : Plan) (st : State) (turns : ℕ) (z : ℤ) (v : World) : Type 0 where
-  pub number : ℕ
-  pub result : Option ℕ
-  pub runs : st.top.function ≡ compiled number
-  pub there : slice_get (function p number).ops st.top.place ≡ Some (return result)
-  pub alone : st.frames ≡ []
-  pub stands : ResultStands p number st.top.frame result
-  pub ends : step (code_of p.unit) st ≡ finishes (by_program (exit z)) v
-  pub six : turns ≡ 6
-
--- or exit is called
-pub record ExitCalled (p : Plan) (st : State) (turns : ℕ) (z : ℤ) (v : World) : Type 0 where
-  pub number : ℕ
-  pub operation : LinearOp
-  pub value : Value
-  pub runs : st.top.function ≡ compiled number
-  pub there : slice_get (function p number).ops st.top.place ≡ Some operation
-  pub calls : CallsExit value operation
-  pub asked : ValueAsked p number st.top.frame st.world value
-  pub ends : step (code_of p.unit) st ≡ finishes (by_program (exit z)) v
-  pub words : turns ≡ length (linear_code (shape p number) operation)
-
-abbrev pub EndMade : Plan → State → ℕ → ℤ → World → Type 0
-EndMade p st turns z v = MainReturns p st turns z v ⊎ ExitCalled p st turns z v
-
--- Steps one after the other are matched by at most as many turns as the sum of theirs, which show the same items; what matches in the end
--- is the state behind them. The run of the ABI machine that then ends, since main returns or exit is called, shows these items and exits with
--- the same number.
-pub record StepsRun : Type 0 where
-  pub reaches : (image : Image) (n : ℕ) (p q : Plan) (st next : State) (w : abi.World) (most : ℕ) (items : List Item) → Matches p st w → StepsMade n p st next q most items →
-      Reaches image most w items (λ v. Matches q next v)
-  pub ends : (image : Image) (pick : ℕ → ℕ) (k n : ℕ) (p q : Plan) (st last : State) (w : abi.World) (most : ℕ) (items : List Item) (turns : ℕ) (z : ℤ) (v : World) → Matches p st w →
-      StepsMade n p st last q most items → EndMade q last turns z v → most + turns ≤ k →
-      ((run image pick k w).items ≡ items) × ((run image pick k w).end ≡ Exit z)
