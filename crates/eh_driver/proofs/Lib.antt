@@ -1,5 +1,6 @@
 pub mod MeanPromised
 pub mod ExecPromised
+pub mod EventsHeld
 pub mod MeantShown
 pub mod CompilePromised
 pub mod RunPromised

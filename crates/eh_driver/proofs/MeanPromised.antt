@@ -2,19 +2,21 @@
 use Rattle.std.proofs.Common.{◌≡◌, ◌⊎◌, ◌∙◌, inl, inr, ℕ, List, Option, Some, None, refl, sym, ap, subst}
 use Rattle.std.specs.FinMap.{get}
 use Rattle.eh_outer.specs.Store.{Files, StoreView, Rose}
-use Rattle.eh_outer.specs.Sink.{SinkView}
+use Rattle.eh_outer.specs.Sink.{SinkView, Gains}
 use Rattle.cxx_ast.specs.Plain.{Program}
 use Rattle.cxx_ast.specs.Broken.{Valid}
 use Rattle.cxx_ast.specs.Checked.{checked}
 use Rattle.cxx_front.specs.Source.{IsProgram, IsRefused}
 use Rattle.cxx_front.specs.Fate.{HasOnly, refused, valid}
-use Rattle.run_items.specs.Output.{TakesAll}
+use Rattle.run_items.specs.Output.{TakesAll, bytes_of}
+use Rattle.scope_meaning.specs.Modules.{rests_of}
 use Rattle.meaning_forms.specs.Meaning.{Meaning}
 use Rattle.scope_meaning.specs.Mean.{meant}
 use Rattle.eh_commands.specs.declared.status.Status.{Status}
 use Rattle.eh_commands.specs.declared.status.Status.TheVariants.{Done, Usage, SourceRefused, ImageRefused, ReadFault, TooLong, WriteFault, NoMemory, Aborted, Budget, Stack, MachineFault, Undefined}
 use Rattle.eh_commands.specs.File.{Asked, ToldInput, ToldBoth, UnreadInput, UnreadEither, input_limit, source_limit}
 use Rattle.eh_commands.specs.Mean.{MeanCause, MeansThis, mean_lines, status_of_end}
+use Rattle.eh_driver.proofs.EventsHeld.{LawsOfEvents, meaning_holds}
 use Rattle.eh_driver.specs.Promise.{MeanUndisturbed, InputIs, MeanPromise, Shows}
 use Rattle.eh_commands.proofs.Sources.{told_of, valid_same, not_refused, same_refusal}
 
@@ -46,7 +48,7 @@ pub both_short : (limit : ℕ) (a : Asked) (old new : StoreView) → (Rose old.f
 both_short limit a old new calm (inl (n, above, why, long)) = calm why.rose
 both_short limit a old new calm (inr (told, why)) = not_long a.input old new calm why
 
-module _ (a : Asked) (source input : List ℕ) (old new : StoreView) (out out' : SinkView) (u : MeanUndisturbed a source input old new out out') where
+module _ (laws : LawsOfEvents) (a : Asked) (source input : List ℕ) (old new : StoreView) (out out' : SinkView) (u : MeanUndisturbed a source input old new out out') where
   -- what holds of the told source and the told input
   told_so : (P : List ℕ → List ℕ → Type 0) → ToldBoth source_limit a old P → P source input
   told_so P told = both_of source_limit a old u.calm.files source input P u.calm.told u.calm.there u.given told
@@ -60,7 +62,9 @@ module _ (a : Asked) (source input : List ℕ) (old new : StoreView) (out out' :
 
   shown : (m : Meaning) (p : Program) (status : Status) → ToldBoth source_limit a old (MeansThis a m) → IsProgram source p → Valid p → status ≡ status_of_end m.end → TakesAll (mean_lines a.trace m.items m.end) out out' →
       (status ≡ NoMemory) ⊎ Shows a.trace (meant (checked p) input a.modules a.turns) out out' status
-  shown m p status told program holds is puts = inr (subst (λ x. Shows a.trace x out out' status) (meaning_so m p told program holds) (is, puts.gains))
+  shown m p status told program holds is puts =
+      let went = subst (λ x. (status ≡ status_of_end x.end) × Gains (bytes_of (mean_lines a.trace x.items x.end)) out out') (meaning_so m p told program holds) (is, puts.gains) in
+      inr (went.0, went.1, meaning_holds laws (checked p) input (rests_of a.modules) a.turns 128)
 
   -- a valid source is not refused
   refused_valid : (p : Program) (number place : ℕ) → HasOnly source (refused number place) → IsProgram source p → Valid p → ⊥
@@ -104,8 +108,8 @@ module _ (a : Asked) (source input : List ℕ) (old new : StoreView) (out out' :
   refuses_so number place (MachineFault kind at) is (m, told, h) = absurd (means_valid m number place told is)
   refuses_so number place Undefined is (m, told, h) = absurd (means_valid m number place told is)
 
-pub mean_promised : (a : Asked) (old new : StoreView) (out out' : SinkView) (status : Status) → MeanCause a old new out out' status → MeanPromise a old new out out' status
-mean_promised a old new out out' status cause = record {
-  shows = λ source input p u program holds. shows_so a source input old new out out' u p status program holds cause;
-  refuses = λ source input number place u is. refuses_so a source input old new out out' u number place status is cause;
+pub mean_promised : LawsOfEvents → (a : Asked) (old new : StoreView) (out out' : SinkView) (status : Status) → MeanCause a old new out out' status → MeanPromise a old new out out' status
+mean_promised laws a old new out out' status cause = record {
+  shows = λ source input p u program holds. shows_so laws a source input old new out out' u p status program holds cause;
+  refuses = λ source input number place u is. refuses_so laws a source input old new out out' u number place status is cause;
 }

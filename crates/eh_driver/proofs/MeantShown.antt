@@ -1,5 +1,5 @@
 -- What is stored for a program, and run, is the compiled program.
-use Rattle.std.proofs.Common.{◌≡◌, ◌≤◌, ◌^◌, ℕ, List, length, Result, Ok, Err, refl, sym, subst}
+use Rattle.std.proofs.Common.{◌≡◌, ◌≤◌, ◌+◌, ◌^◌, ℕ, List, length, Result, Ok, Err, refl, sym, subst}
 use Rattle.std.specs.Prelude.{IsOkAnd}
 use Rattle.std.proofs.lemmas.List.{length-map}
 use Rattle.run_items.specs.Output.{TakesAll}
@@ -19,6 +19,7 @@ use Rattle.image_link.specs.Laws.{ImagesAreSmall}
 use Rattle.image_link.specs.Runs.{UnitStands, RunsUnit}
 use Rattle.foreign_host.specs.Host.{GuestsAreInts}
 use Rattle.meaning_forms.specs.declared.ending.MeanEnd.TheVariants as meanings
+use Rattle.meaning_forms.specs.Meaning.{program_meaning}
 use Rattle.cxa_runtime.specs.Kept.{replies_of}
 use Rattle.cxa_runtime.specs.Run.{Ran}
 use Rattle.compiled_runs.specs.Given.{IsGiven}
@@ -27,6 +28,7 @@ use Rattle.eh_commands.specs.declared.status.Status.{Status}
 use Rattle.eh_commands.specs.File.{Asked}
 use Rattle.eh_commands.specs.RunEnd.{run_lines, status_of_run}
 use Rattle.eh_commands.specs.RunSource.{CompiledRunsThis}
+use Rattle.eh_driver.proofs.EventsHeld.{LawsOfEvents, run_holds}
 use Rattle.eh_driver.specs.Promise.{AreBytes, AreCompiled, ShowsMeant, meaning_for}
 
 -- the laws of what is compiled
@@ -34,6 +36,7 @@ pub record CompilerLaws : Type 0 where
   pub compiled : CheckedImagesAreCompiled
   pub linkable : CheckedIsLinkable
   pub small : ImagesAreSmall
+  pub events : LawsOfEvents
 
 -- what is so of all that is asked: so many turns, and modules that answer with ints
 pub record IsAsked (a : Asked) : Type 0 where
@@ -71,6 +74,7 @@ module _ (laws : CompilerLaws) (source : List ℕ) (p : Program) (program : IsPr
             words = laws.small.words (emitted_for (checked p)) linkable;
             small = laws.small.bytes (emitted_for (checked p)) linkable;
             compiled = laws.compiled (checked p) is bytes i read stands;
+            events = λ input replies n r means. run_holds laws.events (program_meaning (checked p) input replies n (n + 1)) r (laws.events.right (checked p) input replies n (n + 1)) means;
           }
       by (Err fault) read stands = absurd stands
 
@@ -83,4 +87,5 @@ module _ (laws : CompilerLaws) (source : List ℕ) (p : Program) (program : IsPr
       let compiled = laws.compiled (checked p) (is_checked source p program holds) bytes i read stands in
       let few : length (replies_of a.modules) ≤ 64 = subst (λ n. n ≤ 64) (sym (length-map a.modules (λ (seen : ModuleView). seen.rest))) asked.few in
       let given : IsGiven input (replies_of a.modules) = record { bytes = ints; few = few; ints = asked.ints } in
-      (r, this, compiled.means input (replies_of a.modules) a.turns r given asked.turns run defined, end, took.gains)
+      let means = compiled.means input (replies_of a.modules) a.turns r given asked.turns run defined in
+      (r, this, means, run_holds laws.events (meaning_for a p input) r (laws.events.right (checked p) input (replies_of a.modules) a.turns (a.turns + 1)) means, end, took.gains)

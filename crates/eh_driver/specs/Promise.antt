@@ -31,11 +31,13 @@ use Rattle.elf_image.specs.Reports.{reported}
 use Rattle.elf_image.specs.Runnable.{runnable}
 use Rattle.cxa_runtime.specs.Kept.{replies_of}
 use Rattle.cxa_runtime.specs.Run.{Ran}
-use Rattle.compiled_runs.specs.Compiled.{Compiled, RunMeans}
+use Rattle.compiled_runs.specs.Compiled.{Compiled, IsCut, RunMeans}
+use Rattle.eh_outer.specs.declared.module.Reply.{Reply}
 use Rattle.eh_run.specs.Program.{program_of}
 use Rattle.eh_run.specs.Runs.{IsRun}
 use Rattle.eh_commands.specs.Image.{ImagePromise, check_lines, dump_lines, image_limit, status_of}
 use Rattle.eh_commands.specs.RunEnd.{run_lines, status_of_run}
+use Rattle.eh_driver.specs.Events.{EventsHold}
 
 -- a told file of a name within a limit, where neither the store nor the sink fails
 pub record Undisturbed (limit : ℕ) (name source : List ℕ) (old new : StoreView) (out out' : SinkView) : Type 0 where
@@ -47,13 +49,14 @@ pub record Undisturbed (limit : ℕ) (name source : List ℕ) (old new : StoreVi
   pub sink : Rose out.faults out'.faults → ⊥
 
 -- The bytes are an image that can be run, with so many words of code and so many bytes for its program's tokens at most, and that is the compiled program:
--- what its runs show, and how they end, is what the program means.
+-- what its runs show, and how they end, is what the program means. So the exceptions of each run that is what the program means are handled as promised.
 pub record AreCompiled (p : Checked) (bytes : List ℕ) : Type 0 where
   pub image : CleanImage
   pub read : runnable bytes ≡ Ok image
   pub words : length (all_code (emitted_for p)) ≤ 128 * p.program.tokens + 4096
   pub small : length bytes ≤ 768 * p.program.tokens + 131072
   pub compiled : Compiled p image
+  pub events : (input : List ℕ) (replies : List (List Reply)) (n : ℕ) (r : Ran) → let m = program_meaning p input replies n (n + 1) in RunMeans m r → EventsHold m r.items (IsCut r.end → ⊥)
 
 -- Where nothing disturbs: the image of a valid source, which is the compiled program, is stored under its name, and the told files are else as before; a
 -- source that is refused is refused by its number and place, and nothing is stored. Or memory ran out, and nothing is stored either.
@@ -86,10 +89,11 @@ AreBytes input = AllByRecursion (λ b. b < 256) input
 abbrev pub meaning_for : Asked → Program → List ℕ → Meaning
 meaning_for a p input = program_meaning (checked p) input (replies_of a.modules) a.turns (a.turns + 1)
 
--- so that this run is what the program means
+-- so that this run is what the program means, and what it tells of exceptions is as promised
 abbrev pub ShowsMeant : Asked → Program → List ℕ → SinkView → SinkView → Status → Type 0
 ShowsMeant a p input out out' status =
-    (r : Ran) × RunsThis a r (image_for (checked p)) input × RunMeans (meaning_for a p input) r × (status ≡ status_of_run r.end) × Gains (bytes_of (run_lines a.trace a.count r)) out out'
+    (r : Ran) × RunsThis a r (image_for (checked p)) input × RunMeans (meaning_for a p input) r × EventsHold (meaning_for a p input) r.items (IsCut r.end → ⊥) × (status ≡ status_of_run r.end) ×
+    Gains (bytes_of (run_lines a.trace a.count r)) out out'
 
 -- Where nothing disturbs: of a valid source the lines of a run of its image go out, and the status is that of its end. While what the program means is
 -- defined, these are the lines of a front of its items, and unless the run is cut short they are all, and it ends as the meaning does. One that is refused
@@ -102,9 +106,9 @@ pub record RunPromise (a : Asked) (old new : StoreView) (out out' : SinkView) (s
   pub refuses : (source input : List ℕ) (number place : ℕ) → MeanUndisturbed a source input old new out out' → IsRefused source number place →
       (status ≡ NoMemory) ⊎ (status ≡ SourceRefused number place)
 
--- the lines of a meaning went out, and the status is that of its end
+-- the lines of a meaning went out, and the status is that of its end; and what it tells of exceptions is as promised
 abbrev pub Shows : Bool → Meaning → SinkView → SinkView → Status → Type 0
-Shows trace m out out' status = (status ≡ status_of_end m.end) × Gains (bytes_of (mean_lines trace m.items m.end)) out out'
+Shows trace m out out' status = (status ≡ status_of_end m.end) × Gains (bytes_of (mean_lines trace m.items m.end)) out out' × EventsHold m m.items ⊤
 
 -- Where nothing disturbs: what a valid source means goes out, and the status is that of its end; one that is refused is refused by
 -- its number and place. Or memory ran out.

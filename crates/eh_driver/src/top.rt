@@ -10,6 +10,7 @@ ghost use Rattle.eh_driver.specs.Promise.{Promise};
 use eh_commands::{Status, answer};
 use eh_outer::{Module, Sink, Store};
 use image_link::laws::images_are_small;
+use meaning_events::laws::{allowed_events_are_counted, events_are_right, fronts_are_allowed};
 use source_bounds::laws::checked_is_linkable;
 use std::alloc::Global;
 use step_law::laws::checked_images_are_compiled;
@@ -32,7 +33,7 @@ pub fn ehc<St: Store, Out: Sink, Er: Sink>(
 ) -> Status
     requires few { length modules.items ≤ 64 }
 
-    // What a source, its meaning and an image come to where nothing fails.
+    // What a source, its meaning and an image come to where nothing fails, and what is told of exceptions.
     ensures promise { Promise (map (λ b. (Module-box b).view b.value) modules.items) (command_of (texts words.now.items)) (St.view store.old) (St.view store.new) (Out.view out.old) (Out.view out.new) result }
 
     // When each status comes, and what it leaves of the store's refusals and of `out`.
@@ -43,5 +44,8 @@ pub fn ehc<St: Store, Out: Sink, Er: Sink>(
     checked_images_are_compiled();
     checked_is_linkable();
     images_are_small();
+    events_are_right();
+    allowed_events_are_counted();
+    fronts_are_allowed();
     answer(alloc, words, store, out, err, modules)
 }

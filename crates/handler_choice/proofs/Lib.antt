@@ -1,0 +1,6 @@
+mod Covers
+mod Regions
+mod Programs
+mod Searching
+mod Own
+mod Open
