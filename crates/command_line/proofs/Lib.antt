@@ -10,3 +10,4 @@ pub mod Sorted
 pub mod Parses
 pub mod Under
 pub mod Turns
+pub mod Sizes

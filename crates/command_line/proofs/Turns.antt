@@ -5,23 +5,23 @@ use Rattle.std.specs.Option.{option_and_then, option_map}
 use Rattle.std.specs.Str.Parse.{digits_value}
 use Rattle.std.proofs.lemmas.Bool.Decides.{nat_tests}
 use Rattle.command_line.specs.declared.command.Verb.{Verb}
-use Rattle.command_line.specs.Command.{CommandView, FoundView, exactly, at_most_one, max_of, switch_of, scripts_of, found_in, command_from, verb_of, settings_of, operand_count, command_of}
+use Rattle.command_line.specs.Command.{CommandView, FoundView, operands_for, at_most_one, max_of, switch_of, scripts_of, found_in, command_from, verb_of, settings_of, operand_count, command_of}
 use Rattle.command_line.specs.Number.{is_decimal, up_to, number_of, not_zero, count_up_to}
 use Rattle.command_line.specs.Pieces.{pieces_of}
 
 -- what holds of what each step behind a value gives holds of what comes out
-behind : {A B : Type 0} (P : B → Type 0) (f : A → Option B) (o : Option A) → ((a : A) → o ≡ Some a → (b : B) → f a ≡ Some b → P b) → (b : B) → option_and_then f o ≡ Some b → P b
+pub behind : {A B : Type 0} (P : B → Type 0) (f : A → Option B) (o : Option A) → ((a : A) → o ≡ Some a → (b : B) → f a ≡ Some b → P b) → (b : B) → option_and_then f o ≡ Some b → P b
 behind P f None each b e = absurd (cc e)
 behind P f (Some a) each b e = each a refl b e
 
 -- so of one made of a value
-made : {A B : Type 0} (P : B → Type 0) (f : A → B) (o : Option A) → ((a : A) → P (f a)) → (b : B) → option_map f o ≡ Some b → P b
+pub made : {A B : Type 0} (P : B → Type 0) (f : A → B) (o : Option A) → ((a : A) → P (f a)) → (b : B) → option_map f o ≡ Some b → P b
 made P f None each b e = absurd (cc e)
 made P f (Some a) each b e = let same : f a ≡ b = cc e in subst P same (each a)
 
 -- ---- numbers
 
-number_bounded : (most : ℕ) (text : List ℕ) (n : ℕ) → number_of most text ≡ Some n → n ≤ most
+pub number_bounded : (most : ℕ) (text : List ℕ) (n : ℕ) → number_of most text ≡ Some n → n ≤ most
 unfolding number_of
 number_bounded most text n e = decimal (is_decimal text) e
   where
@@ -64,7 +64,7 @@ Bounded c = AreTurns c.max
 from_bounded : (verb : Verb) (most : ℕ) (found : FoundView) (c : CommandView) → command_from verb most found ≡ Some c → AreTurns c.max
 unfolding command_from
 from_bounded verb most found c e =
-    behind Bounded _ (exactly most found.operands) (λ operands is. behind Bounded _ (at_most_one found.inputs) (λ inputs is. behind Bounded _ (max_of found.max) (λ max counted.
+    behind Bounded _ (operands_for verb most found.operands) (λ operands is. behind Bounded _ (at_most_one found.inputs) (λ inputs is. behind Bounded _ (max_of found.max) (λ max counted.
     behind Bounded _ (switch_of found.trace) (λ trace is. behind Bounded _ (switch_of found.count) (λ count is.
     made Bounded _ (scripts_of found.scripts) (λ scripts. max_bounded found.max max counted)))))) c e
 

@@ -1,11 +1,11 @@
 -- The command that words are.
-use Rattle.std.specs.Prelude.{ℕ, Bool, true, false, ◌==◌, ◌&&◌, not, nat_le, List, [], ◌∷◌, length, map, flat_map, Option, Some, None, option_map, codes, bytes_eq, if◌then◌else◌, string_bytes}
+use Rattle.std.specs.Prelude.{ℕ, Bool, true, false, ◌==◌, ◌&&◌, not, nat_le, List, [], ◌∷◌, length, map, flat_map, Option, Some, None, option_map, is_some, codes, bytes_eq, if◌then◌else◌, string_bytes}
 use Rattle.std.specs.List.{list_all}
 use Rattle.std.specs.Option.{option_and_then}
 use Rattle.eh_outer.specs.declared.module.Reply.{Reply}
 use Rattle.command_line.specs.declared.command.Command.{Command}
 use Rattle.command_line.specs.declared.command.Verb.{Verb}
-use Rattle.command_line.specs.declared.command.Verb.TheVariants.{Compile, Run, Exec, Mean, Check, Dump}
+use Rattle.command_line.specs.declared.command.Verb.TheVariants.{Compile, Run, Exec, Mean, Check, Dump, Gen}
 use Rattle.command_line.specs.declared.setting.Setting.{Setting}
 use Rattle.command_line.specs.declared.setting.Setting.TheVariants.{Input, Max, Trace, Count, Foreign}
 use Rattle.command_line.specs.Number.{count_up_to}
@@ -56,6 +56,22 @@ are_named = list_all (λ name. not (length name == 0))
 -- so many names, none empty
 abbrev pub exactly : ℕ → List (List ℕ) → Option (List (List ℕ))
 exactly count names = if (length names == count) && are_named names then Some names else None
+
+-- the greatest size of a source that is generated
+abbrev pub greatest_size : ℕ
+greatest_size = 2000
+
+-- the size that a text writes, which is not 0
+abbrev pub source_size : List ℕ → Option ℕ
+source_size text = count_up_to greatest_size text
+
+abbrev pub is_size : List ℕ → Bool
+is_size text = is_some (source_size text)
+
+-- so many operands: names of files, but sizes where a source is generated
+abbrev pub operands_for : Verb → ℕ → List (List ℕ) → Option (List (List ℕ))
+operands_for Gen count names = if list_all is_size names then exactly count names else None
+operands_for verb count names = exactly count names
 
 -- a name or none, and none empty
 abbrev pub at_most_one : List (List ℕ) → Option (List (List ℕ))
@@ -120,7 +136,7 @@ command_from verb most found =
     (switch_of found.trace))
     (max_of found.max))
     (at_most_one found.inputs))
-    (exactly most found.operands)
+    (operands_for verb most found.operands)
 
 -- the command of a verb that takes these options and so many operands, by the words behind it
 abbrev pub command_taking : Verb → List Setting → ℕ → List (List ℕ) → Option CommandView
@@ -135,6 +151,7 @@ verb_of word =
     else if bytes_eq word (codes "mean") then Some Mean
     else if bytes_eq word (codes "check") then Some Check
     else if bytes_eq word (codes "dump") then Some Dump
+    else if bytes_eq word (codes "gen") then Some Gen
     else None
 
 -- what the command of a verb takes: its options, and how many operands
@@ -142,6 +159,7 @@ abbrev pub settings_of : Verb → List Setting
 settings_of Run = Input ∷ Max ∷ Trace ∷ Count ∷ Foreign ∷ []
 settings_of Exec = Input ∷ Max ∷ Trace ∷ Count ∷ Foreign ∷ []
 settings_of Mean = Input ∷ Max ∷ Trace ∷ Foreign ∷ []
+settings_of Gen = Max ∷ []
 settings_of verb = []
 
 abbrev pub operand_count : Verb → ℕ

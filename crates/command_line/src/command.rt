@@ -18,13 +18,15 @@ pub enum Verb {
     Check,
     /// Print the tables of an image.
     Dump,
+    /// Generate a source of a size, compile it, and count what its run does.
+    Gen,
 }
 
 /// A command: what is done, with which names, and how.
 #[derive(Debug, Drop)]
 pub struct Command {
     pub verb: Verb,
-    /// The names that it is given, in order.
+    /// The names that it is given, in order, or the number that is the size of a source.
     pub operands: Vec<String>,
     /// The names of the files that are its input, in order; at most one.
     pub inputs: Vec<String>,

@@ -18,4 +18,5 @@ mod tests;
 pub use command::{Command, Verb};
 pub use eh_outer::Reply;
 pub use error::WordsError;
+pub use operands::source_size;
 pub use reader::{read_words, scripts};

@@ -1,9 +1,15 @@
-// Names on the command line.
-ghost use Rattle.std.specs.Prelude.{◌≡◌, map, string_bytes};
+// Names on the command line, and the size of a source that is generated.
+ghost use Rattle.std.specs.Prelude.{◌≡◌, ◌≤◌, IfSome, map, string_bytes};
+ghost use Rattle.std.specs.List.{list_all};
 ghost use Rattle.command_line.specs.Gives.{Gives};
-ghost use Rattle.command_line.specs.Command.{are_named, at_most_one, exactly};
+ghost use Rattle.command_line.specs.Command.{are_named, at_most_one, exactly, greatest_size, is_size, operands_for, source_size};
 
+use crate::command::Verb;
 use crate::error::WordsError;
+use crate::number::number_of;
+
+/// The greatest size of a source that is generated.
+const GREATEST_SIZE: u64 = 2000;
 
 fn are_named(texts: &[String]) -> bool
     ensures { result ≡ are_named (map string_bytes texts.now) }
@@ -30,5 +36,40 @@ pub fn at_most_one(names: Vec<String>) -> Result<Vec<String>, WordsError>
         Ok(names)
     } else {
         Err(WordsError::Usage)
+    }
+}
+
+/// The size of a source that a text writes, 1 to 2,000.
+pub fn source_size(text: &str) -> Option<u32>
+    ensures value { result ≡ source_size text.now }
+    ensures most { IfSome result (λ n. n ≤ greatest_size) }
+{
+    match number_of(GREATEST_SIZE, text.as_bytes()) {
+        None | Some(0) => None,
+        Some(size) => Some(size as u32),
+    }
+}
+
+fn are_sizes(texts: &[String]) -> bool
+    ensures { result ≡ list_all is_size (map string_bytes texts.now) }
+{
+    texts
+        .iter()
+        .all(|text| source_size(text.as_str()).is_some())
+}
+
+/// So many operands: names of files, but sizes where a source is generated.
+pub fn operands_for(verb: Verb, count: usize, names: Vec<String>) -> Result<Vec<String>, WordsError>
+    ensures { Gives (λ found. map string_bytes found.items) result (operands_for verb count (map string_bytes names.items)) }
+{
+    match verb {
+        Verb::Gen => {
+            if are_sizes(names.as_slice()) {
+                exactly(count, names)
+            } else {
+                Err(WordsError::Usage)
+            }
+        }
+        _ => exactly(count, names),
     }
 }

@@ -48,6 +48,10 @@ impl Verb {
                 settings: &[],
                 operands: 2,
             },
+            Verb::Gen => Takes {
+                settings: &[Setting::Max],
+                operands: 1,
+            },
             Verb::Check | Verb::Dump => Takes {
                 settings: &[],
                 operands: 1,
@@ -67,6 +71,7 @@ fn verb_of(word: &str) -> Option<Verb>
         "mean" => Some(Verb::Mean),
         "check" => Some(Verb::Check),
         "dump" => Some(Verb::Dump),
+        "gen" => Some(Verb::Gen),
         _ => None,
     }
 }

@@ -5,6 +5,8 @@
 #[cfg(test)]
 mod compiled;
 #[cfg(test)]
+mod generated;
+#[cfg(test)]
 mod images;
 #[cfg(test)]
 mod limits;

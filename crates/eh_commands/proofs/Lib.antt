@@ -8,8 +8,8 @@ pub mod Meanings
 pub mod MeanCauses
 pub mod Named
 pub mod Sources
-pub mod Bounded
 pub mod RunLines
 pub mod ExecCauses
 pub mod CompileCauses
 pub mod RunCauses
+pub mod GenCauses

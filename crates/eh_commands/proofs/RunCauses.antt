@@ -10,7 +10,6 @@ use Rattle.cxx_front.specs.Fate.{HasOnly, refused, valid}
 use Rattle.cxx_front.specs.declared.error.SourceError.{SourceError}
 use Rattle.cxx_front.specs.declared.error.SourceError.TheVariants as errors
 use Rattle.cxx_image.specs.Image.{image_for}
-use Rattle.source_bounds.specs.Compiled.{emitted_for}
 use Rattle.eh_bytes.specs.Listed.{ListedUnit}
 use Rattle.table_forms.specs.declared.reason.Reason.{Reason}
 use Rattle.table_forms.specs.Fault.{Fault}
@@ -23,7 +22,6 @@ use Rattle.table_check.specs.Checks.{IsReported}
 use Rattle.cxa_runtime.specs.declared.effect.End.{End}
 use Rattle.cxa_runtime.specs.declared.effect.End.TheVariants as ends
 use Rattle.cxa_runtime.specs.Run.{Ran}
-use Rattle.eh_run.specs.Loads.{Loads}
 use Rattle.eh_run.specs.Program.{Program as ReadyProgram}
 use Rattle.eh_run.specs.Runs.{IsRun}
 use Rattle.eh_commands.specs.declared.status.Status.{Status}
@@ -32,11 +30,11 @@ use Rattle.eh_commands.specs.Answer.{status_of_refusal}
 use Rattle.eh_commands.specs.Exec.{ProgramRuns}
 use Rattle.eh_commands.specs.File.{Asked, NamesRefusal, ToldBoth, UnreadEither, IsFile, IsInput, source_limit}
 use Rattle.eh_commands.specs.RunEnd.{status_of_run}
-use Rattle.eh_commands.specs.RunSource.{CompiledRunsThis, SourceRunsThis, CompiledRuns, SourceRuns, RunCause}
+use Rattle.eh_commands.specs.RunSource.{CompiledRunsThis, SourceRunsThis, IsReady, CompiledRuns, SourceRuns, RunCause}
 use Rattle.eh_commands.proofs.Causes.{told_both, unread_either}
 use Rattle.eh_commands.proofs.ExecCauses.{no_memory, no_run_fault, no_run_length, runs_this}
 
-no_run_refusal : (end : End) (number place : ℕ) → SourceRefused number place ≡ status_of_run end → ⊥
+pub no_run_refusal : (end : End) (number place : ℕ) → SourceRefused number place ≡ status_of_run end → ⊥
 no_run_refusal (ends.Exit n) number place e = cc
 no_run_refusal ends.Aborted number place e = cc
 no_run_refusal ends.Budget number place e = cc
@@ -53,9 +51,9 @@ not_refused u image reason place location other runs is = go (runnable image) ru
     go (Err fault) never is = never
 
 -- a program that is ready, from its image
-module _ (a : Asked) (p : Checked) (input : List ℕ) (program : ReadyProgram) (old new : SinkView) (stands : RunsUnit (emitted_for p) (image_for p)) (loads : Loads (Ok program) (runnable (image_for p))) where
+module _ (a : Asked) (p : Checked) (input : List ℕ) (program : ReadyProgram) (old new : SinkView) (is_ready : IsReady p program) where
   runs : (r : Ran) → IsRun program input a.modules a.turns r → CompiledRunsThis a r p input
-  runs r is = (stands, runs_this a (image_for p) input program old new loads r is)
+  runs r is = (is_ready.0, runs_this a (image_for p) input program old new is_ready.1 r is)
 
   pub compiled_runs : (status : Status) → ProgramRuns a program input old new status → CompiledRuns a p input old new status
   compiled_runs Done (r, is, h) = (r, runs r is, h)

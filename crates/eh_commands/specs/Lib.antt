@@ -8,6 +8,7 @@ pub mod RunEnd
 pub mod Exec
 pub mod Compile
 pub mod RunSource
+pub mod Generate
 pub mod Question
 pub mod Words
 pub mod Answer

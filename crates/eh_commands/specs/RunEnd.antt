@@ -1,6 +1,5 @@
 -- What is printed of a run and of its end.
 use Rattle.std.specs.Prelude.{◌≡◌, ℕ, Bool, true, false, List, [], ◌∷◌, ◌++◌, codes}
-use Rattle.std.specs.Fmt.{decimal}
 use Rattle.std.specs.Int.{w64, to_be_bytes}
 use Rattle.hex.specs.Hex.{encode_lower}
 use Rattle.rv64_isa.specs.declared.step.FaultKind.{FaultKind}
@@ -13,7 +12,7 @@ use Rattle.eh_outer.specs.Sink.{SinkView}
 use Rattle.run_items.specs.Output.{TakesAll, FailsAmong}
 use Rattle.eh_commands.specs.declared.status.Status.{Status}
 use Rattle.eh_commands.specs.declared.status.Status.TheVariants.{Done, WriteFault, Aborted, Budget, Stack, MachineFault}
-use Rattle.eh_commands.specs.Output.{exit_line}
+use Rattle.eh_commands.specs.Output.{exit_line, number_line}
 
 -- the name of a fault
 abbrev pub fault_name : FaultKind → List ℕ
@@ -40,7 +39,7 @@ run_end_line ends.WriteFault = []
 
 -- the line of how many steps were counted
 abbrev pub count_line : ℕ → List ℕ
-count_line n = codes "= count " ++ (decimal n ++ codes "\n")
+count_line n = number_line (codes "= count ") n
 
 -- it stands where it is asked for
 abbrev pub count_lines : Bool → ℕ → List (List ℕ)

@@ -1,5 +1,5 @@
 -- When `run FILE` gives each status, and what it prints.
-use Rattle.std.specs.Prelude.{◌≡◌, ℕ, List}
+use Rattle.std.specs.Prelude.{◌≡◌, ℕ, List, Ok}
 use Rattle.cxx_ast.specs.Plain.{Program, Checked}
 use Rattle.cxx_ast.specs.Checked.{checked}
 use Rattle.cxx_front.specs.Fate.{HasOnly, refused, valid}
@@ -8,7 +8,10 @@ use Rattle.source_bounds.specs.Compiled.{emitted_for}
 use Rattle.image_link.specs.Runs.{RunsUnit}
 use Rattle.eh_outer.specs.Store.{StoreView}
 use Rattle.eh_outer.specs.Sink.{SinkView}
+use Rattle.elf_image.specs.Runnable.{runnable}
 use Rattle.cxa_runtime.specs.Run.{Ran}
+use Rattle.eh_run.specs.Loads.{Loads}
+use Rattle.eh_run.specs.Program.{Program as ReadyProgram}
 use Rattle.eh_commands.specs.declared.status.Status.{Status}
 use Rattle.eh_commands.specs.declared.status.Status.TheVariants.{SourceRefused, ReadFault, TooLong, NoMemory}
 use Rattle.eh_commands.specs.Exec.{RunsThis, RunEnds}
@@ -21,6 +24,10 @@ CompiledRunsThis a r p input = RunsUnit (emitted_for p) (image_for p) × RunsThi
 -- so of a source, which is a valid program
 abbrev pub SourceRunsThis : Asked → Ran → List ℕ → List ℕ → Type 0
 SourceRunsThis a r source input = (p : Program) × HasOnly source (valid p) × CompiledRunsThis a r (checked p) input
+
+-- a program that is ready to run is that of a checked program's image, which stands for what is emitted for it
+abbrev pub IsReady : Checked → ReadyProgram → Type 0
+IsReady p program = RunsUnit (emitted_for p) (image_for p) × Loads (Ok program) (runnable (image_for p))
 
 -- what becomes of a checked program with an input
 abbrev pub CompiledRuns : Asked → Checked → List ℕ → SinkView → SinkView → Status → Type 0

@@ -3,6 +3,7 @@ ghost use Rattle.std.specs.Prelude.{◌≡◌, ◌≤◌, ◌^◌, List, map, op
 ghost use Rattle.command_line.specs.Command.{command_of, command_seen};
 ghost use Rattle.eh_outer.specs.Module.{ModuleView};
 ghost use Rattle.eh_commands.specs.File.{NamesRefusal, refused_name};
+ghost use Rattle.eh_commands.specs.Generate.{IsSized};
 ghost use Rattle.eh_commands.specs.Question.{asked_by};
 ghost use Rattle.eh_commands.specs.Words.{asked, texts};
 ghost use Rattle.eh_commands.specs.Answer.{Cause, CommandCause, KeepsFiles, KeptBy, Reports};
@@ -11,6 +12,7 @@ ghost use Rattle.eh_commands.specs.Status.{text_of_status};
 use crate::compile::compile_file;
 use crate::exec::exec_file;
 use crate::file::{Ended, Question};
+use crate::generate::generate_and_count;
 use crate::image::{check_file, dump_file};
 use crate::mean::mean_file;
 use crate::report::report;
@@ -54,7 +56,7 @@ fn question_of(command: &Command) -> Question<'_>
     }
 }
 
-// Does what a command does with the files that it is given.
+// Does what a command does with the files or the size that it is given.
 fn execute<'a, St: Store, Out: Sink, M: Module>(
     alloc: Global,
     verb: Verb,
@@ -64,6 +66,7 @@ fn execute<'a, St: Store, Out: Sink, M: Module>(
     modules: Vec<M>,
 ) -> Ended<'a>
     requires turns { question.turns ≤ 2 ^ 40 }
+    requires size { IsSized verb question.source.now }
     ensures cause { CommandCause verb (asked_by question.entry (map M.view modules.items)) (St.view store.old) (St.view store.new) (Out.view out.old) (Out.view out.new) result.status }
     ensures files { KeptBy verb result.status (St.view store.old) (St.view store.new) }
     ensures name { NamesRefusal result.status result.file.now (St.view store.new) }
@@ -83,6 +86,10 @@ fn execute<'a, St: Store, Out: Sink, M: Module>(
         },
         Verb::Dump => Ended {
             status: dump_file(alloc, file, store, out),
+            file,
+        },
+        Verb::Gen => Ended {
+            status: generate_and_count(alloc, question, out),
             file,
         },
     }

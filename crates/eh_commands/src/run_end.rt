@@ -6,12 +6,11 @@ ghost use Rattle.eh_outer.specs.Sink.{Puts};
 ghost use Rattle.run_items.specs.Output.{PutsAll};
 ghost use Rattle.eh_commands.specs.RunEnd.{count_line, fault_name, last_lines, run_end_line, status_of_run, whole_address};
 
-use crate::line::put_int;
+use crate::line::{put_int, put_number};
 use crate::status::Status;
 use arrayvec::ArrayVec;
 use eh_outer::{Sink, SinkError};
 use eh_run::{End, Ran};
-use itoa::Buffer;
 use rv64_machine::FaultKind;
 
 // Room for the longest line, which is that of a fault.
@@ -91,12 +90,7 @@ fn put_end<Out: Sink>(out: &mut Out, end: End) -> Result<(), SinkError>
 fn put_count<Out: Sink>(out: &mut Out, count: u64) -> Result<(), SinkError>
     ensures { Puts (count_line count) (Out.view out.old) (Out.view out.new) result }
 {
-    let mut buffer = Buffer::new();
-    let mut line = Text::new();
-    push(&mut line, b"= count ");
-    push(&mut line, buffer.format(count).as_bytes());
-    push(&mut line, b"\n");
-    out.put(line.as_slice())
+    put_number(out, "= count ", count)
 }
 
 /// Puts the last lines of a run that wrote all of its lines: its end, and under `count` how many steps it counted.

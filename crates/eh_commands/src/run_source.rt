@@ -8,13 +8,11 @@ ghost use Rattle.eh_commands.specs.RunSource.{CompiledRuns, RunCause, SourceRuns
 
 use crate::exec::run_loaded;
 use crate::file::{Ended, Question, SOURCE_LIMIT, read_both};
+use crate::ready::ready;
 use crate::status::Status;
 use cxx_ast::program::Checked;
 use cxx_front::checked;
-use cxx_image::image_of;
 use eh_outer::{Module, Sink, Store};
-use eh_run::load;
-use elf_image::ImageError;
 use std::alloc::Global;
 
 // Compiles a checked program, and runs its image with its input.
@@ -30,12 +28,8 @@ fn run_program<Out: Sink, M: Module>(
     requires program { IsChecked (checked_of program.now) }
     ensures { CompiledRuns (asked_by question.now (map M.view modules.items)) (checked_of program.now) input.now (Out.view out.old) (Out.view out.new) result }
 {
-    let Ok(image) = image_of(alloc, program) else {
-        return Status::NoMemory;
-    };
-    match load(alloc, image.as_slice()) {
-        Err(ImageError::Refused { .. }) => unreachable!(),
-        Err(ImageError::NoMemory) => Status::NoMemory,
+    match ready(alloc, program) {
+        Err(_) => Status::NoMemory,
         Ok(loaded) => run_loaded(loaded, input, question, modules, out),
     }
 }

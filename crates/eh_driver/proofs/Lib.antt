@@ -4,4 +4,5 @@ pub mod EventsHeld
 pub mod MeantShown
 pub mod CompilePromised
 pub mod RunPromised
+pub mod GenPromised
 pub mod Promised

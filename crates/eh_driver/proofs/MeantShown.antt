@@ -24,6 +24,7 @@ use Rattle.cxa_runtime.specs.Kept.{replies_of}
 use Rattle.cxa_runtime.specs.Run.{Ran}
 use Rattle.compiled_runs.specs.Given.{IsGiven}
 use Rattle.step_law.specs.Complete.{CheckedImagesAreCompiled}
+use Rattle.gen_source.specs.Laws.{SourcesAreValid}
 use Rattle.eh_commands.specs.declared.status.Status.{Status}
 use Rattle.eh_commands.specs.File.{Asked}
 use Rattle.eh_commands.specs.RunEnd.{run_lines, status_of_run}
@@ -31,12 +32,13 @@ use Rattle.eh_commands.specs.RunSource.{CompiledRunsThis}
 use Rattle.eh_driver.proofs.EventsHeld.{LawsOfEvents, run_holds}
 use Rattle.eh_driver.specs.Promise.{AreBytes, AreCompiled, ShowsMeant, meaning_for}
 
--- the laws of what is compiled
+-- the laws of what is compiled, and of what is generated to be compiled
 pub record CompilerLaws : Type 0 where
   pub compiled : CheckedImagesAreCompiled
   pub linkable : CheckedIsLinkable
   pub small : ImagesAreSmall
   pub events : LawsOfEvents
+  pub generated : SourcesAreValid
 
 -- what is so of all that is asked: so many turns, and modules that answer with ints
 pub record IsAsked (a : Asked) : Type 0 where

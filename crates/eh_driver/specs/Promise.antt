@@ -7,8 +7,8 @@ use Rattle.eh_outer.specs.Sink.{SinkView, Gains}
 use Rattle.eh_commands.specs.declared.status.Status.{Status}
 use Rattle.eh_commands.specs.declared.status.Status.TheVariants.{Done, SourceRefused, NoMemory}
 use Rattle.command_line.specs.declared.command.Verb.{Verb}
-use Rattle.command_line.specs.declared.command.Verb.TheVariants.{Compile, Run, Exec, Mean, Check, Dump}
-use Rattle.command_line.specs.Command.{CommandView}
+use Rattle.command_line.specs.declared.command.Verb.TheVariants.{Compile, Run, Exec, Mean, Check, Dump, Gen}
+use Rattle.command_line.specs.Command.{CommandView, source_size}
 use Rattle.eh_outer.specs.Module.{ModuleView}
 use Rattle.meaning_forms.specs.declared.ending.MeanEnd.TheVariants.{Undefined}
 use Rattle.meaning_forms.specs.Meaning.{Meaning, program_meaning}
@@ -22,7 +22,9 @@ use Rattle.cxx_front.specs.Source.{IsProgram, IsRefused}
 use Rattle.cxx_image.specs.Image.{image_for}
 use Rattle.image_forms.specs.Placed.{all_code}
 use Rattle.source_bounds.specs.Compiled.{emitted_for}
+use Rattle.gen_source.specs.Source.{generated}
 use Rattle.eh_commands.specs.Exec.{RunsThis}
+use Rattle.eh_commands.specs.Generate.{RunsAlone, gen_lines}
 use Rattle.run_items.specs.Output.{bytes_of}
 use Rattle.eh_commands.specs.File.{Asked, input_limit, source_limit}
 use Rattle.table_forms.specs.Fault.{Fault}
@@ -136,6 +138,17 @@ pub record ExecPromise (a : Asked) (old new : StoreView) (out out' : SinkView) (
   pub refuses : (file input : List ℕ) (fault : Fault) → ExecUndisturbed a file input old new out out' → runnable file ≡ Err fault →
       (status ≡ NoMemory) ⊎ ((status ≡ status_of (reported fault)) × (out' ≡ out))
 
+-- The source of a size is a valid program, whose image is the compiled program. How many tokens it has, how many ints a run of it without input and modules wrote,
+-- how many exception objects that made, and the line of its end went out, and the status is that of the end.
+abbrev pub ShowsCounts : Asked → ℕ → SinkView → SinkView → Status → Type 0
+ShowsCounts a n out out' status =
+    (p : Program) × IsProgram (generated n) p × Valid p × AreCompiled (checked p) (image_for (checked p)) ×
+    (r : Ran) × RunsAlone a.turns (checked p) r × (status ≡ status_of_run r.end) × Gains (bytes_of (gen_lines (31 * n + 73) r)) out out'
+
+-- where `out` does not fail, of the size that the operand is; or memory ran out
+abbrev pub GenPromise : Asked → SinkView → SinkView → Status → Type 0
+GenPromise a out out' status = (n : ℕ) → source_size a.source ≡ Some n → (Rose out.faults out'.faults → ⊥) → (status ≡ NoMemory) ⊎ ShowsCounts a n out out' status
+
 -- what each command promises
 abbrev pub CommandPromise : Verb → Asked → StoreView → StoreView → SinkView → SinkView → Status → Type 0
 CommandPromise Compile a old new out out' status = CompilePromise a old new out out' status
@@ -144,6 +157,7 @@ CommandPromise Exec a old new out out' status = ExecPromise a old new out out' s
 CommandPromise Mean a old new out out' status = MeanPromise a old new out out' status
 CommandPromise Check a old new out out' status = ImagePromise check_lines a.source old new out out' status
 CommandPromise Dump a old new out out' status = ImagePromise dump_lines a.source old new out out' status
+CommandPromise Gen a old new out out' status = GenPromise a out out' status
 
 -- what words promise
 abbrev pub Promise : List ModuleView → Option CommandView → StoreView → StoreView → SinkView → SinkView → Status → Type 0

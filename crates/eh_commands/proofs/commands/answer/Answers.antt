@@ -1,9 +1,12 @@
-use Rattle.std.proofs.Common.{◌≤◌, ◌^◌, [], subst, sym, ap, map}
+use Rattle.std.proofs.Common.{◌≤◌, ◌^◌, [], subst, sym, map}
 use Rattle.command_line.specs.Command.{command_of, command_seen}
 use Rattle.eh_commands.specs.Answer.{Reports}
 use Rattle.eh_commands.specs.File.{Asked, refused_name}
 use Rattle.eh_commands.specs.Words.{texts}
-use Rattle.eh_commands.proofs.Bounded.{turns_few}
+use Rattle.command_line.proofs.Sizes.{operands_are_sized}
+use Rattle.command_line.proofs.Turns.{turns_are_bounded}
+use Rattle.eh_commands.specs.Generate.{IsSized}
+use Rattle.eh_commands.proofs.GenCauses.{is_sized}
 use Rattle.eh_commands.proofs.Named.{text_named}
 use Rattle.eh_commands.proofs.Words.{no_name, unread}
 use Rattle.eh_commands.proofs.commands.answer.Goals as goal
@@ -32,5 +35,8 @@ returns-in-Err-clause-cause g c =
 
 pub execute-ended-requires : goal.execute-ended-requires
 execute-ended-requires g c =
-    let few = turns_few (texts c.args.words.now.items) (command_seen c.in-Ok.command) c.in-Ok.ensures in
-    record { turns = subst (λ n. n ≤ 2 ^ 40) (sym (ap (λ (a : Asked). a.turns) (c.question_of-question.ensures []))) few }
+    let command = command_seen c.in-Ok.command in
+    let few = (turns_are_bounded (texts c.args.words.now.items) command c.in-Ok.ensures).most in
+    let sized = is_sized command (operands_are_sized (texts c.args.words.now.items) command c.in-Ok.ensures) in
+    let is = sym (c.question_of-question.ensures []) in
+    record { turns = subst (λ (a : Asked). a.turns ≤ 2 ^ 40) is few; size = subst (λ (a : Asked). IsSized command.verb a.source) is sized }

@@ -1,0 +1,14 @@
+pub mod Decimals
+pub mod Tokens
+pub mod Standing
+pub mod Parts
+pub mod Lexed
+pub mod Trees
+pub mod Parsed
+pub mod Levels
+pub mod Names
+pub mod Sizes
+pub mod Checked
+pub mod Fates
+pub mod Pushed
+pub mod Worked
