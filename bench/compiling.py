@@ -43,9 +43,9 @@ def chain(length):
     return f"{OBJECT}void f0() {{ A a(0); throw 0; }}\n{links}int main() {{ try {{ f{length}(); }} catch (int e) {{ write_int(e); }} return 0; }}\n"
 
 
-def least(command):
-    """The least processor time of some runs, in milliseconds, and what the last one printed."""
-    times = []
+def measured(command):
+    """The least processor time of some runs, in milliseconds, the greatest resident memory, in MiB, and what the last one printed."""
+    times, most = [], 0
     for _ in range(RUNS):
         with tempfile.TemporaryFile() as out:
             child = subprocess.Popen([str(word) for word in command], stdout=out, stderr=subprocess.DEVNULL)
@@ -55,7 +55,14 @@ def least(command):
             out.seek(0)
             printed = out.read().decode()
         times.append((used.ru_utime + used.ru_stime) * 1e3)
-    return min(times), printed
+        most = max(most, used.ru_maxrss / 1024)
+    return min(times), most, printed
+
+
+def least(command):
+    """The least processor time of some runs, in milliseconds, and what the last one printed."""
+    time, _, printed = measured(command)
+    return time, printed
 
 
 def compiled(folder, text):

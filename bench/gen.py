@@ -5,40 +5,23 @@ Usage: bench/gen.py, at the top of the repository. It prints a line for each len
 processor time of `ehc gen`, how it grows, the greatest resident memory, and what `g++ -O0` takes to compile and link the same source
 and the program to run. Both are whole, from start to end: what an empty program takes stands in the first line.
 """
-import os
 import pathlib
 import subprocess
 import sys
 import tempfile
 
-from compiling import EHC, EMPTY, PEER, RUNS, TOP, chain
+from compiling import EHC, EMPTY, PEER, TOP, chain, measured
 
 LENGTHS = [1, 250, 500, 1000, 2000]
 WRITES = "#include <cstdio>\nvoid write_int(int n) { std::printf(\"%d\\n\", n); }\n"
-
-
-def least(command):
-    """The least processor time of some runs, in milliseconds, the greatest resident memory, in MiB, and what the last one printed."""
-    times, most = [], 0
-    for _ in range(RUNS):
-        with tempfile.TemporaryFile() as out:
-            child = subprocess.Popen([str(word) for word in command], stdout=out, stderr=subprocess.DEVNULL)
-            _, status, used = os.wait4(child.pid, 0)
-            child.returncode = os.waitstatus_to_exitcode(status)
-            assert child.returncode == 0, command
-            out.seek(0)
-            printed = out.read().decode()
-        times.append((used.ru_utime + used.ru_stime) * 1e3)
-        most = max(most, used.ru_maxrss / 1024)
-    return min(times), most, printed
 
 
 def peer(folder, text):
     """What the compiler with its linker takes, and the program that it makes."""
     source, program = folder / "peer.cc", folder / "peer"
     source.write_text(PEER + text)
-    built = least(["g++", "-O0", "-w", "-o", program, source, folder / "writes.o"])[0]
-    ran, _, printed = least([program])
+    built = measured(["g++", "-O0", "-w", "-o", program, source, folder / "writes.o"])[0]
+    ran, _, printed = measured([program])
     return built + ran, printed
 
 
@@ -51,12 +34,12 @@ def main():
         subprocess.run(["g++", "-O0", "-c", "-o", folder / "writes.o", folder / "writes.cc"], check=True)
         print(f"{'functions':>9}{'tokens':>8}{'ms':>8}{'growth':>8}{'MiB':>7}{'g++ ms':>9}{'ratio':>8}")
         (folder / "empty.cc").write_text(EMPTY)
-        least_of_all, resident, _ = least([EHC, "run", folder / "empty.cc"])
+        taken, resident, _ = measured([EHC, "run", folder / "empty.cc"])
         beside, _ = peer(folder, EMPTY)
-        print(f"{'none':>9}{9:8}{least_of_all:8.1f}{'':8}{resident:7.1f}{beside:9.0f}{least_of_all / beside:8.3f}", flush=True)
+        print(f"{'none':>9}{9:8}{taken:8.1f}{'':8}{resident:7.1f}{beside:9.0f}{taken / beside:8.3f}", flush=True)
         before = 0
         for length in LENGTHS:
-            taken, resident, printed = least([EHC, "gen", length])
+            taken, resident, printed = measured([EHC, "gen", length])
             beside, lines = peer(folder, chain(length))
             tokens = 31 * length + 73
             assert printed == f"tokens {tokens}\nlines {length + 2}\nmakes {length + 1}\n= exit 0\n", printed

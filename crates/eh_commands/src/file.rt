@@ -13,8 +13,8 @@ pub const SOURCE_LIMIT: u64 = 0x10_0000;
 /// The longest input, in bytes.
 const INPUT_LIMIT: u64 = 0x10_0000;
 
-/// What is asked of a file: its name, or the size of a source that is generated, that of the image to be stored, that of its input if it has one, the most turns or
-/// steps, whether events are printed, and whether steps are counted.
+/// What is asked of a file: its name, or the size of a source that is generated, that of the image to be stored, that of its input if it
+/// has one, the most turns or steps, whether events are printed, and whether steps are counted.
 #[derive(Clone, Copy, Debug)]
 pub struct Question<'a> {
     pub source: &'a str,

@@ -20,7 +20,7 @@ use Rattle.handler_choice.specs.Own.{own_guards_at}
 use Rattle.handler_choice.specs.Open.{AllRaise, NamesTarget}
 use Rattle.handler_choice.specs.Chosen.{first_stop, target_call, AllSay, IsFirst}
 
--- the guards around an operation at a place of a function, which its tables say
+-- The guards around an operation at a place of a function, which its tables say. Where the same operation stands twice in the function, they are those of one of both.
 pub record IsGuarded (f : RegionFunction) (p : ℕ) (x : LinearOp) : Type 0 where
   pub guards : List Guard
   pub stands : Stands [] f.body guards x
