@@ -1,9 +1,10 @@
 #!/usr/bin/env python3
-"""Times `ehc check` and `ehc dump` on a large static RISC-V program beside readelf and llvm-dwarfdump.
+"""Times `ehc check`, `ehc dump` and `ehc frames` on a large static RISC-V program beside readelf and llvm-dwarfdump.
 
 The program is C++ with many functions that throw and catch, built here by a cross-compiler with a table of frames
-(`-Wl,--eh-frame-hdr`). Each command runs several times, its output to a pipe that is read whole; the least time counts.
-Where there is no cross-compiler, nothing is measured. What is built lies in a folder of its own.
+(`-Wl,--eh-frame-hdr`), and its frames for debuggers, which a second image keeps. Each command runs several times, its
+output to a pipe that is read whole; the least time counts. Where there is no cross-compiler, nothing is measured.
+What is built lies in a folder of its own.
 """
 import pathlib
 import shutil
@@ -20,7 +21,7 @@ CROSS, RUNS, SIZES = "riscv64-linux-gnu-", 7, [500, 4_000]
 
 def program(functions):
     """C++ with so many functions, each with an object, a throw and two handlers."""
-    parts = ["#include <stdexcept>\n#include <string>\nstruct Guard { int n; explicit Guard(int k) : n(k) {} ~Guard(); };\n"
+    parts = ["asm(\".cfi_sections .eh_frame, .debug_frame\");\n#include <stdexcept>\n#include <string>\nstruct Guard { int n; explicit Guard(int k) : n(k) {} ~Guard(); };\n"
              "volatile int calls;\nGuard::~Guard() { calls = calls + n; }\nint f0(int n) { if (n < 0) throw n; return n; }\n"]
     for i in range(1, functions + 1):
         parts.append(f"int f{i}(int n) {{ Guard g({i}); try {{ Guard h(n); return f{i - 1}(n - 1); }} catch (int e) "
@@ -51,10 +52,11 @@ def main():
     with tempfile.TemporaryDirectory() as folder:
         folder = pathlib.Path(folder)
         for functions in SIZES:
-            source, image = folder / "large.cc", folder / "large"
+            source, image, both = folder / "large.cc", folder / "large", folder / "both"
             source.write_text(program(functions))
-            run([CROSS + "g++", "-O1", "-static", "-Wl,--eh-frame-hdr", "-o", image, source])
-            run([CROSS + "strip", image])
+            run([CROSS + "g++", "-O1", "-static", "-Wl,--eh-frame-hdr", "-o", both, source])
+            run([CROSS + "strip", "-o", image, both])
+            run([CROSS + "strip", "--keep-section=.debug_frame", both])
             size = image.stat().st_size / 1e6
             frames = least_seconds([ehc, "check", image])[1].decode().split()[3]
             for name, command in [
@@ -62,6 +64,8 @@ def main():
                 ("ehc dump", [ehc, "dump", image]),
                 ("readelf --debug-dump=frames", [CROSS + "readelf", "--debug-dump=frames", image]),
                 ("llvm-dwarfdump --eh-frame", ["llvm-dwarfdump", "--eh-frame", image]),
+                ("ehc frames", [ehc, "frames", both]),
+                ("readelf, both forms", [CROSS + "readelf", "--debug-dump=frames", both]),
             ]:
                 if shutil.which(str(command[0])):
                     seconds = least_seconds(command)[0]

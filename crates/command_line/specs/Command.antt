@@ -5,7 +5,7 @@ use Rattle.std.specs.Option.{option_and_then}
 use Rattle.eh_outer.specs.declared.module.Reply.{Reply}
 use Rattle.command_line.specs.declared.command.Command.{Command}
 use Rattle.command_line.specs.declared.command.Verb.{Verb}
-use Rattle.command_line.specs.declared.command.Verb.TheVariants.{Compile, Run, Exec, Mean, Check, Dump, Gen}
+use Rattle.command_line.specs.declared.command.Verb.TheVariants.{Compile, Run, Exec, Mean, Check, Dump, Frames, Gen}
 use Rattle.command_line.specs.declared.setting.Setting.{Setting}
 use Rattle.command_line.specs.declared.setting.Setting.TheVariants.{Input, Max, Trace, Count, Foreign}
 use Rattle.command_line.specs.Number.{count_up_to}
@@ -151,6 +151,7 @@ verb_of word =
     else if bytes_eq word (codes "mean") then Some Mean
     else if bytes_eq word (codes "check") then Some Check
     else if bytes_eq word (codes "dump") then Some Dump
+    else if bytes_eq word (codes "frames") then Some Frames
     else if bytes_eq word (codes "gen") then Some Gen
     else None
 

@@ -18,6 +18,8 @@ pub enum Verb {
     Check,
     /// Print the tables of an image.
     Dump,
+    /// Compare both forms of the frames of an image.
+    Frames,
     /// Generate a source of a size, compile it, and count what its run does.
     Gen,
 }

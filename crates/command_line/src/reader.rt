@@ -52,7 +52,7 @@ impl Verb {
                 settings: &[Setting::Max],
                 operands: 1,
             },
-            Verb::Check | Verb::Dump => Takes {
+            Verb::Check | Verb::Dump | Verb::Frames => Takes {
                 settings: &[],
                 operands: 1,
             },
@@ -71,6 +71,7 @@ fn verb_of(word: &str) -> Option<Verb>
         "mean" => Some(Verb::Mean),
         "check" => Some(Verb::Check),
         "dump" => Some(Verb::Dump),
+        "frames" => Some(Verb::Frames),
         "gen" => Some(Verb::Gen),
         _ => None,
     }

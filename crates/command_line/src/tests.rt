@@ -180,6 +180,10 @@ static WORDS: &[(&[&str], &str)] = &[
         "Dump [\"-f\"] [] 10000000 false false []",
     ),
     (
+        &["frames", "f"],
+        "Frames [\"f\"] [] 10000000 false false []",
+    ),
+    (
         &["run", "f", "--"],
         "Run [\"f\"] [] 10000000 false false []",
     ),
@@ -197,6 +201,7 @@ static WORDS: &[(&[&str], &str)] = &[
     (&["run", "f", "--max=0"], USAGE),
     (&["check", "f", "--trace"], USAGE),
     (&["dump", "f", "--max=1"], USAGE),
+    (&["frames", "f", "g"], USAGE),
     (&["", "f"], USAGE),
     (
         &["compile", "f", "g"],

@@ -5,9 +5,9 @@ use eh_driver::Status;
 use std::alloc::Global;
 use std::test::Fail;
 
-// Headers up to 0xb0, the frames' header, at 0xc4 the frames, at 0xfc a table, and at 0x10c code. It
-// is loaded at 0x10000.
-static WORKED: &[u8] = b"\x7fELF\x02\x01\x01\0\0\0\0\0\0\0\0\0\
+/// Headers up to 0xb0, the frames' header, at 0xc4 the frames, at 0xfc a table, and at 0x10c code. It
+/// is loaded at 0x10000.
+pub static WORKED: &[u8] = b"\x7fELF\x02\x01\x01\0\0\0\0\0\0\0\0\0\
 \x02\0\xf3\0\x01\0\0\0\x0c\x01\x01\0\0\0\0\0\
 @\0\0\0\0\0\0\0\0\0\0\0\0\0\0\0\
 \0\0\0\0@\08\0\x02\0\0\0\0\0\0\0\

@@ -5,6 +5,8 @@
 #[cfg(test)]
 mod compiled;
 #[cfg(test)]
+mod frames;
+#[cfg(test)]
 mod generated;
 #[cfg(test)]
 mod images;

@@ -292,6 +292,7 @@ fn numbers(rt: HostRuntime) {
             13,
         ),
         (Status::Undefined, 14),
+        (Status::Differs, 15),
     ];
     for (status, number) in cases {
         assert_eq!(rt; status.number(), number);

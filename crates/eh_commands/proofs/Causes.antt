@@ -5,7 +5,7 @@ use Rattle.std.specs.FinMap.{get}
 use Rattle.eh_outer.specs.Store.{Files, StoreView, Refuses}
 use Rattle.eh_outer.specs.declared.store.RefusalKind.{RefusalKind}
 use Rattle.eh_commands.specs.declared.status.Status.{Status}
-use Rattle.eh_commands.specs.declared.status.Status.TheVariants.{Done, Usage, SourceRefused, ImageRefused, ReadFault, TooLong, WriteFault, NoMemory, Aborted, Budget, Stack, MachineFault, Undefined}
+use Rattle.eh_commands.specs.declared.status.Status.TheVariants.{Done, Usage, SourceRefused, ImageRefused, ReadFault, TooLong, WriteFault, NoMemory, Aborted, Budget, Stack, MachineFault, Undefined, Differs}
 use Rattle.eh_commands.specs.File.{Asked, ToldInput, ToldBoth, Unread, UnreadInput, UnreadEither, IsFile, IsInput, input_limit}
 
 pub told_from : (limit : ℕ) (files : Option Files) (name file : List ℕ) (P : List ℕ → Type 0) → length file ≤ limit → IfSome files (λ m. get m name ≡ Some file) → P file →
@@ -47,6 +47,7 @@ unread_since limit name old mid new later same Budget why = absurd why
 unread_since limit name old mid new later same Stack why = absurd why
 unread_since limit name old mid new later same (MachineFault kind place) why = absurd why
 unread_since limit name old mid new later same Undefined why = absurd why
+unread_since limit name old mid new later same Differs why = absurd why
 
 input_unread_since : (i : Option (List ℕ)) (old mid new : StoreView) → old.faults ≤ mid.faults → mid.files ≡ old.files → (status : Status) → UnreadInput i mid new status → UnreadInput i old new status
 input_unread_since None old mid new later same status why = why
@@ -73,6 +74,7 @@ unread_one P fault long memory limit name old new Budget why = absurd why
 unread_one P fault long memory limit name old new Stack why = absurd why
 unread_one P fault long memory limit name old new (MachineFault kind place) why = absurd why
 unread_one P fault long memory limit name old new Undefined why = absurd why
+unread_one P fault long memory limit name old new Differs why = absurd why
 
 unread_input : (P : Status → Type 0) → P ReadFault → P TooLong → P NoMemory → (i : Option (List ℕ)) (old new : StoreView) (status : Status) → UnreadInput i old new status → P status
 unread_input P fault long memory None old new status why = absurd why

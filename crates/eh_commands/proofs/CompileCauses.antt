@@ -13,7 +13,7 @@ use Rattle.source_bounds.specs.Compiled.{emitted_for}
 use Rattle.image_link.specs.Runs.{RunsUnit}
 use Rattle.eh_outer.specs.Store.{Files, StoreView}
 use Rattle.eh_commands.specs.declared.status.Status.{Status}
-use Rattle.eh_commands.specs.declared.status.Status.TheVariants.{Done, Usage, SourceRefused, ImageRefused, ReadFault, TooLong, WriteFault, NoMemory, Aborted, Budget, Stack, MachineFault, Undefined}
+use Rattle.eh_commands.specs.declared.status.Status.TheVariants.{Done, Usage, SourceRefused, ImageRefused, ReadFault, TooLong, WriteFault, NoMemory, Aborted, Budget, Stack, MachineFault, Undefined, Differs}
 use Rattle.eh_commands.specs.Answer.{status_of_refusal}
 use Rattle.eh_commands.specs.File.{Asked, NamesRefusal, Unread, source_limit}
 use Rattle.eh_commands.specs.Compile.{CompilesTo, ImageStored, SourceCompiles, CompileCause}
@@ -56,6 +56,7 @@ module _ (name source : List ℕ) (c : CheckedValue) (a : FrontAnswers source (O
   stored_compiles old new Stack h = absurd h
   stored_compiles old new (MachineFault kind place) h = absurd h
   stored_compiles old new Undefined h = absurd h
+  stored_compiles old new Differs h = absurd h
 
 -- a source that was read names no file
 pub source_compiles_named : (name source file : List ℕ) (old new store : StoreView) (status : Status) → SourceCompiles name source old new status → NamesRefusal status file store
@@ -72,6 +73,7 @@ source_compiles_named name source file old new store Budget h = tt
 source_compiles_named name source file old new store Stack h = tt
 source_compiles_named name source file old new store (MachineFault kind place) h = tt
 source_compiles_named name source file old new store Undefined h = tt
+source_compiles_named name source file old new store Differs h = tt
 
 pub unread_compiles : (a : Asked) (old new : StoreView) (status : Status) → Unread source_limit a.source old new status → new.files ≡ old.files → CompileCause a old new status
 unread_compiles a old new Done why same = absurd why
@@ -87,6 +89,7 @@ unread_compiles a old new Budget why same = absurd why
 unread_compiles a old new Stack why same = absurd why
 unread_compiles a old new (MachineFault kind place) why same = absurd why
 unread_compiles a old new Undefined why same = absurd why
+unread_compiles a old new Differs why same = absurd why
 
 -- the store between reading and writing tells the files of before
 stored_since : (name bytes : List ℕ) (before mid after : Option Files) → mid ≡ before → IfSome mid (λ files. after ≡ Some (insert files name bytes)) →
@@ -111,3 +114,4 @@ module _ (a : Asked) (source : List ℕ) (old mid new : StoreView) (short : leng
   source_compiled Stack h = absurd h
   source_compiled (MachineFault kind place) h = absurd h
   source_compiled Undefined h = absurd h
+  source_compiled Differs h = absurd h

@@ -27,7 +27,7 @@ use Rattle.eh_run.specs.Program.{Program, program_of}
 use Rattle.eh_run.specs.Loads.{Loads}
 use Rattle.eh_run.specs.Runs.{IsRun, RunsToEnd, RunsToFault, RunsBy}
 use Rattle.eh_commands.specs.declared.status.Status.{Status}
-use Rattle.eh_commands.specs.declared.status.Status.TheVariants.{Done, Usage, SourceRefused, ImageRefused, ReadFault, TooLong, WriteFault, NoMemory, Aborted, Budget, Stack, MachineFault, Undefined}
+use Rattle.eh_commands.specs.declared.status.Status.TheVariants.{Done, Usage, SourceRefused, ImageRefused, ReadFault, TooLong, WriteFault, NoMemory, Aborted, Budget, Stack, MachineFault, Undefined, Differs}
 use Rattle.eh_commands.specs.File.{Asked, ToldBoth, UnreadEither, IsFile, IsInput}
 use Rattle.eh_commands.specs.Image.{image_limit, status_of}
 use Rattle.eh_commands.specs.RunEnd.{LastEnds, Ends, last_lines, run_lines, status_of_run}
@@ -90,6 +90,7 @@ module _ (a : Asked) (program : Program) (input : List ℕ) (after : List Module
     whole_runs Stack h = (r.whole, r.runs, all_taken Stack h)
     whole_runs (MachineFault kind place) h = (r.whole, r.runs, all_taken (MachineFault kind place) h)
     whole_runs Undefined h = (r.whole, r.runs, all_taken Undefined h)
+    whole_runs Differs h = (r.whole, r.runs, all_taken Differs h)
 
   -- a run whose lines failed
   fault_runs : RunsToFault program input a.turns a.trace a.modules after old now ran → (status : Status) → status ≡ WriteFault → new ≡ now →
@@ -173,6 +174,7 @@ module _ (a : Asked) (file input : List ℕ) (program : Program) (old new : Sink
   image_runs Stack (r, is, h) = (r, runs_this r is, h)
   image_runs (MachineFault kind place) (r, is, h) = (r, runs_this r is, h)
   image_runs Undefined (r, is, h) = (r, runs_this r is, h)
+  image_runs Differs (r, is, h) = (r, runs_this r is, h)
 
 -- a refusal
 refuses : (read : Result CleanImage Fault) (e : ImageError) → IsErrAnd read (λ f. e ≡ reported f) → IsErrAnd read (λ fault. status_of e ≡ status_of (reported fault))
@@ -206,3 +208,4 @@ module _ (a : Asked) (file input : List ℕ) (old new : StoreView) (out out' : S
   image_executes Stack (r, this, h) = (r, told (RunsThis a r) this, h)
   image_executes (MachineFault kind place) (r, this, h) = (r, told (RunsThis a r) this, h)
   image_executes Undefined (r, this, h) = (r, told (RunsThis a r) this, h)
+  image_executes Differs (r, this, h) = (r, told (RunsThis a r) this, h)

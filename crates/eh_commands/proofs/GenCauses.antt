@@ -33,11 +33,11 @@ use Rattle.eh_run.specs.Loads.{Loads}
 use Rattle.eh_run.specs.Program.{Program as ReadyProgram}
 use Rattle.eh_run.specs.Runs.{IsRun}
 use Rattle.command_line.specs.declared.command.Verb.{Verb}
-use Rattle.command_line.specs.declared.command.Verb.TheVariants.{Compile, Run, Exec, Mean, Check, Dump, Gen}
+use Rattle.command_line.specs.declared.command.Verb.TheVariants.{Compile, Run, Exec, Mean, Check, Dump, Frames, Gen}
 use Rattle.command_line.specs.Command.{CommandView, is_size, source_size}
 use Rattle.command_line.proofs.Sizes.{AreSized}
 use Rattle.eh_commands.specs.declared.status.Status.{Status}
-use Rattle.eh_commands.specs.declared.status.Status.TheVariants.{Done, Usage, SourceRefused, ImageRefused, ReadFault, TooLong, WriteFault, NoMemory, Aborted, Budget, Stack, MachineFault, Undefined}
+use Rattle.eh_commands.specs.declared.status.Status.TheVariants.{Done, Usage, SourceRefused, ImageRefused, ReadFault, TooLong, WriteFault, NoMemory, Aborted, Budget, Stack, MachineFault, Undefined, Differs}
 use Rattle.eh_commands.specs.File.{Asked, NamesRefusal}
 use Rattle.eh_commands.specs.Generate.{counted_lines, gen_lines, CountEnds, GenEnds, ReadyRuns, RunsAlone, CheckedRuns, SizeRuns, GeneratedRuns, IsSized}
 use Rattle.eh_commands.specs.RunEnd.{status_of_run}
@@ -121,6 +121,7 @@ gen_more P Q says old new Budget (tokens, r, holds, is, took) = (tokens, r, says
 gen_more P Q says old new Stack (tokens, r, holds, is, took) = (tokens, r, says tokens r holds, is, took)
 gen_more P Q says old new (MachineFault kind place) (tokens, r, holds, is, took) = (tokens, r, says tokens r holds, is, took)
 gen_more P Q says old new Undefined (tokens, r, holds, is, took) = (tokens, r, says tokens r holds, is, took)
+gen_more P Q says old new Differs (tokens, r, holds, is, took) = (tokens, r, says tokens r holds, is, took)
 
 no_image_refusal : (end : End) (number place location other : ℕ) → ImageRefused number place location other ≡ status_of_run end → ⊥
 no_image_refusal (ends.Exit m) number place location other e = cc
@@ -145,6 +146,7 @@ counts_gen P Q says old new Budget (tokens, r, holds, is, took) = (tokens, r, sa
 counts_gen P Q says old new Stack (tokens, r, holds, is, took) = (tokens, r, says tokens r holds, is, took)
 counts_gen P Q says old new (MachineFault kind place) (tokens, r, holds, is, took) = (tokens, r, says tokens r holds, is, took)
 counts_gen P Q says old new Undefined (tokens, r, holds, is, took) = (tokens, r, says tokens r holds, is, took)
+counts_gen P Q says old new Differs (tokens, r, holds, is, took) = (tokens, r, says tokens r holds, is, took)
 
 -- a run of what is ready is one of the program's image
 pub ready_runs : (turns : ℕ) (p : Checked) (program : ReadyProgram) → IsReady p program → (tokens : ℕ) (r : Ran) → ReadyRuns turns program p.program.tokens tokens r → CheckedRuns turns p tokens r
@@ -183,6 +185,7 @@ gen_named P old new name store Budget h = tt
 gen_named P old new name store Stack h = tt
 gen_named P old new name store (MachineFault kind place) h = tt
 gen_named P old new name store Undefined h = tt
+gen_named P old new name store Differs h = tt
 
 -- ---- the operand is a size
 pub is_sized : (c : CommandView) → AreSized c.verb c.operands → IsSized c.verb (file_of c)
@@ -196,3 +199,4 @@ is_sized c are = by c.verb are
     by Mean are = tt
     by Check are = tt
     by Dump are = tt
+    by Frames are = tt

@@ -1,8 +1,10 @@
 pub mod Words
 pub mod FirstLine
+pub mod EachLine
 pub mod Hexadecimal
 pub mod Causes
 pub mod ImageCauses
+pub mod FramesCauses
 pub mod Reports
 pub mod Meanings
 pub mod MeanCauses

@@ -5,7 +5,7 @@ use Rattle.eh_outer.specs.declared.store.RefusalKind.{RefusalKind}
 use Rattle.eh_outer.specs.Sink.{SinkView}
 use Rattle.elf_image.specs.Clean.{CleanImage}
 use Rattle.eh_commands.specs.declared.status.Status.{Status}
-use Rattle.eh_commands.specs.declared.status.Status.TheVariants.{Done, Usage, SourceRefused, ImageRefused, ReadFault, TooLong, WriteFault, NoMemory, Aborted, Budget, Stack, MachineFault, Undefined}
+use Rattle.eh_commands.specs.declared.status.Status.TheVariants.{Done, Usage, SourceRefused, ImageRefused, ReadFault, TooLong, WriteFault, NoMemory, Aborted, Budget, Stack, MachineFault, Undefined, Differs}
 use Rattle.eh_commands.specs.File.{Asked, NamesRefusal, Unread, refused_name}
 use Rattle.eh_commands.specs.Image.{ImageCause}
 use Rattle.eh_commands.specs.Mean.{SourceMeans}
@@ -29,6 +29,7 @@ text_named Budget name store is = refl
 text_named Stack name store is = refl
 text_named (MachineFault kind place) name store is = refl
 text_named Undefined name store is = refl
+text_named Differs name store is = refl
 
 last_name : (old new : StoreView) (kind : RefusalKind) (name : List ℕ) → Refuses old new kind name → refused_name new ≡ name
 last_name old new kind name why = ap (λ l. elim l [ None ↦ [] | Some refusal ↦ refusal.name ]) why.last
@@ -47,6 +48,7 @@ unread_named limit name old new Budget why = tt
 unread_named limit name old new Stack why = tt
 unread_named limit name old new (MachineFault kind place) why = tt
 unread_named limit name old new Undefined why = tt
+unread_named limit name old new Differs why = tt
 
 pub image_named : (lines : CleanImage → List (List ℕ)) (name : List ℕ) (old new : StoreView) (out out' : SinkView) (status : Status) → ImageCause lines name old new out out' status → NamesRefusal status name new
 image_named lines name old new out out' ReadFault (why, rest) = last_name old new _ name why
@@ -62,6 +64,7 @@ image_named lines name old new out out' Budget h = tt
 image_named lines name old new out out' Stack h = tt
 image_named lines name old new out out' (MachineFault kind place) h = tt
 image_named lines name old new out out' Undefined h = tt
+image_named lines name old new out out' Differs h = tt
 
 -- a source that was read, and its input, name none
 pub source_named : (a : Asked) (source input name : List ℕ) (store : StoreView) (old new : SinkView) (status : Status) → SourceMeans a source input old new status → NamesRefusal status name store
@@ -78,6 +81,7 @@ source_named a source input name store old new Budget h = tt
 source_named a source input name store old new Stack h = tt
 source_named a source input name store old new (MachineFault kind place) h = tt
 source_named a source input name store old new Undefined h = tt
+source_named a source input name store old new Differs h = tt
 
 -- nor do an image that was read, and its input
 pub image_runs_named : (a : Asked) (file input name : List ℕ) (store : StoreView) (old new : SinkView) (status : Status) → ImageRuns a file input old new status → NamesRefusal status name store
@@ -94,3 +98,4 @@ image_runs_named a file input name store old new Budget h = tt
 image_runs_named a file input name store old new Stack h = tt
 image_runs_named a file input name store old new (MachineFault kind place) h = tt
 image_runs_named a file input name store old new Undefined h = tt
+image_runs_named a file input name store old new Differs h = tt

@@ -25,7 +25,7 @@ use Rattle.cxa_runtime.specs.Run.{Ran}
 use Rattle.eh_run.specs.Program.{Program as ReadyProgram}
 use Rattle.eh_run.specs.Runs.{IsRun}
 use Rattle.eh_commands.specs.declared.status.Status.{Status}
-use Rattle.eh_commands.specs.declared.status.Status.TheVariants.{Done, Usage, SourceRefused, ImageRefused, ReadFault, TooLong, WriteFault, NoMemory, Aborted, Budget, Stack, MachineFault, Undefined}
+use Rattle.eh_commands.specs.declared.status.Status.TheVariants.{Done, Usage, SourceRefused, ImageRefused, ReadFault, TooLong, WriteFault, NoMemory, Aborted, Budget, Stack, MachineFault, Undefined, Differs}
 use Rattle.eh_commands.specs.Answer.{status_of_refusal}
 use Rattle.eh_commands.specs.Exec.{ProgramRuns}
 use Rattle.eh_commands.specs.File.{Asked, NamesRefusal, ToldBoth, UnreadEither, IsFile, IsInput, source_limit}
@@ -69,6 +69,7 @@ module _ (a : Asked) (p : Checked) (input : List ℕ) (program : ReadyProgram) (
   compiled_runs Stack (r, is, h) = (r, runs r is, h)
   compiled_runs (MachineFault kind place) (r, is, h) = (r, runs r is, h)
   compiled_runs Undefined (r, is, h) = (r, runs r is, h)
+  compiled_runs Differs (r, is, h) = (r, runs r is, h)
 
 -- what the front end answers decides what becomes of the source
 pub refused_source : (a : Asked) (source input : List ℕ) (old : SinkView) (e : SourceError) → FrontAnswers source (Err e) → SourceRuns a source input old old (status_of_refusal e)
@@ -90,6 +91,7 @@ source_runs a source input p only old new Budget (r, this, h) = (r, (p, only, th
 source_runs a source input p only old new Stack (r, this, h) = (r, (p, only, this), h)
 source_runs a source input p only old new (MachineFault kind place) (r, this, h) = (r, (p, only, this), h)
 source_runs a source input p only old new Undefined (r, this, h) = (r, (p, only, this), h)
+source_runs a source input p only old new Differs (r, this, h) = (r, (p, only, this), h)
 
 -- a source that is not read, or whose input is not
 pub unread_run : (a : Asked) (old new : StoreView) (out : SinkView) (status : Status) → UnreadEither source_limit a old new status → RunCause a old new out out status
@@ -114,6 +116,7 @@ module _ (a : Asked) (source input : List ℕ) (old new : StoreView) (out out' :
   source_run Stack (r, this, h) = (r, told (SourceRunsThis a r) this, h)
   source_run (MachineFault kind place) (r, this, h) = (r, told (SourceRunsThis a r) this, h)
   source_run Undefined (r, this, h) = (r, told (SourceRunsThis a r) this, h)
+  source_run Differs (r, this, h) = (r, told (SourceRunsThis a r) this, h)
 
 -- a source that was read, and its input, name no file
 pub source_runs_named : (a : Asked) (source input name : List ℕ) (store : StoreView) (old new : SinkView) (status : Status) → SourceRuns a source input old new status → NamesRefusal status name store
@@ -130,3 +133,4 @@ source_runs_named a source input name store old new Budget h = tt
 source_runs_named a source input name store old new Stack h = tt
 source_runs_named a source input name store old new (MachineFault kind place) h = tt
 source_runs_named a source input name store old new Undefined h = tt
+source_runs_named a source input name store old new Differs h = tt

@@ -5,7 +5,7 @@ use Rattle.eh_outer.specs.Sink.{SinkView, Gains}
 use Rattle.eh_commands.specs.declared.status.Status.{Status}
 use Rattle.eh_commands.specs.declared.status.Status.TheVariants.{Done, Usage, SourceRefused, NoMemory}
 use Rattle.command_line.specs.declared.command.Verb.{Verb}
-use Rattle.command_line.specs.declared.command.Verb.TheVariants.{Compile, Run, Exec, Mean, Check, Dump, Gen}
+use Rattle.command_line.specs.declared.command.Verb.TheVariants.{Compile, Run, Exec, Mean, Check, Dump, Frames, Gen}
 use Rattle.command_line.specs.declared.error.WordsError.{WordsError}
 use Rattle.command_line.specs.declared.error.WordsError.TheVariants as words
 use Rattle.command_line.specs.Command.{CommandView}
@@ -20,6 +20,7 @@ use Rattle.eh_commands.specs.Generate.{GenCause}
 use Rattle.cxx_front.specs.declared.error.SourceError.{SourceError}
 use Rattle.cxx_front.specs.declared.error.SourceError.TheVariants as errors
 use Rattle.eh_commands.specs.Image.{ImageCause, check_lines, dump_lines}
+use Rattle.eh_commands.specs.Frames.{FramesCause}
 
 -- the status of a source that the front end refuses
 abbrev pub status_of_refusal : SourceError → Status
@@ -34,6 +35,7 @@ CommandCause Exec a old new out out' status = ExecCause a old new out out' statu
 CommandCause Mean a old new out out' status = MeanCause a old new out out' status
 CommandCause Check a old new out out' status = ImageCause check_lines a.source old new out out' status
 CommandCause Dump a old new out out' status = ImageCause dump_lines a.source old new out out' status
+CommandCause Frames a old new out out' status = FramesCause a.source old new out out' status
 CommandCause Gen a old new out out' status = GenCause a out out' status × (new ≡ old)
 
 -- the told files that a command leaves with a status

@@ -3,7 +3,7 @@ use Rattle.std.specs.Prelude.{ℕ, ◌==◌, List, [], ◌++◌, codes, if◌the
 use Rattle.std.specs.Fmt.{decimal}
 use Rattle.table_dump.specs.Texts.{hex}
 use Rattle.eh_commands.specs.declared.status.Status.{Status}
-use Rattle.eh_commands.specs.declared.status.Status.TheVariants.{Done, Usage, SourceRefused, ImageRefused, ReadFault, TooLong, WriteFault, NoMemory, Aborted, Budget, Stack, MachineFault, Undefined}
+use Rattle.eh_commands.specs.declared.status.Status.TheVariants.{Done, Usage, SourceRefused, ImageRefused, ReadFault, TooLong, WriteFault, NoMemory, Aborted, Budget, Stack, MachineFault, Undefined, Differs}
 
 -- the exit status of the program
 abbrev pub number_of : Status → ℕ
@@ -20,6 +20,7 @@ number_of Budget = 11
 number_of Stack = 12
 number_of (MachineFault kind place) = 13
 number_of Undefined = 14
+number_of Differs = 15
 
 -- a text with a number and a place behind it
 abbrev pub at_place : List ℕ → ℕ → ℕ → List ℕ

@@ -12,6 +12,7 @@ ghost use Rattle.eh_commands.specs.Status.{text_of_status};
 use crate::compile::compile_file;
 use crate::exec::exec_file;
 use crate::file::{Ended, Question};
+use crate::frames::frames_file;
 use crate::generate::generate_and_count;
 use crate::image::{check_file, dump_file};
 use crate::mean::mean_file;
@@ -86,6 +87,10 @@ fn execute<'a, St: Store, Out: Sink, M: Module>(
         },
         Verb::Dump => Ended {
             status: dump_file(alloc, file, store, out),
+            file,
+        },
+        Verb::Frames => Ended {
+            status: frames_file(alloc, file, store, out),
             file,
         },
         Verb::Gen => Ended {

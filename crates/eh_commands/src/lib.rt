@@ -1,13 +1,15 @@
 //! The commands of `ehc`: `compile FILE IMAGE` stores the image of a source, `exec FILE` runs an image on the simulated machine, and
 //! `run FILE` does both at once; `mean FILE` prints what a source means; `check FILE` and `dump FILE` judge an image and print its
-//! tables; `gen N` generates a source of a size, and counts what its run does. `answer` does what the words say; its clauses say when each
-//! status comes, and what it leaves of the files and the outputs.
+//! tables, and `frames FILE` says whether both forms of its frames agree; `gen N` generates a source of a size, and counts what its run
+//! does. `answer` does what the words say; its clauses say when each status comes, and what it leaves of the files and the outputs.
 #![tactic(auto)]
 
+mod agreement;
 mod commands;
 mod compile;
 mod exec;
 mod file;
+mod frames;
 mod generate;
 mod image;
 mod line;

@@ -3,7 +3,7 @@ ghost use Rattle.eh_outer.specs.Sink.{Puts};
 ghost use Rattle.eh_commands.specs.Image.{summary_line};
 ghost use Rattle.eh_commands.specs.Lines.{lines_of, IsParted};
 ghost use Rattle.run_items.specs.Output.{PutsAll};
-ghost use Rattle.std.specs.Prelude.{◌<◌, length};
+ghost use Rattle.std.specs.Prelude.{◌<◌, length, map};
 
 use crate::line::push;
 use arrayvec::ArrayString;
@@ -49,6 +49,18 @@ pub fn put_lines<Out: Sink>(out: &mut Out, text: &[u8]) -> Result<(), SinkError>
     while !rest.is_empty() {
         let (line, others) = rest.split_at(line_length(rest));
         out.put(line)?;
+        rest = others;
+    }
+    Ok(())
+}
+
+/// Puts each of some lines.
+pub fn put_each<Out: Sink>(out: &mut Out, lines: &[Vec<u8>]) -> Result<(), SinkError>
+    ensures { PutsAll (map (λ line. line.items) lines.now) (Out.view out.old) (Out.view out.new) result }
+{
+    let mut rest = lines;
+    while let Some((line, others)) = rest.split_first() {
+        out.put(line.as_slice())?;
         rest = others;
     }
     Ok(())

@@ -34,6 +34,8 @@ pub enum Status {
     MachineFault(FaultKind, u64),
     /// The source's meaning is undefined.
     Undefined,
+    /// Both forms of an image's frames differ at a location.
+    Differs,
 }
 
 impl Status {
@@ -55,6 +57,7 @@ impl Status {
             Status::Stack => 12,
             Status::MachineFault(_, _) => 13,
             Status::Undefined => 14,
+            Status::Differs => 15,
         }
     }
 }

@@ -12,7 +12,7 @@ use Rattle.cxx_image.specs.Image.{image_for}
 use Rattle.source_bounds.specs.Compiled.{emitted_for}
 use Rattle.image_link.specs.Runs.{RunsUnit}
 use Rattle.eh_commands.specs.declared.status.Status.{Status}
-use Rattle.eh_commands.specs.declared.status.Status.TheVariants.{Done, Usage, SourceRefused, ImageRefused, ReadFault, TooLong, WriteFault, NoMemory, Aborted, Budget, Stack, MachineFault, Undefined}
+use Rattle.eh_commands.specs.declared.status.Status.TheVariants.{Done, Usage, SourceRefused, ImageRefused, ReadFault, TooLong, WriteFault, NoMemory, Aborted, Budget, Stack, MachineFault, Undefined, Differs}
 use Rattle.eh_commands.specs.File.{Asked, Told, source_limit}
 use Rattle.eh_commands.specs.Compile.{CompilesTo, CompileCause}
 use Rattle.eh_driver.specs.Promise.{Undisturbed, AreCompiled, CompilePromise}
@@ -57,6 +57,7 @@ module _ (laws : CompilerLaws) (a : Asked) (source : List ℕ) (old new : StoreV
     stores_so Stack h = absurd h
     stores_so (MachineFault kind place) h = absurd h
     stores_so Undefined h = absurd h
+    stores_so Differs h = absurd h
 
   module _ (number place : ℕ) (is : IsRefused source number place) where
     compiles_not : (bytes : List ℕ) → CompilesTo bytes source → ⊥
@@ -76,6 +77,7 @@ module _ (laws : CompilerLaws) (a : Asked) (source : List ℕ) (old new : StoreV
     refuses_so Stack h = absurd h
     refuses_so (MachineFault kind at) h = absurd h
     refuses_so Undefined h = absurd h
+    refuses_so Differs h = absurd h
 
 pub compile_promised : CompilerLaws → (a : Asked) (old new : StoreView) (out out' : SinkView) (status : Status) → CompileCause a old new status → CompilePromise a old new out out' status
 compile_promised laws a old new out out' status cause = record {

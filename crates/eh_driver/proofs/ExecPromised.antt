@@ -12,7 +12,7 @@ use Rattle.cxa_runtime.specs.Run.{Ran}
 use Rattle.eh_run.specs.Program.{program_of}
 use Rattle.eh_run.specs.Runs.{IsRun}
 use Rattle.eh_commands.specs.declared.status.Status.{Status}
-use Rattle.eh_commands.specs.declared.status.Status.TheVariants.{Done, Usage, SourceRefused, ImageRefused, ReadFault, TooLong, WriteFault, NoMemory, Aborted, Budget, Stack, MachineFault, Undefined}
+use Rattle.eh_commands.specs.declared.status.Status.TheVariants.{Done, Usage, SourceRefused, ImageRefused, ReadFault, TooLong, WriteFault, NoMemory, Aborted, Budget, Stack, MachineFault, Undefined, Differs}
 use Rattle.eh_commands.specs.Image.{image_limit, status_of}
 use Rattle.eh_commands.specs.File.{Asked, ToldBoth}
 use Rattle.eh_commands.specs.RunEnd.{run_lines, status_of_run}
@@ -66,6 +66,7 @@ module _ (a : Asked) (file input : List ℕ) (old new : StoreView) (out out' : S
     shows_so Stack (r, told, h) = shown Stack r told h
     shows_so (MachineFault kind place) (r, told, h) = shown (MachineFault kind place) r told h
     shows_so Undefined (r, told, h) = shown Undefined r told h
+    shows_so Differs (r, told, h) = shown Differs r told h
 
   module _ (fault : Fault) (is : runnable file ≡ Err fault) where
     no_run : (r : Ran) → ToldBoth image_limit a old (RunsThis a r) → ⊥
@@ -85,6 +86,7 @@ module _ (a : Asked) (file input : List ℕ) (old new : StoreView) (out out' : S
     refuses_so Stack (r, told, h) = absurd (no_run r told)
     refuses_so (MachineFault kind place) (r, told, h) = absurd (no_run r told)
     refuses_so Undefined (r, told, h) = absurd (no_run r told)
+    refuses_so Differs (r, told, h) = absurd (no_run r told)
 
 pub exec_promised : (a : Asked) (old new : StoreView) (out out' : SinkView) (status : Status) → ExecCause a old new out out' status → ExecPromise a old new out out' status
 exec_promised a old new out out' status cause = record {

@@ -4,5 +4,6 @@ pub mod EventsHeld
 pub mod MeantShown
 pub mod CompilePromised
 pub mod RunPromised
+pub mod FramesPromised
 pub mod GenPromised
 pub mod Promised

@@ -4,12 +4,12 @@ use Rattle.std.specs.Prelude.{IsErrAnd}
 use Rattle.eh_outer.specs.Store.{StoreView}
 use Rattle.eh_outer.specs.Sink.{SinkView}
 use Rattle.eh_commands.specs.declared.status.Status.{Status}
-use Rattle.eh_commands.specs.declared.status.Status.TheVariants.{Done, Usage, SourceRefused, ImageRefused, ReadFault, TooLong, WriteFault, NoMemory, Aborted, Budget, Stack, MachineFault, Undefined}
+use Rattle.eh_commands.specs.declared.status.Status.TheVariants.{Done, Usage, SourceRefused, ImageRefused, ReadFault, TooLong, WriteFault, NoMemory, Aborted, Budget, Stack, MachineFault, Undefined, Differs}
 use Rattle.table_forms.specs.Fault.{Fault}
 use Rattle.elf_image.specs.Clean.{CleanImage, clean}
 use Rattle.elf_image.specs.Reports.{reported}
 use Rattle.command_line.specs.declared.command.Verb.{Verb}
-use Rattle.command_line.specs.declared.command.Verb.TheVariants.{Compile, Run, Exec, Mean, Check, Dump, Gen}
+use Rattle.command_line.specs.declared.command.Verb.TheVariants.{Compile, Run, Exec, Mean, Check, Dump, Frames, Gen}
 use Rattle.command_line.specs.Command.{CommandView, command_of}
 use Rattle.command_line.proofs.Turns.{turns_are_bounded}
 use Rattle.eh_outer.specs.Module.{ModuleView}
@@ -21,6 +21,7 @@ use Rattle.eh_driver.proofs.MeanPromised.{mean_promised}
 use Rattle.eh_driver.proofs.ExecPromised.{exec_promised}
 use Rattle.eh_driver.proofs.CompilePromised.{compile_promised}
 use Rattle.eh_driver.proofs.RunPromised.{run_promised}
+use Rattle.eh_driver.proofs.FramesPromised.{frames_promised}
 use Rattle.eh_driver.proofs.GenPromised.{gen_promised}
 use Rattle.eh_commands.specs.Image.{ImageCause, ImagePromise, Judged, check_lines, dump_lines, image_limit, status_of}
 use Rattle.eh_commands.specs.Answer.{CommandCause, Cause}
@@ -50,6 +51,7 @@ image_kept lines name old new out out' Budget h files file is there short store 
 image_kept lines name old new out out' Stack h files file is there short store sink = absurd h
 image_kept lines name old new out out' (MachineFault kind place) h files file is there short store sink = absurd h
 image_kept lines name old new out out' Undefined h files file is there short store sink = absurd h
+image_kept lines name old new out out' Differs h files file is there short store sink = absurd h
 
 module _ (laws : CompilerLaws) where
   command_promised : (verb : Verb) (a : Asked) → IsAsked a → (old new : StoreView) (out out' : SinkView) (status : Status) → CommandCause verb a old new out out' status → CommandPromise verb a old new out out' status
@@ -59,6 +61,7 @@ module _ (laws : CompilerLaws) where
   command_promised Mean a is old new out out' status cause = mean_promised laws.events a old new out out' status cause
   command_promised Check a is old new out out' status cause = image_kept check_lines a.source old new out out' status cause
   command_promised Dump a is old new out out' status cause = image_kept dump_lines a.source old new out out' status cause
+  command_promised Frames a is old new out out' status cause = frames_promised a.source old new out out' status cause
   command_promised Gen a is old new out out' status cause = gen_promised laws a out out' status cause.0
 
   pub promised : (modules : List ModuleView) → length modules ≤ 64 → GuestsAreInts modules → (words : List (List ℕ)) (old new : StoreView) (out out' : SinkView) (status : Status) → Cause modules (command_of words) old new out out' status →

@@ -7,7 +7,7 @@ use Rattle.eh_outer.specs.Sink.{SinkView, Gains}
 use Rattle.eh_commands.specs.declared.status.Status.{Status}
 use Rattle.eh_commands.specs.declared.status.Status.TheVariants.{Done, SourceRefused, NoMemory}
 use Rattle.command_line.specs.declared.command.Verb.{Verb}
-use Rattle.command_line.specs.declared.command.Verb.TheVariants.{Compile, Run, Exec, Mean, Check, Dump, Gen}
+use Rattle.command_line.specs.declared.command.Verb.TheVariants.{Compile, Run, Exec, Mean, Check, Dump, Frames, Gen}
 use Rattle.command_line.specs.Command.{CommandView, source_size}
 use Rattle.eh_outer.specs.Module.{ModuleView}
 use Rattle.meaning_forms.specs.declared.ending.MeanEnd.TheVariants.{Undefined}
@@ -38,6 +38,7 @@ use Rattle.eh_outer.specs.declared.module.Reply.{Reply}
 use Rattle.eh_run.specs.Program.{program_of}
 use Rattle.eh_run.specs.Runs.{IsRun}
 use Rattle.eh_commands.specs.Image.{ImagePromise, check_lines, dump_lines, image_limit, status_of}
+use Rattle.eh_commands.specs.Frames.{FramesPromise}
 use Rattle.eh_commands.specs.RunEnd.{run_lines, status_of_run}
 use Rattle.eh_driver.specs.Events.{EventsHold}
 
@@ -157,6 +158,7 @@ CommandPromise Exec a old new out out' status = ExecPromise a old new out out' s
 CommandPromise Mean a old new out out' status = MeanPromise a old new out out' status
 CommandPromise Check a old new out out' status = ImagePromise check_lines a.source old new out out' status
 CommandPromise Dump a old new out out' status = ImagePromise dump_lines a.source old new out out' status
+CommandPromise Frames a old new out out' status = FramesPromise a.source old new out out' status
 CommandPromise Gen a old new out out' status = GenPromise a out out' status
 
 -- what words promise

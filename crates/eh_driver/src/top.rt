@@ -22,10 +22,10 @@ use step_law::laws::checked_images_are_compiled;
 /// image. `exec FILE` reads an image of at most 64 MiB and runs it with its input and the modules: it puts each line that it writes
 /// on `out`, under `--trace` each event, its end, and under `--count` how many steps it took. `run FILE` does both with a source.
 /// `mean FILE` puts what the source means with the same: lines, events and end. `check FILE` and
-/// `dump FILE` read an image of at most 64 MiB, and put how much it has, or its tables, on `out` where it is clean. `gen N` generates a
-/// source of size N, 1 to 2,000, compiles it and runs it without input and modules, and puts how many tokens it has, how many lines its
-/// run wrote, how many exception objects that made, and its end. Whatever else comes is one line on `err`. A program is given at most 64
-/// modules, which are dropped.
+/// `dump FILE` read an image of at most 64 MiB, and put how much it has, or its tables, on `out` where it is clean; `frames FILE` puts
+/// whether both forms of its frames say the same. `gen N` generates a source of size N, 1 to 2,000, compiles it and runs it without
+/// input and modules, and puts how many tokens it has, how many lines its run wrote, how many exception objects that made, and its end.
+/// Whatever else comes is one line on `err`. A program is given at most 64 modules, which are dropped.
 pub fn ehc<St: Store, Out: Sink, Er: Sink>(
     alloc: Global,
     words: &Vec<String>,
