@@ -20,6 +20,7 @@ use Rattle.linear_forms.specs.Machine.{act_on, step}
 use Rattle.cost_paths.specs.Control.{label_of}
 use Rattle.cost_turns.specs.Weights.{rows_weight}
 use Rattle.cost_turns.specs.Turns.{back_from, jumps_back}
+use Rattle.cost_turns.specs.Runs.{may_land}
 use Rattle.cost_turns.proofs.Pace.{Paced}
 use Rattle.cost_turns.proofs.Effects.{NotLeave, effect_not}
 use Rattle.cost_turns.proofs.Credit.{Linked}
@@ -27,10 +28,23 @@ use Rattle.cost_turns.proofs.Unwound.{unwind_reached, force_reached}
 use Rattle.cost_turns.proofs.Steps.{Paid, reached_paid, on_paid, at_paid, terminated_paid, call_paid, stub_paid, back_paid, performed_paid}
 use Rattle.cost_turns.proofs.Returns.{return_paid}
 
+-- a jump comes to no landing pad
+calm_jump : (o : LinearOp) (l : ℕ) → label_of o ≡ Some l → may_land (Some (linear o)) ≡ false
+calm_jump (plain o) l e = absurd (cc e)
+calm_jump (label m) l e = refl
+calm_jump (jump m) l e = refl
+calm_jump (jump_zero v m) l e = refl
+calm_jump (pad o s) l e = refl
+calm_jump (jump_filter s n m) l e = refl
+calm_jump (free s) l e = refl
+calm_jump (resume s) l e = absurd (cc e)
+calm_jump (unexpected o s) l e = refl
+calm_jump (return r) l e = refl
+
 is_low : (q p : ℕ) → q ≤ p → nat_le q p ≡ true
 is_low q p le = grind (arith, nat_tests, le)
 
-module _ (code : Code) (weigh : CodeOp → ℕ) (longest : ℕ) (rank : Function → ℕ → ℕ) (pace : Paced code weigh longest rank) (ending : rows_weight weigh terminating_rows ≤ longest) (st : State)
+module _ (code : Code) (weigh : Bool → CodeOp → ℕ) (longest : ℕ) (rank : Function → ℕ → ℕ) (pace : Paced code weigh longest rank) (ending : rows_weight (weigh true) terminating_rows ≤ longest) (st : State)
     (linked : Linked code weigh longest rank pace ending st.top.function st.frames) where
   abbrev P : Next → Type 0
   P next = Paid code weigh longest rank pace ending st next
@@ -46,11 +60,11 @@ module _ (code : Code) (weigh : CodeOp → ℕ) (longest : ℕ) (rank : Function
   -- a jump
   jump_paid : (o : LinearOp) (l : ℕ) → Here (linear o) → label_of o ≡ Some l → P (jumped code l st.top st.frames st.world)
   jump_paid o l there own =
-      ⊎_elim (λ up. at_paid code weigh longest rank pace ending st (linear o) there linked (place_of code st.top.function l) st.top.frame st.world up)
+      ⊎_elim (λ up. at_paid code weigh longest rank pace ending st (linear o) there linked (calm_jump o l own) (place_of code st.top.function l) st.top.frame st.world up)
       (λ back.
       let is : fetch code st.top.function st.top.place ≡ Some (linear (jump l)) = there ∙ ap (λ x. Some (linear x)) back.1 in
       let turns : jumps_back code st ≡ true = ap (back_from code st.top.function st.top.place) is ∙ is_low (place_of code st.top.function l) st.top.place back.0 in
-      back_paid code weigh longest rank pace ending st (linear o) there linked (place_of code st.top.function l) st.top.frame st.world back.2 turns)
+      back_paid code weigh longest rank pace ending st (linear o) there linked (calm_jump o l own) (place_of code st.top.function l) st.top.frame st.world back.2 turns)
       (pace.jumps st.top.function st.top.place l o there own)
 
   zero_paid : (v : Value) (l : ℕ) → Here (linear (jump_zero v l)) → (z : Option ℤ) → P (jumped_zero code z l st.top st.frames st.world)
@@ -130,7 +144,7 @@ module _ (code : Code) (weigh : CodeOp → ℕ) (longest : ℕ) (rank : Function
   newest_paid o d l there = where_paid (may_leave st.world st.world.caught) st.world _ (go (gives_back st.world.caught))
     where
       at_label : (w : World) → P (at st.top.function l st.top.frame st.frames w)
-      at_label w = at_paid code weigh longest rank pace ending st (runtime (leave_newest o d l)) there linked l st.top.frame w (pace.skips st.top.function st.top.place o d l there)
+      at_label w = at_paid code weigh longest rank pace ending st (runtime (leave_newest o d l)) there linked refl l st.top.frame w (pace.skips st.top.function st.top.place o d l there)
 
       by : (e : Exception) (k : ℕ) (w : World) → P (given_back e k o d l st.top st.frames w)
       by (native t h kept) k w =

@@ -1,5 +1,5 @@
 -- A call comes back only to where it was made by an operation behind which the next one runs.
-use Rattle.std.proofs.Common.{◌≡◌, ℤ, ℕ, zero, suc, ◌+◌, ◌≤◌, true, false, List, [], ◌∷◌, Option, Some, None, refl, ap, subst, arith}
+use Rattle.std.proofs.Common.{◌≡◌, ℤ, ℕ, zero, suc, ◌+◌, ◌≤◌, true, false, List, [], ◌∷◌, Option, Some, None, refl, ap, subst, arith, Bool}
 use Rattle.std.specs.Prelude.{slice_get}
 use Rattle.region_forms.specs.World.{Frame, World}
 use Rattle.region_forms.specs.Effect.{Effect, goes, calls, raises, terminates, ends, cancels, leaves_newest, meaningless, finished}
@@ -7,12 +7,12 @@ use Rattle.linear_forms.specs.Linear.{plain, label, jump, jump_zero, pad, jump_f
 use Rattle.linear_forms.specs.Stub.{Function, compiled, end_catch, terminating, call_unexpected, CodeOp, linear, runtime, leave_newest, destroy_held, call_held, begin_unexpected, check_unexpected, construct_bad, terminate_for, abort, StubRow, terminating_rows, call_unexpected_rows, stub_op}
 use Rattle.linear_forms.specs.Activation.{Code, Activation, State, fetch, kinds, on}
 use Rattle.linear_forms.specs.Operation.{settled, wanted_by, returned, returned_with}
-use Rattle.cost_turns.specs.Weights.{rows_weight, whole, weight_of}
+use Rattle.cost_turns.specs.Weights.{is_own, rows_weight, whole, weight_of}
 use Rattle.cost_turns.specs.Turns.{is_terminating}
 use Rattle.cost_turns.proofs.Pace.{op_goes_on, Paced}
-use Rattle.cost_turns.proofs.Credit.{beneath, WaitsAt, below_left, Linked, at_reached}
+use Rattle.cost_turns.proofs.Credit.{beneath, WaitsAt, below_left, Linked, at_comes}
 use Rattle.cost_turns.proofs.Unwound.{unlink}
-use Rattle.cost_turns.proofs.Steps.{Paid, from_reached}
+use Rattle.cost_turns.proofs.Steps.{Paid, from_calm}
 
 -- rows without a return
 
@@ -39,7 +39,7 @@ unexpected_no_return : (p : ℕ) (r : Option ℕ) → stub_op call_unexpected p 
 unexpected_no_return p r e =
     row_no_return call_unexpected_rows p (linear (return r)) (tt, (tt, (tt, (tt, (tt, (tt, (tt, (tt, (tt, (tt, (tt, (tt, (tt, (tt, (tt, (tt, (tt, (tt, tt)))))))))))))))))) e
 
-module _ (code : Code) (weigh : CodeOp → ℕ) (longest : ℕ) (rank : Function → ℕ → ℕ) (pace : Paced code weigh longest rank) (ending : rows_weight weigh terminating_rows ≤ longest) where
+module _ (code : Code) (weigh : Bool → CodeOp → ℕ) (longest : ℕ) (rank : Function → ℕ → ℕ) (pace : Paced code weigh longest rank) (ending : rows_weight (weigh true) terminating_rows ≤ longest) where
   not_terminate : (f : Function) (p : ℕ) (r : Option ℕ) → fetch code f p ≡ Some (linear (return r)) → is_terminating f ≡ false
   not_terminate (compiled n) p r e = refl
   not_terminate end_catch p r e = refl
@@ -81,12 +81,12 @@ module _ (code : Code) (weigh : CodeOp → ℕ) (longest : ℕ) (rank : Function
         let both = unlink code weigh longest rank pace ending st.top.function b fs own (subst (Linked code weigh longest rank pace ending st.top.function) e linked) in
         let o = waits_on st.top.function st.top.place r (fetch code b.function b.place) there both.0 in
         let up = pace.next b.function b.place o.op o.is o.on in
-        let weights = ap (weight_of (whole weigh)) o.is in
+        let weights = ap (weight_of (whole weigh (is_own b.function))) o.is in
         let below = ap (below_left code weigh longest rank pace ending) e in
         let top = ap (λ t. beneath t (below_left code weigh longest rank pace ending st.frames)) own in
         let inside = pace.inside st.top.function st.top.place (linear (return r)) there in
-        from_reached code weigh longest rank pace ending st (linear (return r)) there linked (below_left code weigh longest rank pace ending (b ∷ fs)) (on b x fs w) (omega (arith, inside, below, top))
-        (at_reached code weigh longest rank pace ending (below_left code weigh longest rank pace ending (b ∷ fs)) b.function (b.place + 1) x fs w (omega (arith, up, weights)) both.1)
+        from_calm code weigh longest rank pace ending st (linear (return r)) there linked refl (below_left code weigh longest rank pace ending (b ∷ fs)) (on b x fs w) (omega (arith, inside, below, top))
+        (at_comes code weigh longest rank pace ending (below_left code weigh longest rank pace ending (b ∷ fs)) b.function (b.place + 1) x fs w (omega (arith, up, weights)) both.1)
 
     settled_in : (b : Activation) (fs : List Activation) → st.frames ≡ b ∷ fs → (e : Effect) (w : World) → Paid code weigh longest rank pace ending st (settled e b fs w)
     settled_in b fs is (goes x v) w = back_in b fs is x v

@@ -10,7 +10,7 @@ use Rattle.linear_forms.specs.Activation.{Code, Activation, Next, goes_to, finis
 use Rattle.linear_forms.specs.Search.{found}
 use Rattle.linear_forms.specs.Unwinding.{unwound_at, unwound_above, unwind, doomed_by, doomed, raised_to, raise}
 use Rattle.linear_forms.specs.Forced.{forced_at, forced_above, force}
-use Rattle.cost_turns.specs.Weights.{rows_weight, whole, weight_of}
+use Rattle.cost_turns.specs.Weights.{is_own, rows_weight, whole, weight_of}
 use Rattle.cost_turns.specs.Turns.{is_terminating}
 use Rattle.cost_turns.proofs.Pace.{NoJump, cap, Paced}
 use Rattle.cost_turns.proofs.Credit.{beneath, Unless, WaitsAt, below_left, Linked, Reached, terminated_reached, terminate_bare, unwound_reached, forced_reached}
@@ -48,7 +48,7 @@ is_terminate end_catch e = absurd (cc e)
 is_terminate terminating e = refl
 is_terminate call_unexpected e = absurd (cc e)
 
-module _ (code : Code) (weigh : CodeOp → ℕ) (longest : ℕ) (rank : Function → ℕ → ℕ) (pace : Paced code weigh longest rank) (ending : rows_weight weigh terminating_rows ≤ longest) where
+module _ (code : Code) (weigh : Bool → CodeOp → ℕ) (longest : ℕ) (rank : Function → ℕ → ℕ) (pace : Paced code weigh longest rank) (ending : rows_weight (weigh true) terminating_rows ≤ longest) where
   abbrev R : ℕ → Next → Type 0
   R n next = Reached code weigh longest rank pace ending n next
 
@@ -60,7 +60,7 @@ module _ (code : Code) (weigh : CodeOp → ℕ) (longest : ℕ) (rank : Function
   no_cover f p e = ap (λ g. look code g p) (is_terminate f e) ∙ terminate_bare code weigh longest rank pace ending p
 
   module _ (n : ℕ) (f : Function) (p : ℕ) (o : CodeOp) (fs : List Activation) (there : fetch code f p ≡ Some o) (no_jump : NoJump o)
-      (room : cap weigh longest f - (rank f p + whole weigh o) + beneath (is_terminating f) (below_left code weigh longest rank pace ending fs) ≤ n) (linked : Linked code weigh longest rank pace ending f fs) where
+      (room : cap weigh longest f - (rank f p + whole weigh (is_own f) o) + beneath (is_terminating f) (below_left code weigh longest rank pace ending fs) ≤ n) (linked : Linked code weigh longest rank pace ending f fs) where
     more_room : is_terminating f ≡ false → below_left code weigh longest rank pace ending fs ≤ n
     more_room e = let same = ap (λ b. beneath b (below_left code weigh longest rank pace ending fs)) e in omega (arith, room, same)
 
@@ -88,9 +88,9 @@ module _ (code : Code) (weigh : CodeOp → ℕ) (longest : ℕ) (rank : Function
   unlink f a fs e h = subst (λ b. Unless b (WaitsAt f (fetch code a.function a.place) × Linked code weigh longest rank pace ending a.function fs)) e h
 
   waiting_room : (a : Activation) (fs : List Activation) (o : CodeOp) → fetch code a.function a.place ≡ Some o →
-      cap weigh longest a.function - (rank a.function a.place + whole weigh o) + beneath (is_terminating a.function) (below_left code weigh longest rank pace ending fs) ≤
+      cap weigh longest a.function - (rank a.function a.place + whole weigh (is_own a.function) o) + beneath (is_terminating a.function) (below_left code weigh longest rank pace ending fs) ≤
       below_left code weigh longest rank pace ending (a ∷ fs)
-  waiting_room a fs o e = let weights = ap (weight_of (whole weigh)) e in omega (arith, weights)
+  waiting_room a fs o e = let weights = ap (weight_of (whole weigh (is_own a.function))) e in omega (arith, weights)
 
   pub above_unwound : (fs : List Activation) (f : Function) (t e : ℕ) (w : World) → is_terminating f ≡ false → Linked code weigh longest rank pace ending f fs →
       R (below_left code weigh longest rank pace ending fs) (unwound_above code t e fs w)
@@ -112,7 +112,7 @@ module _ (code : Code) (weigh : CodeOp → ℕ) (longest : ℕ) (rank : Function
 
   -- what comes out of the operation at a place
   module _ (n : ℕ) (a : Activation) (o : CodeOp) (fs : List Activation) (there : fetch code a.function a.place ≡ Some o) (no_jump : NoJump o)
-      (room : cap weigh longest a.function - (rank a.function a.place + whole weigh o) + beneath (is_terminating a.function) (below_left code weigh longest rank pace ending fs) ≤ n)
+      (room : cap weigh longest a.function - (rank a.function a.place + whole weigh (is_own a.function) o) + beneath (is_terminating a.function) (below_left code weigh longest rank pace ending fs) ≤ n)
       (linked : Linked code weigh longest rank pace ending a.function fs) where
     pub unwind_reached : (t e : ℕ) (w : World) → R n (unwind code (look code a.function a.place) t e a.function a.frame fs w)
     unwind_reached t e w = unwound_with n a.function a.place o fs there no_jump room linked t e a.frame w (unwound_above code t e fs w) (λ j. above_unwound fs a.function t e w j linked)

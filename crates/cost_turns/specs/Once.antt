@@ -1,5 +1,5 @@
 -- Terminate begins at most once in a run, so only calls and loops make a run weigh more.
-use Rattle.std.specs.Prelude.{◌≡◌, ℕ, zero, suc, ◌+◌, ◌*◌, ◌≤◌, List}
+use Rattle.std.specs.Prelude.{◌≡◌, ℕ, zero, suc, ◌+◌, ◌*◌, ◌≤◌, Bool, true, false, List}
 use Rattle.std.specs.List.{AllByRecursion}
 use Rattle.eh_outer.specs.declared.module.Reply.{Reply}
 use Rattle.region_forms.specs.Form.{Regions}
@@ -31,6 +31,6 @@ TerminateBeginsOnce = (code : Code) (n : ℕ) (st : State) → begun code n st �
 
 -- So a run weighs no more than its calls and loops, and two more, each times the longest function.
 abbrev pub RunsWeighByCalls : Type 0
-RunsWeighByCalls = (r : Regions) (weigh : CodeOp → ℕ) (longest n : ℕ) (input : List ℕ) (replies : List (List Reply)) → ((l : ℕ) → weigh (linear (label l)) ≡ 0) →
-    AllByRecursion (λ g. weight (whole_linear weigh) g.ops ≤ longest) (unit_of r).functions → rows_weight weigh terminating_rows ≤ longest →
+RunsWeighByCalls = (r : Regions) (weigh : Bool → CodeOp → ℕ) (longest n : ℕ) (input : List ℕ) (replies : List (List Reply)) → ((l : ℕ) → weigh false (linear (label l)) ≡ 0) →
+    AllByRecursion (λ g. weight (whole_linear weigh) g.ops ≤ longest) (unit_of r).functions → rows_weight (weigh true) terminating_rows ≤ longest →
     let code = code_of (unit_of r) in let st = first_state (unit_of r) input replies in weighed code weigh n st ≤ longest * (counted code n st + 2)

@@ -1,3 +1,4 @@
 pub mod Regions
 pub mod Counts
 pub mod Runs
+pub mod Spends

@@ -1,10 +1,11 @@
 -- The words of a checked program's functions, with what their operations call, and of its runs.
-use Rattle.std.proofs.Common.{◌+◌, ◌*◌, ◌≤◌, List, [], ◌∷◌, map, refl, arith}
+use Rattle.std.proofs.Common.{ℕ, ◌+◌, ◌*◌, ◌≤◌, Bool, List, [], ◌∷◌, map, refl, arith}
 use Rattle.std.specs.List.{AllByRecursion}
 use Rattle.region_forms.specs.Form.{Op, evaluate, store, bind, call, construct, destroy, make, throw, rethrow, enter, leave, RegionFunction}
 use Rattle.region_forms.specs.Layout.{layout_of}
 use Rattle.region_forms.specs.LowerProgram.{regions_of}
 use Rattle.linear_forms.specs.Linear.{LinearOp, plain, label, jump, jump_zero, pad, jump_filter, free, resume, unexpected, return}
+use Rattle.linear_forms.specs.Stub.{CodeOp}
 use Rattle.linear_forms.specs.Tables.{unpadded}
 use Rattle.linear_forms.specs.Sites.{Placed}
 use Rattle.linear_forms.specs.Emission.{quiet}
@@ -27,7 +28,11 @@ use Rattle.cost_words.specs.Counts.{code_words}
 use Rattle.cost_words.specs.Runs.{CheckedRunsAreShort}
 use Rattle.cost_words.proofs.Regions.{words, words-append, region_short}
 
-plain_whole : (o : Op) → whole_linear code_words (plain o) ≤ linear_words (plain o)
+-- the same in compiled functions and in the runtime's own
+abbrev words_of : Bool → CodeOp → ℕ
+words_of own = code_words
+
+plain_whole : (o : Op) → whole_linear words_of (plain o) ≤ linear_words (plain o)
 plain_whole (evaluate v) = omega arith
 plain_whole (store p v) = omega arith
 plain_whole (bind s p) = omega arith
@@ -41,7 +46,7 @@ plain_whole (enter s) = omega arith
 plain_whole leave = omega arith
 
 -- with what it calls of the runtime's own functions an operation has no more words than it counts as
-whole_words : (o : LinearOp) → whole_linear code_words o ≤ linear_words o
+whole_words : (o : LinearOp) → whole_linear words_of o ≤ linear_words o
 whole_words (plain o) = plain_whole o
 whole_words (label l) = omega arith
 whole_words (jump l) = omega arith
@@ -53,17 +58,17 @@ whole_words (resume s) = omega arith
 whole_words (unexpected o s) = omega arith
 whole_words (return r) = omega arith
 
-placed_words : (code : List Placed) → weight (whole_linear code_words) (map (λ x. x.op) code) ≤ words code
+placed_words : (code : List Placed) → weight (whole_linear words_of) (map (λ x. x.op) code) ≤ words 4 code
 placed_words [] = omega arith
 placed_words (x ∷ code) = omega (arith, whole_words x.op, placed_words code)
 
-function_words : (f : RegionFunction) → HasFewWays f.body → IsShort f → weight (whole_linear code_words) (function_code f).ops ≤ 262138
+function_words : (f : RegionFunction) → HasFewWays f.body → IsShort f → weight (whole_linear words_of) (function_code f).ops ≤ 262138
 function_words f few short =
     let body = region_code (emitting f) unpadded [] 0 0 f.body in
-    omega (arith, placed_words (placed_code f), words-append body (quiet (return f.result) ∷ []), region_short f.body (emitting f) unpadded [] 0 0 few, short)
+    omega (arith, placed_words (placed_code f), words-append 4 body (quiet (return f.result) ∷ []), region_short 4 f.body (emitting f) unpadded [] 0 0 few, short)
 
 all_words : (fs : List RegionFunction) → AllByRecursion (λ f. HasFewWays f.body) fs → AllByRecursion IsShort fs →
-    AllByRecursion (λ g. weight (whole_linear code_words) g.ops ≤ 262138) (map function_code fs)
+    AllByRecursion (λ g. weight (whole_linear words_of) g.ops ≤ 262138) (map function_code fs)
 all_words [] few short = tt
 all_words (f ∷ fs) few short = (function_words f few.0 short.0, all_words fs few.1 short.1)
 
@@ -73,6 +78,6 @@ checked_runs_are_short p h n input replies =
     let fs = (regions_of p l).functions in
     let code : Code = code_of (unit_for p) in
     let st : State = first_state (unit_for p) input replies in
-    let all : weighed code code_words n st ≤ 262138 * (counted code n st + 2) =
-    runs_weigh_by_calls (regions_of p l) code_words 262138 n input replies (λ k. refl) (all_words fs (checked_fine classes_fit p l h).few (checked_bodies_are_short p h)) (omega arith) in
+    let all : weighed code words_of n st ≤ 262138 * (counted code n st + 2) =
+    runs_weigh_by_calls (regions_of p l) words_of 262138 n input replies (λ k. refl) (all_words fs (checked_fine classes_fit p l h).few (checked_bodies_are_short p h)) (omega arith) in
     omega (arith, all)
