@@ -30,11 +30,11 @@ use Rattle.whole_runs.specs.Runs.{IsCutOff, StopsBefore, RunFollows}
 use Rattle.compiled_runs.specs.Compiled.{IsCut, EndsAs, RunMeans, FollowedImagesAreCompiled}
 
 -- the end of an end of the program, as a meaning has it
-abbrev meant : source.End → MeanEnd
+abbrev pub meant : source.End → MeanEnd
 meant (source.exit n) = meanings.Exit n
 meant source.aborted = meanings.Aborted
 
-end_is_meant : (why : source.End) → EndsAs (meant why) (steps.end_of why)
+pub end_is_meant : (why : source.End) → EndsAs (meant why) (steps.end_of why)
 end_is_meant (source.exit n) = refl
 end_is_meant source.aborted = tt
 
@@ -43,15 +43,15 @@ no_stack (source.exit n) e = cc e
 no_stack source.aborted e = cc e
 
 -- where linear code ends, seen as a meaning that has an end
-record OverWith (m : Meaning) (x : Run) : Type 0 where
-  why : source.End
-  world : World
-  is : x ≡ over (by_program why) world
-  end : meant why ≡ m.end
-  items : world.items ≡ m.items
-  deepest : world.deepest ≡ m.deepest
+pub record OverWith (m : Meaning) (x : Run) : Type 0 where
+  pub why : source.End
+  pub world : World
+  pub is : x ≡ over (by_program why) world
+  pub end : meant why ≡ m.end
+  pub items : world.items ≡ m.items
+  pub deepest : world.deepest ≡ m.deepest
 
-over_with : (m : Meaning) (x : Run) → (m.end ≡ meanings.Undefined → ⊥) → (m.end ≡ meanings.OutOfTurns → ⊥) → seen_run x ≡ seen_of m → OverWith m x
+pub over_with : (m : Meaning) (x : Run) → (m.end ≡ meanings.Undefined → ⊥) → (m.end ≡ meanings.OutOfTurns → ⊥) → seen_run x ≡ seen_of m → OverWith m x
 over_with m (over (by_program (source.exit n)) w) defined finite e = record { why = source.exit n; world = w; is = refl; end = cc e; items = cc e; deepest = cc e }
 over_with m (over (by_program source.aborted) w) defined finite e = record { why = source.aborted; world = w; is = refl; end = cc e; items = cc e; deepest = cc e }
 over_with m (over not_defined w) defined finite e = let same : meanings.Undefined ≡ m.end = cc e in absurd (defined (sym same))
@@ -128,7 +128,7 @@ module _ (image : Image) (pick : ℕ → ℕ) (code : Code) (most : ℕ) (first 
   means (stopped_by deep) e defined shallow h = absurd (shallow refl)
 
 -- the end of a meaning is that of its main
-end_is : (r : Result ℤ) → (after_main r).end ≡ end_of (after_main r).main
+pub end_is : (r : Result ℤ) → (after_main r).end ≡ end_of (after_main r).main
 end_is (done v w) = refl
 end_is (stopped s w) = refl
 

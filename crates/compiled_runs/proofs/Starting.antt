@@ -5,6 +5,8 @@ use Rattle.eh_outer.specs.Domain.{is_int}
 use Rattle.eh_outer.specs.declared.module.Reply.{Reply}
 use Rattle.cxx_ast.specs.Plain.{Checked}
 use Rattle.elf_image.specs.Clean.{CleanImage}
+use Rattle.elf_image.specs.Stands.{ImageStands}
+use Rattle.image_forms.specs.Linked.{contents_for}
 use Rattle.image_forms.specs.Placed.{code_at}
 use Rattle.linear_forms.specs.UnitRun.{code_of, first_state}
 use Rattle.source_bounds.specs.Compiled.{unit_for, emitted_for}
@@ -24,8 +26,11 @@ use Rattle.whole_runs.specs.Turns.{Invariant}
 use Rattle.whole_runs.specs.Steps.{FollowsOn}
 use Rattle.whole_runs.specs.Runs.{Starts}
 use Rattle.whole_runs.proofs.Following.{runs_follow_steps}
-use Rattle.compiled_runs.specs.Compiled.{FollowedImagesAreCompiled}
-use Rattle.compiled_runs.specs.Starts.{plan_of_main, Started, ImagesStart, ImagesAreCompiled}
+use Rattle.whole_runs.proofs.Sufficing.{runs_suffice}
+use Rattle.compiled_runs.specs.Compiled.{RunsFollow, FollowedImagesAreCompiled}
+use Rattle.compiled_runs.specs.Enough.{RunsSufficeFor, SufficientImagesHaveEnough, ImagesHaveEnough}
+use Rattle.compiled_runs.specs.Starts.{plan_of_main, Started, ImagesStart, StepsGoOn, ImagesAreCompiled}
+use Rattle.cxx_ast.specs.Checked.{IsChecked}
 
 -- without a turn a world stays as it is
 no_turns : (image : Image) (w v : abi.World) (n : ℕ) → n ≡ 0 → Turns image n w v [] → v ≡ w
@@ -60,12 +65,15 @@ pub starts_where : (p : Checked) (i : CleanImage) (tables : ℕ → ℕ) (pick :
 starts_where p i tables pick input replies S s stands =
     record { fresh = refl; turns = s.turns; some = s.some; after = s.after; made = record { run = λ k. s.runs.run pick k }; stands = stands }
 
-pub images_are_compiled : FollowedImagesAreCompiled → ImagesStart → ImagesAreCompiled
-images_are_compiled compiled start p checked i tables stands goes_on =
-    compiled p checked i (λ pick input replies given steps.
+-- runs follow from there
+runs_follow_for : ImagesStart → (p : Checked) → IsChecked p → (i : CleanImage) (tables : ℕ → ℕ) → ImageStands (contents_for (emitted_for p)) i.image → StepsGoOn p i tables → RunsFollow p i
+runs_follow_for start p checked i tables stands goes_on pick input replies given steps =
     let s = start p checked i tables stands input replies in
     runs_follow_steps (program_of i).image pick (code_of (unit_for p)) (2 ^ 40) (first_state (unit_for p) input replies) (abi.begins (program_of i).hart input replies)
-    (starts_where p i tables pick input replies (FollowsOn (program_of i).image pick (code_of (unit_for p)) (2 ^ 40)) s (goes_on pick input replies given s)) steps)
+    (starts_where p i tables pick input replies (FollowsOn (program_of i).image pick (code_of (unit_for p)) (2 ^ 40)) s (goes_on pick input replies given s)) steps
+
+pub images_are_compiled : FollowedImagesAreCompiled → ImagesStart → ImagesAreCompiled
+images_are_compiled compiled start p checked i tables stands goes_on = compiled p checked i (runs_follow_for start p checked i tables stands goes_on)
 
 -- what is given are bytes
 pub given_bytes : (input : List ℕ) → AllByRecursion (λ b. b < 256) input → AreBytes input
@@ -75,3 +83,18 @@ given_bytes (b ∷ bytes) h = (h.0, given_bytes bytes h.1)
 -- and what modules answer are ints of 32 bits, and tokens of 32 bits
 pub given_int : (z : ℤ) → is_int z ≡ true → IsInt z
 given_int z h = h
+
+-- so runs suffice from there
+runs_suffice_for : ImagesStart → (p : Checked) → IsChecked p → (i : CleanImage) (tables : ℕ → ℕ) → ImageStands (contents_for (emitted_for p)) i.image → StepsGoOn p i tables → RunsSufficeFor p i
+unfolding starts_where
+runs_suffice_for start p checked i tables stands goes_on pick input replies given =
+    let s = start p checked i tables stands input replies in (
+      s.turns,
+      s.few,
+      runs_suffice (program_of i).image pick (code_of (unit_for p)) (2 ^ 40) (first_state (unit_for p) input replies) (abi.begins (program_of i).hart input replies)
+          (starts_where p i tables pick input replies (FollowsOn (program_of i).image pick (code_of (unit_for p)) (2 ^ 40)) s (goes_on pick input replies given s)),
+    )
+
+pub images_have_enough : SufficientImagesHaveEnough → FollowedImagesAreCompiled → ImagesStart → ImagesHaveEnough
+images_have_enough enough compiled start p checked i tables stands goes_on =
+    let follow = runs_follow_for start p checked i tables stands goes_on in enough p checked i follow (runs_suffice_for start p checked i tables stands goes_on) (compiled p checked i follow)

@@ -1,3 +1,4 @@
 pub mod Given
 pub mod Compiled
 pub mod Starts
+pub mod Enough

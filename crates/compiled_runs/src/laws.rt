@@ -1,8 +1,11 @@
 // Laws of compiled programs: calls of no effect, whose contracts state what holds of every program.
 ghost use Rattle.compiled_runs.specs.Compiled.{FollowedImagesAreCompiled};
+ghost use Rattle.compiled_runs.specs.Enough.{ImagesHaveEnough, SufficientImagesHaveEnough};
 ghost use Rattle.compiled_runs.specs.Starts.{ImagesAreCompiled, ImagesStart};
 
 use checked_units::laws::images_begin;
+use cost_turns::laws::all_are_counted;
+use cost_words::laws::checked_runs_spend_little;
 use linear_meaning::laws::checked_programs_run_as_meant;
 use machine_simulation::laws::main_begins;
 use meaning_depths::laws::shallow_meanings;
@@ -27,6 +30,26 @@ pub fn images_start()
 pub fn images_are_compiled()
     ensures { ImagesAreCompiled }
 {
+    followed_images_are_compiled();
+    images_start();
+}
+
+/// Where each run of an image follows the run of a checked program's linear code, and its turns suffice for it, a run with enough instructions comes to the end of
+/// what the program means, or shows all that it shows with fewer turns.
+pub fn sufficient_images_have_enough()
+    ensures { SufficientImagesHaveEnough }
+{
+    checked_programs_run_as_meant();
+    shallow_meanings();
+    checked_runs_spend_little();
+    all_are_counted();
+}
+
+/// So it is where steps go on from the beginning of main as turns.
+pub fn images_have_enough()
+    ensures { ImagesHaveEnough }
+{
+    sufficient_images_have_enough();
     followed_images_are_compiled();
     images_start();
 }

@@ -24,7 +24,7 @@ use Rattle.whole_runs.proofs.Counts.{aborts_once, quiet_once}
 use Rattle.whole_runs.proofs.Rounds.{pays_known, runs_end}
 use Rattle.step_law.specs.Facts.{code_for}
 use Rattle.step_law.specs.Rows.{Run, IsAt, FollowsIn, AbortsFollow, HandlersAbort}
-use Rattle.step_law.proofs.At.{same_code, step_acts, step_at}
+use Rattle.step_law.proofs.At.{same_code, step_acts, step_at, own_end_paid}
 use Rattle.step_law.proofs.Builtins.{builtin_is}
 use Rattle.step_law.proofs.Returns.{OnlyUndefined, returned_only, undefined_breaks, result_stands}
 
@@ -70,7 +70,7 @@ module _ (x : Run) (q : Plan) (before n : ℕ) (o : LinearOp) (st : State) (w : 
       let ends = run.aborts (program_of x.image).image x.pick most q n st w at.matches at_end none (omega arith) in
       let once = aborts_once (code_of q.unit) st st.world.installed.terminate_handler (st.top ∷ st.frames) st.world (unpaid_at t.1) own none in
       inr (inl (subst (λ c. Ends (program_of x.image).image x.pick c st w) (same_code x q before n o st w at)
-      (runs_end (program_of x.image).image x.pick q st w 3 most aborted ends.0.0 [] ends.0.1 once (ends.0.2 ∙ sym (append-nil st.world.items))
+      (runs_end (program_of x.image).image x.pick q st w 3 most aborted ends.0.0 [] ends.0.1 once (own_end_paid x q before n o st w at most (omega arith)) (ends.0.2 ∙ sym (append-nil st.world.items))
       (λ k many. (run.aborts (program_of x.image).image x.pick k q n st w at.matches at_end none many).1))))
 
 pub aborts_follow : TerminatesRun → AbortsFollow
@@ -90,6 +90,6 @@ handlers_abort run x q before n r a fs st w at frames callee = by (step (code_fo
         let ends = run.aborts_behind (program_of x.image).image x.pick 6 q n st middle a fs r w at.matches st_at frames callee result (omega arith) in
         let once = quiet_once (code_of q.unit) st (unpaid_at x q before n (return r) st w at refl) in
         inr (inl (subst (λ c. Ends (program_of x.image).image x.pick c st w) (same_code x q before n (return r) st w at)
-        (runs_end (program_of x.image).image x.pick q st w 2 6 aborted ends.0.0 [] ends.0.1 once (ends.0.2 ∙ sym (append-nil st.world.items))
+        (runs_end (program_of x.image).image x.pick q st w 2 6 aborted ends.0.0 [] ends.0.1 once (own_end_paid x q before n (return r) st w at 6 (omega arith)) (ends.0.2 ∙ sym (append-nil st.world.items))
         (λ k many. (run.aborts_behind (program_of x.image).image x.pick k q n st middle a fs r w at.matches st_at frames callee result many).1))))
     by (finishes f v) e h = undefined_breaks x q before n (return r) st w at f v e h

@@ -30,13 +30,14 @@ use Rattle.unexpected_calls.specs.Doomed.{AllowedIsDoomed}
 use Rattle.unexpected_calls.specs.TerminateOverflow.{TerminateHandlersOverflow}
 use Rattle.unexpected_calls.proofs.Doomed.{entered_newest}
 use Rattle.whole_runs.proofs.Single.{made_by_turns}
+use Rattle.step_law.proofs.At.{few_pad_words}
 use Rattle.step_law.specs.Facts.{regions_for, code_for}
 use Rattle.step_law.specs.Rows.{Run, FollowsIn}
 use Rattle.step_law.specs.Thrown.{ComesOut, IsAnswered, AllowedFollows}
 use Rattle.step_law.proofs.Aligned.{itself}
 use Rattle.step_law.proofs.AllowedLost.{raising, own_allowed, raises_it, allowed_lost}
 use Rattle.step_law.proofs.Calm.{CalmSteps}
-use Rattle.step_law.proofs.ComesOut.{same_code, inv, unheld, number, thrown, list_answers, quiet_world, nothing, stays, paid}
+use Rattle.step_law.proofs.ComesOut.{same_code, inv, unheld, number, thrown, list_answers, quiet_world, nothing, stays, paid, checks_pay}
 use Rattle.step_law.proofs.Exceptions.{entered_alone}
 use Rattle.step_law.proofs.Flying.{own_whole}
 use Rattle.step_law.proofs.StoppedHere.{same_test}
@@ -119,7 +120,8 @@ module _ (x : Run) (q : Plan) (before e d type : ℕ) (destructor : Option ℕ) 
         (omega (arith, once, flown_so)) refl q (record { frames = itself q; base = refl; tables = refl })
         (own_reach x q a.out.here.facts 4 a.out.here.stands.steps st there (inv x q before st w e d a.out) a.out.here.stands.reaches (own_allowed x q before e d type destructor kept st w a)) refl
         comes_to.turns comes_to.after items (λ y other. entered_alone e y other) (kept_by_turns (program_of x.image).image comes_to.turns w comes_to.after items comes_to.runs) comes_to.holds.0 (isa.x w.hart sp) aim
-        (out_whole x q before st w e d a.out there.top.place there.top.frame) (omega (arith, later)) made (omega (arith, later, pays)) (stays x q before st w e d a.out a.few type destructor kept a.native a.may 5 (omega arith)) ran.1
+        (out_whole x q before st w e d a.out there.top.place there.top.frame) (omega (arith, later)) made (omega (arith, later, pays))
+        (checks_pay x q before st w e d a.out comes_to.turns (omega (arith, comes_to.few, few_pad_words next.top.function))) (stays x q before st w e d a.out a.few type destructor kept a.native a.may 5 (omega arith)) ran.1
 
     follows_there : AllowedIsThrown → FollowsIn x before st w
     follows_there run = by (step code there) refl
@@ -127,7 +129,7 @@ module _ (x : Run) (q : Plan) (before e d type : ℕ) (destructor : Option ℕ) 
         by : (y : Next) → step code there ≡ y → FollowsIn x before st w
         by (goes_to next) h = lands_there run next h
         by (finishes f u) h = no_pad x q before st w a.out.here.facts a.out.here.stands e none 4 there own (sym a.out.rests.rests.runs) refl rethrow refl e there.world (raises_it x q before e d type destructor kept st w a) c found_it f u h
-            (stays x q before st w e d a.out a.few type destructor kept a.native a.may 5 (omega arith))
+            (omega arith) (stays x q before st w e d a.out a.few type destructor kept a.native a.may 5 (omega arith))
 
   follows : AllowedIsThrown → AllowedIsDoomed → TerminateHandlersOverflow → StacksHoldCalls → FollowsIn x before st w
   follows run dooms over holds = by (found_above code (type_at there.world e) (there.top ∷ there.frames)) refl

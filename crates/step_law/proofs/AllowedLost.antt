@@ -121,7 +121,7 @@ module _ (x : Run) (q : Plan) (before e d type : ℕ) (destructor : Option ℕ) 
         let says = list_answers x q before st w e d a.out a.few type destructor kept a.native a.may (pos 0) a.says in
         with_or_without x q before st w a.out.here.facts a.out.here.stands 4 raising v items 2 kept.terminate_handler lost
         (λ without. out_aborts x q before st w e d a.out a.few type destructor kept a.native a.may 4 raising v (Enter e) (Enter e ∷ []) 2 kept.terminate_handler lost (omega arith) (omega arith) 7 26
-        (Enter e ∷ unless_ending st.world (Enter e ∷ [])) (omega arith) (λ k many. run.aborts x.image x.pick k q e d type destructor kept j st w out says none named without many))
+        (Enter e ∷ unless_ending st.world (Enter e ∷ [])) (omega arith) (omega arith) (λ k many. run.aborts x.image x.pick k q e d type destructor kept j st w out says none named without many))
         (λ m quiet some.
         let hidden = a.out.here.stands.hides quiet in
         room_or_none x q before st w a.out.here.facts a.out.here.stands 4 raising v items 2 kept.terminate_handler lost m quiet some
@@ -129,8 +129,8 @@ module _ (x : Run) (q : Plan) (before e d type : ℕ) (destructor : Option ℕ) 
         let ran = run.calls_the_handler x.image q e d type destructor kept j m st w out says none named quiet some hidden room in
         let reaches = ran.2 in
         out_begins x q before st w e d a.out a.few type destructor kept a.native a.may 4 raising v (Enter e) (Enter e ∷ []) 2 kept.terminate_handler lost (omega arith) (omega arith) m quiet some q (record { frames = itself q; base = refl; tables = refl })
-        (own_reach x q a.out.here.facts 4 a.out.here.stands.steps st raising (inv x q before st w e d a.out) a.out.here.stands.reaches own_allowed) reaches.turns reaches.after
+        (own_reach x q a.out.here.facts 4 a.out.here.stands.steps st raising (inv x q before st w e d a.out) a.out.here.stands.reaches own_allowed) reaches.turns reaches.after (omega (arith, reaches.few))
         (made_by_turns (program_of x.image).image x.pick reaches.turns w reaches.after items reaches.runs) (kept_by_turns (program_of x.image).image reaches.turns w reaches.after items reaches.runs) reaches.holds ran.1)
         (λ lacks.
-        out_overflows x q before st w e d a.out a.few type destructor kept a.native a.may 4 raising v (Enter e) (Enter e ∷ []) 2 kept.terminate_handler lost (omega arith) (omega arith) m quiet some lacks holds 31 6
+        out_overflows x q before st w e d a.out a.few type destructor kept a.native a.may 4 raising v (Enter e) (Enter e ∷ []) 2 kept.terminate_handler lost (omega arith) (omega arith) m quiet some lacks holds 31 6 (omega arith)
         (λ k many. over.doomed x.image x.pick k q e d type destructor kept j m st w out says none (record { named = named; quiet = quiet; some = some; hidden = hidden; lacks = lacks }) many)))

@@ -1,11 +1,11 @@
 -- What is known where a compiled function is at an operation.
-use Rattle.std.proofs.Common.{◌≡◌, ◌∙◌, refl, sym, ap, subst, arith, ℕ, zero, suc, ◌+◌, ◌<◌, inl, inr, List, [], ◌∷◌, length, Some, None}
+use Rattle.std.proofs.Common.{◌≡◌, ◌∙◌, refl, sym, ap, subst, arith, ℕ, zero, suc, ◌+◌, ◌≤◌, ◌<◌, inl, inr, true, false, List, [], ◌∷◌, length, Some, None}
 use Rattle.std.specs.Prelude.{slice_get, unwrap_or}
 use Rattle.run_items.specs.declared.item.Item.{Item}
 use Rattle.cxa_runtime.specs.World as abi
 use Rattle.eh_run.specs.Program.{program_of}
 use Rattle.linear_forms.specs.Linear.{LinearOp, FunctionCode, plain}
-use Rattle.linear_forms.specs.Stub.{compiled, linear}
+use Rattle.linear_forms.specs.Stub.{Function, compiled, end_catch, terminating, call_unexpected, linear}
 use Rattle.linear_forms.specs.Defined.{RunsAt}
 use Rattle.linear_forms.specs.Activation.{State, Code, Next, goes_to, finishes, by_program, not_defined, compiled_op, fetch}
 use Rattle.linear_forms.specs.Machine.{step}
@@ -35,7 +35,14 @@ use Rattle.address_invariant.proofs.Steps.{steps_reach}
 use Rattle.operation_premises.specs.Asked.{IsInside}
 use Rattle.operation_premises.specs.Static.{LinearStatic}
 use Rattle.operation_premises.proofs.Coded.{code_is_static}
+use Rattle.cost_turns.specs.Runs.{may_land}
+use Rattle.cost_turns.specs.Turns.{turned}
+use Rattle.cost_words.specs.Spends.{spends, op_weight}
+use Rattle.cost_words.proofs.Counts.{words_weigh}
+use Rattle.stub_landings.specs.Landings.{pad_words}
 use Rattle.whole_runs.specs.Steps.{GoesOn as RoundGoesOn}
+use Rattle.whole_runs.proofs.Landing.{AtPad, pad_weighs}
+use Rattle.whole_runs.proofs.Spending.{op_spends, op_turn_spends, op_pad_spends}
 use Rattle.whole_runs.proofs.Rounds.{matched_goes_on}
 use Rattle.whole_runs.proofs.Single.{breaks_one}
 use Rattle.step_law.specs.Facts.{regions_for, needs_for, code_for}
@@ -50,6 +57,13 @@ pub there_is : (xs : List FunctionCode) (n : ℕ) → n < length xs → slice_ge
 there_is [] n less = absurd (omega (arith, less))
 there_is (y ∷ xs) zero less = refl
 there_is (y ∷ xs) (suc n) less = there_is xs n (omega (arith, less))
+
+-- at most two words of a pad are done
+pub few_pad_words : (f : Function) → pad_words f ≤ 2
+few_pad_words (compiled n) = omega arith
+few_pad_words end_catch = omega arith
+few_pad_words terminating = omega arith
+few_pad_words call_unexpected = omega arith
 
 module _ (x : Run) (q : Plan) (before n : ℕ) (o : LinearOp) (st : State) (w : abi.World) (a : IsAt x q before n o st w) where
   abbrev code : Code
@@ -76,6 +90,36 @@ module _ (x : Run) (q : Plan) (before n : ℕ) (o : LinearOp) (st : State) (w : 
 
   pub calm_at : StaysCalmly code st o → CalmAt code st
   calm_at h op runs = let same : Some (linear o) ≡ Some (linear (plain op)) = sym fetches ∙ runs in let one : o ≡ plain op = cc same in h.calm op one
+
+  -- what the first step pays for: what its operation weighs, so its words,
+  pub weight_paid : (k : ℕ) → k ≤ op_weight false (linear o) → k ≤ spends code 1 st
+  weight_paid k le = op_spends code st n o a.runs fetches k le
+
+  pub words_paid : (k : ℕ) → k ≤ length (linear_code (shape q n) o) → k ≤ spends code 1 st
+  words_paid k le = let weigh = words_weigh (shape q n) o in op_spends code st n o a.runs fetches k (omega (arith, le, weigh))
+
+  -- with 64 beside them where it is a turn,
+  pub turn_paid : (next : State) (k : ℕ) → step code st ≡ goes_to next → 1 ≤ turned code st next → k ≤ length (linear_code (shape q n) o) + 64 → k ≤ spends code 1 st
+  turn_paid next k e turn le = let weigh = words_weigh (shape q n) o in op_turn_spends code st n o a.runs fetches next k e (omega (arith, le, weigh)) turn
+
+  -- with those of the landing pad to which it comes,
+  pub pad_paid : (next : State) (k : ℕ) → step code st ≡ goes_to next → may_land (Some (linear o)) ≡ true → AtPad code next → k ≤ length (linear_code (shape q n) o) + pad_words next.top.function → k ≤ spends code 1 st
+  pad_paid next k e may pad le =
+      let weigh = words_weigh (shape q n) o in
+      let two = pad_weighs code st next (ap may_land fetches ∙ may) pad in
+      let most = few_pad_words next.top.function in
+      op_pad_spends code st n o a.runs fetches next k e (omega (arith, le, weigh, two, most))
+
+  -- and where the run ends a few more
+  pub end_paid : (k : ℕ) → k ≤ length (linear_code (shape q n) o) + 64 → k ≤ spends code 1 st + 64
+  end_paid k le = let words = words_paid (length (linear_code (shape q n) o)) (omega arith) in omega (arith, le, words)
+
+  -- so it is in the plan's unit
+  pub own_paid : (k : ℕ) → k ≤ spends code 1 st → k ≤ spends (code_of q.unit) 1 st
+  own_paid k le = subst (λ c. k ≤ spends c 1 st) (sym same_code) le
+
+  pub own_end_paid : (k : ℕ) → k ≤ length (linear_code (shape q n) o) + 64 → k ≤ spends (code_of q.unit) 1 st + 64
+  own_end_paid k le = subst (λ c. k ≤ spends c 1 st + 64) (sym same_code) (end_paid k le)
 
   -- the function is there
   pub less : n < length (unit_for x.program).functions
@@ -151,7 +195,8 @@ module _ (x : Run) (q : Plan) (before n : ℕ) (o : LinearOp) (st : State) (w : 
             let at = step_at next e in
             let m = law next at s in
             inl (subst (λ c. RoundGoesOn (program_of x.image).image x.pick c (Standing x.program x.image x.carrying x.tables) before st w) same_code
-            (matched_goes_on (program_of x.image).image x.pick q st w (Standing x.program x.image x.carrying x.tables) before next n o (length (linear_code (shape q n) o)) m.0 (λ u. Matches q next u) at (omega arith) m.2 m.3
+            (matched_goes_on (program_of x.image).image x.pick q st w (Standing x.program x.image x.carrying x.tables) before next n o (length (linear_code (shape q n) o)) m.0 (λ u. Matches q next u) at (omega arith)
+            (own_paid (length (linear_code (shape q n) o)) (words_paid (length (linear_code (shape q n) o)) (omega arith))) m.2 m.3
             (λ turns u made matches. stays_on next turns u m.0 e s m.1 made matches)))
         by (finishes f v) e s =
             inr (inr (inr (breaks_one (program_of x.image).image x.pick code st w f v e (λ why is. let no : not_defined ≡ by_program why = sym s ∙ is in absurd (cc no)))))

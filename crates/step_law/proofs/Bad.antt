@@ -30,6 +30,7 @@ use Rattle.unexpected_calls.specs.BadDoomed.{BadIsDoomed}
 use Rattle.unexpected_calls.specs.Refused.{UnexpectedRefuses}
 use Rattle.unexpected_calls.specs.TerminateOverflow.{TerminateHandlersOverflow}
 use Rattle.whole_runs.specs.Turns.{Made}
+use Rattle.step_law.proofs.At.{few_pad_words}
 use Rattle.step_law.specs.Facts.{regions_for, code_for}
 use Rattle.step_law.specs.Rows.{Run, FollowsIn}
 use Rattle.step_law.specs.Thrown.{IsAnswered, BadFollows}
@@ -37,7 +38,7 @@ use Rattle.step_law.proofs.Allowed.{none_at_first, out_whole}
 use Rattle.step_law.proofs.BadLost.{chain, full_follows, bad_lost}
 use Rattle.step_law.proofs.BadMade.{bad, raising, own_bad, v, bad_is, raises_bad, asked_bad, with_bad, reach_bad}
 use Rattle.step_law.proofs.Calm.{CalmSteps}
-use Rattle.step_law.proofs.ComesOut.{same_code, unheld, number, thrown, list_answers, quiet_world, nothing, stays, paid}
+use Rattle.step_law.proofs.ComesOut.{same_code, unheld, number, thrown, list_answers, quiet_world, nothing, stays, paid, checks_pay}
 use Rattle.step_law.proofs.Keeping.{NotEntered, kept_by_picked}
 use Rattle.step_law.proofs.RaisedOut.{MayTravelOut, no_pad, on, lands, pad_follows}
 use Rattle.step_law.proofs.Unshown.{shown_later}
@@ -108,7 +109,8 @@ module _ (x : Run) (q : Plan) (before e d type : ℕ) (destructor : Option ℕ) 
         pad_follows x q before st w a.out.here.facts a.out.here.stands e none 7 there own (sym a.out.rests.rests.runs) refl (throw 7 bad_row None) refl new world does c found_it next goes (may (subst IsDefined (sym goes) tt)) 1
         (omega (arith, once, flown_so)) refl plan (record { frames = record { unit = refl; hidden = refl }; base = refl; tables = refl }) (reach_bad x q before e d type destructor kept st w a free slot) refl
         comes_to.turns comes_to.after items (λ y other. entered_and_made e new y other) (kept_by_picked (program_of x.image).image x.pick comes_to.turns w comes_to.after items comes_to.runs) comes_to.holds.0 (isa.x w.hart sp) aim
-        (out_whole x q before st w e d a.out there.top.place there.top.frame) (omega (arith, later)) made (omega (arith, later, pays)) (stays x q before st w e d a.out a.few type destructor kept a.native a.may 8 (omega arith)) ran.1
+        (out_whole x q before st w e d a.out there.top.place there.top.frame) (omega (arith, later)) made (omega (arith, later, pays))
+        (checks_pay x q before st w e d a.out comes_to.turns (omega (arith, comes_to.few, few_pad_words next.top.function))) (stays x q before st w e d a.out a.few type destructor kept a.native a.may 8 (omega arith)) ran.1
 
     follows_there : BadIsThrown → FollowsIn x before st w
     follows_there run = by (step code there) refl
@@ -117,7 +119,7 @@ module _ (x : Run) (q : Plan) (before e d type : ℕ) (destructor : Option ℕ) 
         by (goes_to next) h = lands_there run next h
         by (finishes f u) h =
             no_pad x q before st w a.out.here.facts a.out.here.stands e none 7 there own (sym a.out.rests.rests.runs) refl (throw 7 bad_row None) refl new world (raises_bad x q before e d type destructor kept st w a free) c found_it f u h
-            (stays x q before st w e d a.out a.few type destructor kept a.native a.may 8 (omega arith))
+            (omega arith) (stays x q before st w e d a.out a.few type destructor kept a.native a.may 8 (omega arith))
 
   follows : BadIsThrown → BadIsDoomed → TerminateHandlersOverflow → StacksHoldCalls → FollowsIn x before st w
   follows run dooms over holds = by (found_above code (type_at world new) (there.top ∷ there.frames)) refl

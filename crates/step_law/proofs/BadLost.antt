@@ -127,7 +127,7 @@ module _ (x : Run) (q : Plan) (before e d type : ℕ) (destructor : Option ℕ) 
         let j = number x q before st w e d a.out a.few type destructor kept a.native a.may in
         let says = list_answers x q before st w e d a.out a.few type destructor kept a.native a.may (pos 1) a.says in
         with_or_without x q before st w a.out.here.facts a.out.here.stands 5 last world (Enter e ∷ []) 1 handler lost
-        (λ none. out_aborts x q before st w e d a.out a.few type destructor kept a.native a.may 5 last world (Enter e) [] 1 handler lost (omega arith) (omega arith) 8 30 (Enter e ∷ []) (omega arith)
+        (λ none. out_aborts x q before st w e d a.out a.few type destructor kept a.native a.may 5 last world (Enter e) [] 1 handler lost (omega arith) (omega arith) 8 30 (Enter e ∷ []) (omega arith) (omega arith)
         (λ k many. run.full_aborts x.image x.pick k q e d type destructor kept j st w out says full named none many))
         (λ m quiet some.
         let hidden = a.out.here.stands.hides quiet in
@@ -136,10 +136,10 @@ module _ (x : Run) (q : Plan) (before e d type : ℕ) (destructor : Option ℕ) 
         let ran = run.full_calls x.image q e d type destructor kept j m st w out says full named quiet some hidden room in
         let comes = ran.2 in
         out_begins x q before st w e d a.out a.few type destructor kept a.native a.may 5 last world (Enter e) [] 1 handler lost (omega arith) (omega arith) m quiet some q (record { frames = itself q; base = refl; tables = refl })
-        (reach_eleven x q before e d type destructor kept st w a) comes.turns comes.after
+        (reach_eleven x q before e d type destructor kept st w a) comes.turns comes.after (omega (arith, comes.few))
         (made_by_turns (program_of x.image).image x.pick comes.turns w comes.after (Enter e ∷ []) comes.runs) (kept_by_turns (program_of x.image).image comes.turns w comes.after (Enter e ∷ []) comes.runs) comes.holds ran.1)
         (λ lacks.
-        out_overflows x q before st w e d a.out a.few type destructor kept a.native a.may 5 last world (Enter e) [] 1 handler lost (omega arith) (omega arith) m quiet some lacks holds 35 7
+        out_overflows x q before st w e d a.out a.few type destructor kept a.native a.may 5 last world (Enter e) [] 1 handler lost (omega arith) (omega arith) m quiet some lacks holds 35 7 (omega arith)
         (λ k many. over.full x.image x.pick k q e d type destructor kept j m st w out says full (record { named = named; quiet = quiet; some = some; hidden = hidden; lacks = lacks }) many)))
 
   -- ---- one is thrown, and nothing stops it
@@ -219,7 +219,7 @@ module _ (x : Run) (q : Plan) (before e d type : ℕ) (destructor : Option ℕ) 
         let says = list_answers x q before st w e d a.out a.few type destructor kept a.native a.may (pos 1) a.says in
         with_or_without x q before st w a.out.here.facts a.out.here.stands 7 there doomed_world items 2 handler doomed_lost
         (λ without. out_aborts x q before st w e d a.out a.few type destructor kept a.native a.may 7 there doomed_world (Enter e) (Make new ∷ Enter new ∷ []) 2 handler doomed_lost (omega arith) (omega arith) 10 38
-        (Enter e ∷ Make new ∷ unless_ending st.world (Enter new ∷ [])) (omega arith) (λ k many. run.aborts x.image x.pick k q e d type destructor kept j st w out says free chain none named without many))
+        (Enter e ∷ Make new ∷ unless_ending st.world (Enter new ∷ [])) (omega arith) (omega arith) (λ k many. run.aborts x.image x.pick k q e d type destructor kept j st w out says free chain none named without many))
         (λ m quiet some.
         let hidden = a.out.here.stands.hides quiet in
         room_or_none x q before st w a.out.here.facts a.out.here.stands 7 there doomed_world items 2 handler doomed_lost m quiet some
@@ -229,8 +229,8 @@ module _ (x : Run) (q : Plan) (before e d type : ℕ) (destructor : Option ℕ) 
         let comes = ran.4 in
         out_begins x q before st w e d a.out a.few type destructor kept a.native a.may 7 there doomed_world (Enter e) (Make new ∷ Enter new ∷ []) 2 handler doomed_lost (omega arith) (omega arith) m quiet some
         (with_bad x q before e d type destructor kept st w a free slot) (record { frames = record { unit = refl; hidden = refl }; base = refl; tables = refl })
-        (reach_bad x q before e d type destructor kept st w a free slot) comes.turns comes.after (record { run = comes.runs.run })
+        (reach_bad x q before e d type destructor kept st w a free slot) comes.turns comes.after (omega (arith, comes.few)) (record { run = comes.runs.run })
         (kept_by_picked (program_of x.image).image x.pick comes.turns w comes.after items comes.runs) comes.holds ran.1)
         (λ lacks.
-        out_overflows x q before st w e d a.out a.few type destructor kept a.native a.may 7 there doomed_world (Enter e) (Make new ∷ Enter new ∷ []) 2 handler doomed_lost (omega arith) (omega arith) m quiet some lacks holds 43 9
+        out_overflows x q before st w e d a.out a.few type destructor kept a.native a.may 7 there doomed_world (Enter e) (Make new ∷ Enter new ∷ []) 2 handler doomed_lost (omega arith) (omega arith) m quiet some lacks holds 43 9 (omega arith)
         (λ k many. over.bad x.image x.pick k q e d type destructor kept j m st w out says free chain none (record { named = named; quiet = quiet; some = some; hidden = hidden; lacks = lacks }) many)))

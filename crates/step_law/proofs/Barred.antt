@@ -44,11 +44,12 @@ use Rattle.whole_runs.proofs.Counts.{quiet_once}
 use Rattle.whole_runs.proofs.Rounds.{pays_known, some_ending, steps_overflow}
 use Rattle.whole_runs.proofs.Single.{made_by_forced}
 use Rattle.whole_runs.proofs.Staying.{once_stays, deepest_grows}
+use Rattle.whole_runs.proofs.Spending.{terminate_turns}
 use Rattle.step_law.specs.Barred.{BarredFollow}
 use Rattle.step_law.specs.Facts.{needs_for, code_for}
 use Rattle.step_law.specs.Standing.{aims, StandsBy}
 use Rattle.step_law.specs.Rows.{Run, IsAt, FollowsIn}
-use Rattle.step_law.proofs.At.{same_code, step_acts}
+use Rattle.step_law.proofs.At.{same_code, step_acts, own_end_paid, turn_paid}
 use Rattle.step_law.proofs.BarredStands.{IsBarred, barred_stands}
 use Rattle.step_law.proofs.Barring.{own_bytes, own_depth}
 use Rattle.step_law.proofs.Exceptions.{calm_other}
@@ -181,8 +182,8 @@ module _ (x : Run) (q : Plan) (before n m : ℕ) (o : LinearOp) (st : State) (w 
       stands : StandsBy x.program x.image x.carrying x.tables r (before + turns) go u
       stands = barred_stands x q r before turns m 2 left.calls left.barring left.outer st.world st w u [] at.facts at.stands barred_there
 
-    goes_on : (turns : ℕ) (u : abi.World) → ForcedTurns image turns w u [] → Matches r go u → FollowsIn x before st w
-    goes_on turns u turned matches =
+    goes_on : (turns : ℕ) → turns ≤ length (linear_code (shape q n) o) + 64 → (u : abi.World) → ForcedTurns image turns w u [] → Matches r go u → FollowsIn x before st w
+    goes_on turns least u turned matches =
         let made = made_by_forced image x.pick turns w u [] turned in
         let many = some_ending image x.pick turns w u [] made (at.matches.runtime.terminating ∙ quiet) matches.runtime.terminating in
         let once : paying code 2 st ≤ 1 = subst (λ c. paying c 2 st ≤ 1) (same_code x q before n o st w at) (quiet_once own st unpaid_own) in
@@ -196,21 +197,22 @@ module _ (x : Run) (q : Plan) (before n m : ℕ) (o : LinearOp) (st : State) (w 
           shows = begins.1;
           turns = turns;
           paid = omega (arith, once, many);
+          few = turn_paid x q before n o st w at middle turns one (terminate_turns code st middle refl) least;
           after = u;
           made = made;
           stands = (r, stands turns u (kept_by_forced image turns w u [] turned) matches);
         })
 
     -- no room for it
-    runs_over : StacksHoldCalls → (most : ℕ) → 0x100_0000 < open_bytes q (waiting_terminate m ∷ here) + (shape q m).size + 0x1000 → ((j : ℕ) → most ≤ j → RunEnds image x.pick j w [] Stack) → FollowsIn x before st w
-    runs_over holds most lacks ran =
+    runs_over : StacksHoldCalls → (most : ℕ) → most ≤ length (linear_code (shape q n) o) + 64 → 0x100_0000 < open_bytes q (waiting_terminate m ∷ here) + (shape q m).size + 0x1000 → ((j : ℕ) → most ≤ j → RunEnds image x.pick j w [] Stack) → FollowsIn x before st w
+    runs_over holds most least lacks ran =
         let none = none_open in
         let depth_now = at.stands.stands.stand.deep in
         let nest : CallsNest (waiting_terminate m ∷ here) = (refl, at.stands.stands.stand.nest) in
         let deep = holds q (waiting_terminate m ∷ here) m st.world.deepest (at.facts.frames q at.stands.unit) nest (omega (arith, none)) at.stands.hidden (omega (arith, depth_now)) lacks in
         let more = deepest_grows code 2 st go leads in
         inr (inr (inl (subst (λ c. Overflows image x.pick c st w) (same_code x q before n o st w at)
-        (steps_overflow image x.pick q st w 2 go most [] begins.0 (quiet_once own st unpaid_own) (omega (arith, deep, more)) begins.1 (λ j many. ran j many)))))
+        (steps_overflow image x.pick q st w 2 go most [] begins.0 (quiet_once own st unpaid_own) (own_end_paid x q before n o st w at most least) (omega (arith, deep, more)) begins.1 (λ j many. ran j many)))))
 
   -- the handler begins, or finds no room
   module _ (k : ℤ) (unwinds : BeginsUnwind q n st o k ⊎ GoesOnUnwinding q n st w o k) where
@@ -237,10 +239,10 @@ module _ (x : Run) (q : Plan) (before n m : ℕ) (o : LinearOp) (st : State) (w 
       where
         by : ((leb (open_bytes q (waiting_terminate m ∷ here) + (shape q m).size + 0x1000) 0x100_0000 ≡ true) × (open_bytes q (waiting_terminate m ∷ here) + (shape q m).size + 0x1000 ≤ 0x100_0000))
             ⊎ ((leb (open_bytes q (waiting_terminate m ∷ here) + (shape q m).size + 0x1000) 0x100_0000 ≡ false) × (0x100_0000 < open_bytes q (waiting_terminate m ∷ here) + (shape q m).size + 0x1000)) → FollowsIn x before st w
-        by (inl room) = let b = barred run room.1 in goes_on b.left b.begins b.ran.turns b.ran.after b.ran.runs b.ran.holds.0
+        by (inl room) = let b = barred run room.1 in goes_on b.left b.begins b.ran.turns (omega (arith, b.ran.few)) b.ran.after b.ran.runs b.ran.holds.0
         by (inr lacks) =
             let first = over_by over lacks.1 (words + 13) (omega arith) in
-            runs_over first.left first.overflows.0 holds (words + 13) lacks.1 (λ j many. (over_by over lacks.1 j many).overflows.1)
+            runs_over first.left first.overflows.0 holds (words + 13) (omega arith) lacks.1 (λ j many. (over_by over lacks.1 j many).overflows.1)
 
 -- a step that comes to terminate does while that does not run yet
 pub not_ending : (h : Option ℕ) (gs : List Activation) (v : World) (next : State) → terminated h gs v ≡ goes_to next → v.ending ≡ false

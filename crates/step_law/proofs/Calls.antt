@@ -39,11 +39,13 @@ use Rattle.whole_runs.specs.Steps.{GoesOn as RoundGoesOn, Overflows}
 use Rattle.whole_runs.proofs.Rounds.{matched_goes_on, step_overflows}
 use Rattle.whole_runs.proofs.Single.{breaks_one}
 use Rattle.whole_runs.proofs.Staying.{deepest_grows}
+use Rattle.cost_words.specs.Spends.{spends}
+use Rattle.whole_runs.proofs.Spending.{call_turns}
 use Rattle.step_law.specs.Facts.{needs_for, code_for}
 use Rattle.step_law.specs.Standing.{Standing}
 use Rattle.step_law.specs.Rows.{Run, IsAt, FollowsIn, CallsFollow}
 use Rattle.step_law.proofs.Aligned.{SameFrames, CallsAlign, align_push}
-use Rattle.step_law.proofs.At.{is_inside, is_static, reaches_there, fetches, same_code, step_acts, step_at}
+use Rattle.step_law.proofs.At.{is_inside, is_static, reaches_there, fetches, same_code, step_acts, step_at, turn_paid, own_paid, own_end_paid}
 use Rattle.step_law.proofs.Builtins.{kinds_same}
 use Rattle.step_law.proofs.CallForms.{IsCallOp, call_is, calls_or, CallKnown, call_known, ObjectKnown, filled, GivenFits, given_fits}
 use Rattle.step_law.proofs.Keeping.{NotEntered, CalmAt, IsCalm, kept_by_turns, calm_forced, stands_behind}
@@ -92,6 +94,12 @@ module _ (x : Run) (q : Plan) (before n : ℕ) (o : LinearOp) (st : State) (w : 
       next_is : enters_to q c.number given st ≡ next
       next_is = same_next (enters_to q c.number given st) next (call_step q n st next o c given a.runs a.there calling passed at.step)
 
+      -- the call is a turn
+      call_paid : length (linear_code (shape q n) o) + 4 ≤ spends code 1 st
+      call_paid =
+          turn_paid x q before n o st w a next (length (linear_code (shape q n) o) + 4) e
+          (call_turns code st next c.number (ap (λ (m : State). m.top.function) (sym next_is)) (ap (λ (m : State). m.frames) (sym next_is))) (omega arith)
+
       begins : (room : open_bytes q (st.top ∷ st.frames) + (shape q c.number).size + 0x1000 ≤ 0x100_0000) → CallsRun → FollowsIn x before st w
       begins room run =
           let fits : CallFits q n st.top.frame st.world (st.top ∷ st.frames) c given =
@@ -102,6 +110,7 @@ module _ (x : Run) (q : Plan) (before n : ℕ) (o : LinearOp) (st : State) (w : 
           inr (inr (inr (inl (record { number = n; operation = o; at = at; call = c; given = given; is = calling; passed = passed; fits = fits; plan = refl; turns = refl; nothing_shown = refl })))) in
           inl (subst (λ y. RoundGoesOn (program_of x.image).image x.pick y (Standing x.program x.image x.carrying x.tables) before st w) (same_code x q before n o st w a)
           (matched_goes_on (program_of x.image).image x.pick q st w (Standing x.program x.image x.carrying x.tables) before next n o (length (linear_code (shape q n) o) + 4) [] (λ u. Matches r next u) at (omega arith)
+          (own_paid x q before n o st w a (length (linear_code (shape q n) o) + 4) call_paid)
           (step_items q r st next (length (linear_code (shape q n) o) + 4) [] made)
           (run (program_of x.image).image q n st next w o c given a.matches a.runs a.there calling passed fits at.step) (λ turns u turned matches. stands r stack refl turns u turned matches)))
         where
@@ -145,7 +154,8 @@ module _ (x : Run) (q : Plan) (before n : ℕ) (o : LinearOp) (st : State) (w : 
           let more = deepest_grows code 1 st next (Paces.one_step code st (goes_to next) e) in
           let items = ap (λ (m : State). m.world.items) (sym next_is) ∙ (same_beside (slot_kinds q c.number) st.world.calls 0 given st.world).items in
           inr (inr (inl (subst (λ y. Overflows (program_of x.image).image x.pick y st w) (same_code x q before n o st w a)
-          (step_overflows (program_of x.image).image x.pick q st w next n o (length (linear_code (shape q n) o) + 6) [] at (omega (arith, deep, more)) (items ∙ sym (append-nil st.world.items))
+          (step_overflows (program_of x.image).image x.pick q st w next n o (length (linear_code (shape q n) o) + 6) [] at
+          (own_end_paid x q before n o st w a (length (linear_code (shape q n) o) + 6) (omega arith)) (omega (arith, deep, more)) (items ∙ sym (append-nil st.world.items))
           (λ k many. let ran = over (program_of x.image).image x.pick k q n st w o c given a.matches a.runs a.there calling passed lack many in (ran.items, ran.end))))))
 
       either : CallsRun → CallsOverflow → StacksHoldCalls → FollowsIn x before st w

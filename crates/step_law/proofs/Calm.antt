@@ -25,6 +25,7 @@ use Rattle.machine_simulation.specs.Plan.{Plan}
 use Rattle.machine_exceptions.specs.Leaves.{StepsTo}
 use Rattle.whole_runs.proofs.Single.{made_by_turns}
 use Rattle.whole_runs.proofs.Staying.{once_stays}
+use Rattle.cost_words.specs.Spends.{spends}
 use Rattle.step_law.specs.Facts.{regions_for, code_for, Facts}
 use Rattle.step_law.specs.Standing.{StandsBy}
 use Rattle.step_law.specs.Rows.{Run, FollowsIn}
@@ -109,9 +110,9 @@ module _ (p : Checked) (i : CleanImage) (k : Carrying) (tables : ℕ → ℕ) (f
 
 -- a round of such steps, of which at most one may pay for a turn
 pub steps_follow : (x : Run) (q r : Plan) (before steps turns : ℕ) (st next : State) (w u : abi.World) (items : List Item) → Facts x.program x.image x.carrying x.tables → StandsBy x.program x.image x.carrying x.tables q before st w → 0 < steps →
-    CalmSteps (code_for x.program) steps st next → paying (code_for x.program) steps st ≤ 1 → 1 ≤ turns → Shows st next items → Turns (program_of x.image).image turns w u items →
+    CalmSteps (code_for x.program) steps st next → paying (code_for x.program) steps st ≤ 1 → 1 ≤ turns → turns ≤ spends (code_for x.program) 1 st → Shows st next items → Turns (program_of x.image).image turns w u items →
     ShownBehind x.program x.carrying q r turns st next w u items → FollowsIn x before st w
-steps_follow x q r before steps turns st next w u items f h some calm once many shows turned shown =
+steps_follow x q r before steps turns st next w u items f h some calm once many few shows turned shown =
     let code : Code = code_for x.program in
     inl (record {
       steps = steps;
@@ -123,6 +124,7 @@ steps_follow x q r before steps turns st next w u items f h some calm once many 
       shows = shows;
       turns = turns;
       paid = omega (arith, once, many);
+      few = few;
       after = u;
       made = made_by_turns (program_of x.image).image x.pick turns w u items turned;
       stands = (

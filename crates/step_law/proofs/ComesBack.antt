@@ -53,7 +53,7 @@ use Rattle.step_law.specs.Facts.{regions_for, needs_for, code_for}
 use Rattle.step_law.specs.Rows.{Run, IsAt, FollowsIn}
 use Rattle.step_law.specs.Passing.{HandlerIsOver, UnexpectedReturns}
 use Rattle.step_law.proofs.Aligned.{CallsAlign, align_return, itself}
-use Rattle.step_law.proofs.At.{fetches, step_acts, step_at}
+use Rattle.step_law.proofs.At.{fetches, step_acts, step_at, weight_paid}
 use Rattle.step_law.proofs.Exceptions.{gone_destroyed}
 use Rattle.step_law.proofs.Keeping.{NotEntered, CalmAt, kept_by_turns, unmarked_stands}
 use Rattle.step_law.proofs.LostBehind.{IsLostBehind, abort_behind, handler_begins, handler_overflows, room_or_none, with_or_without}
@@ -210,7 +210,7 @@ module _ (x : Run) (q : Plan) (before n type : ℕ) (r d : Option ℕ) (kept : I
     without run none_called =
         let first = quiet_then code 3 st back unpaid one in
         let last = aborts_once code back kept.terminate_handler (back.top ∷ back.frames) st.world unpaid_back ends none_called in
-        abort_behind x q before st w here.facts here.stands 4 14 [] (once_stays (program_of x.image).image x.pick code 4 st w (omega (arith, first, last)))
+        abort_behind x q before st w here.facts here.stands 4 14 [] (omega arith) (once_stays (program_of x.image).image x.pick code 4 st w (omega (arith, first, last)))
         (λ k many. run.aborts_behind (program_of x.image).image x.pick k q n caller.number e r type d kept waiting a fs st back w here.matches returns named none_called many)
 
     with_one : UnexpectedTerminates → TerminateHandlersOverflow → StacksHoldCalls → (m : ℕ) → st.world.ending ≡ false → kept.terminate_handler ≡ Some m → FollowsIn x before st w
@@ -226,11 +226,11 @@ module _ (x : Run) (q : Plan) (before n type : ℕ) (r d : Option ℕ) (kept : I
         let more = some_ending (program_of x.image).image x.pick reaches.turns w reaches.after [] made (here.matches.runtime.terminating ∙ quiet) reaches.holds.runtime.terminating in
         handler_begins x q before st w here.facts here.stands 1 back st.world [] 0 kept.terminate_handler lost m quiet some (closed q a.frame.call)
         (record { frames = record { unit = refl; hidden = refl }; base = refl; tables = refl }) reach_back reaches.turns reaches.after (kept_by_turns (program_of x.image).image reaches.turns w reaches.after [] reaches.runs)
-        made reaches.holds (omega arith) (omega (arith, once, more)) stays ran.1)
+        made reaches.holds (omega arith) (omega (arith, once, more)) (weight_paid x q before n (return r) st w here reaches.turns (omega (arith, reaches.few))) stays ran.1)
         (λ lacks.
         let ran = λ (k : ℕ) (many : 19 ≤ k). overflow.behind (program_of x.image).image x.pick k q n caller.number e r type d kept m waiting a fs st back w here.matches returns
         (record { named = named; quiet = quiet; some = some; hidden = hidden; lacks = lacks }) many in
-        handler_overflows x q before st w here.facts here.stands 1 back st.world [] 0 kept.terminate_handler lost m quiet some lacks holds 19 stays (ran 19 (omega arith)).shown (λ k many. (ran k many).run))
+        handler_overflows x q before st w here.facts here.stands 1 back st.world [] 0 kept.terminate_handler lost m quiet some lacks holds 19 (omega arith) stays (ran 19 (omega arith)).shown (λ k many. (ran k many).run))
 
   follows : UnexpectedTerminates → TerminateHandlersOverflow → StacksHoldCalls → FollowsIn x before st w
   follows run overflow holds = by (result_in r st.top.frame st.world (kinds code st.top.function)) acts

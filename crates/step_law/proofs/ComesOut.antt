@@ -49,6 +49,9 @@ use Rattle.whole_runs.specs.Turns.{Made}
 use Rattle.whole_runs.specs.Steps.{StaysBehind}
 use Rattle.whole_runs.proofs.Counts.{at_most, quiet_then}
 use Rattle.whole_runs.proofs.Single.{made_by_turns}
+use Rattle.whole_runs.proofs.Spending.{own_spends}
+use Rattle.cost_turns.specs.Weights.{is_own}
+use Rattle.cost_words.specs.Spends.{spends}
 use Rattle.step_law.specs.Facts.{regions_for, code_for}
 use Rattle.step_law.specs.Rows.{Run, FollowsIn}
 use Rattle.step_law.specs.Thrown.{ComesOut, OutOfHandlerBreaks}
@@ -87,6 +90,10 @@ module _ (x : Run) (q : Plan) (before : ℕ) (st : State) (w : abi.World) (e d :
 
   pub fetch_first : fetch code st.top.function st.top.place ≡ Some (linear (jump_filter 5 (pos 0) 16))
   fetch_first = ap (λ f. fetch code f st.top.place) out.rests.rests.runs ∙ ap (stub_op call_unexpected) out.rests.place
+
+  -- the first step pays for what comes of it
+  pub checks_pay : (k : ℕ) → k ≤ 44 → k ≤ spends code 1 st
+  checks_pay k least = own_spends code st (linear (jump_filter 5 (pos 0) 16)) k (ap is_own out.rests.rests.runs) fetch_first least
 
   pub unpaid : pays_at code st ≡ false
   unpaid = ap pays fetch_first

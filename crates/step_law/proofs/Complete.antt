@@ -22,7 +22,8 @@ use Rattle.machine_raises.specs.Stacks.{table_of}
 use Rattle.stub_landings.specs.Rests.{FreesOnTheWay, ChecksThrown, LeavesOn, Rests}
 use Rattle.whole_runs.specs.Steps.{StepsFollow}
 use Rattle.whole_runs.proofs.Following.{steps_go_on}
-use Rattle.compiled_runs.specs.Starts.{StepsGoOn, ImagesAreCompiled}
+use Rattle.compiled_runs.specs.Starts.{ImagesAreCompiled}
+use Rattle.compiled_runs.specs.Enough.{ImagesHaveEnough}
 use Rattle.step_law.specs.Facts.{code_for, Facts, FactsStand}
 use Rattle.step_law.specs.Standing.{StandsBy, Standing, aims}
 use Rattle.step_law.specs.Starts.{StartsStand}
@@ -31,7 +32,7 @@ use Rattle.step_law.specs.Own.{StandsAt, FreedFlightsFollow, PassedFlightsFollow
 use Rattle.step_law.specs.OwnLeaves.{OwnDestructorsBeginFollow, OwnLeavesFollow}
 use Rattle.step_law.specs.OwnUnwindEnds.{OwnBarredFollow, OwnUnwindsEndFollow}
 use Rattle.step_law.specs.OwnUnwinds.{FreedUnwindsFollow, PassedUnwindsFollow}
-use Rattle.step_law.specs.Complete.{CheckedImagesAreCompiled}
+use Rattle.step_law.specs.Complete.{CheckedImagesGoOn, CheckedImagesAreCompiled, CheckedImagesHaveEnough}
 use Rattle.step_law.specs.Handled.{HandlesStopped, ChecksFollow}
 use Rattle.kept_handlers.proofs.Runs.{runs_with_stopped}
 use Rattle.step_law.proofs.Handled.{handles}
@@ -118,19 +119,18 @@ module _ (rows : AllRows) (x : Run) (facts : Facts x.program x.image x.carrying 
   pub steps_follow : StepsFollow (program_of x.image).image x.pick code (Standing x.program x.image x.carrying x.tables) (2 ^ 40)
   steps_follow before st w s few = wherever s.0 before few st w s.1 s.1.rests
 
--- So the image of a checked program is the compiled program.
-pub checked_images_are_compiled : AllRows → ((p : Checked) → IsChecked p → (n place : ℕ) (o : LinearOp) → slice_get (code_at (unit_for p) n).ops place ≡ Some o → BuiltinFits (length (unit_for p).functions) o) →
-    CheckedIsLinkable → FactsStand → StartsStand → ImagesAreCompiled → CheckedImagesAreCompiled
-checked_images_are_compiled rows fit linkable facts start images p checked file i read stands = images p checked i tables stands.image goes_on
-  where
-    image : IsImageOf (unit_for p) i
-    image = record { linkable = linkable p checked; file = file; read = read; stands = stands }
+-- So they do in the image of a checked program from where main begins.
+pub checked_images_go_on : AllRows → ((p : Checked) → IsChecked p → (n place : ℕ) (o : LinearOp) → slice_get (code_at (unit_for p) n).ops place ≡ Some o → BuiltinFits (length (unit_for p).functions) o) →
+    CheckedIsLinkable → FactsStand → StartsStand → CheckedImagesGoOn
+checked_images_go_on rows fit linkable facts start p checked file i read stands pick input replies given s =
+    let image : IsImageOf (unit_for p) i = record { linkable = linkable p checked; file = file; read = read; stands = stands } in
+    let tables : ℕ → ℕ = table_of (unit_for p) i in
+    let known = facts p i checked image in
+    let x : Run = record { program = p; image = i; carrying = known.0; tables = tables; pick = pick } in
+    steps_go_on (program_of i).image pick (code_for p) (2 ^ 40) (Standing p i known.0 tables) (steps_follow rows x known.1 (fit p checked)) s.turns _ s.after (start p i known.0 tables input replies known.1 given s)
 
-    tables : ℕ → ℕ
-    tables = table_of (unit_for p) i
+pub checked_images_are_compiled : CheckedImagesGoOn → ImagesAreCompiled → CheckedImagesAreCompiled
+checked_images_are_compiled go_on images p checked file i read stands = images p checked i (table_of (unit_for p) i) stands.image (go_on p checked file i read stands)
 
-    goes_on : StepsGoOn p i tables
-    goes_on pick input replies given s =
-        let known = facts p i checked image in
-        let x : Run = record { program = p; image = i; carrying = known.0; tables = tables; pick = pick } in
-        steps_go_on (program_of i).image pick (code_for p) (2 ^ 40) (Standing p i known.0 tables) (steps_follow rows x known.1 (fit p checked)) s.turns _ s.after (start p i known.0 tables input replies known.1 given s)
+pub checked_images_have_enough : CheckedImagesGoOn → ImagesHaveEnough → CheckedImagesHaveEnough
+checked_images_have_enough go_on images p checked file i read stands = images p checked i (table_of (unit_for p) i) stands.image (go_on p checked file i read stands)

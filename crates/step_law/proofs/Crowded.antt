@@ -37,7 +37,7 @@ use Rattle.step_law.specs.Facts.{regions_for, needs_for, code_for}
 use Rattle.step_law.specs.Rows.{Run, FollowsIn}
 use Rattle.step_law.specs.Thrown.{ComesOut, OutOfHandlerIsCrowded}
 use Rattle.step_law.proofs.Aligned.{align_same, itself}
-use Rattle.step_law.proofs.ComesOut.{same_code, inv, selector, unpaid, calm_first, five, one, inv_five, held}
+use Rattle.step_law.proofs.ComesOut.{same_code, inv, selector, unpaid, calm_first, five, one, inv_five, held, checks_pay}
 use Rattle.step_law.proofs.Exceptions.{gone_destroyed, handlers_open}
 use Rattle.step_law.proofs.Facing.{newest_made}
 use Rattle.step_law.proofs.Keeping.{NotEntered, kept_by_turns}
@@ -117,7 +117,7 @@ module _ (x : Run) (q : Plan) (before e d : ℕ) (st : State) (w : abi.World) (o
       (λ none.
       let first = quiet_then code 3 st last (unpaid x q before st w e d out) (one x q before st w e d out) in
       let rest = aborts_once code last handler (last.top ∷ last.frames) st.world refl ends none in
-      abort_behind x q before st w out.here.facts out.here.stands 4 15 [] (once_stays (program_of x.image).image x.pick code 4 st w (omega (arith, first, rest)))
+      abort_behind x q before st w out.here.facts out.here.stands 4 15 [] (omega arith) (once_stays (program_of x.image).image x.pick code 4 st w (omega (arith, first, rest)))
       (λ k many. run.foreign_aborts (program_of x.image).image x.pick k q e d st w foreign_out named none many))
       (λ m quiet some.
       let hidden = out.here.stands.hides quiet in
@@ -130,10 +130,10 @@ module _ (x : Run) (q : Plan) (before e d : ℕ) (st : State) (w : abi.World) (o
       let made = made_by_turns (program_of x.image).image x.pick comes.turns w comes.after [] comes.runs in
       let more = some_ending (program_of x.image).image x.pick comes.turns w comes.after [] made (out.rests.rests.runtime.terminating ∙ quiet) comes.holds.runtime.terminating in
       handler_begins x q before st w out.here.facts out.here.stands 1 last st.world [] 0 handler lost m quiet some q (record { frames = itself q; base = refl; tables = refl }) reach comes.turns comes.after
-      (kept_by_turns (program_of x.image).image comes.turns w comes.after [] comes.runs) made comes.holds (omega arith) (omega (arith, once, more)) stays ran.1)
+      (kept_by_turns (program_of x.image).image comes.turns w comes.after [] comes.runs) made comes.holds (omega arith) (omega (arith, once, more)) (checks_pay x q before st w e d out comes.turns (omega (arith, comes.few))) stays ran.1)
       (λ lacks.
       let ran = λ (k : ℕ) (many : 20 ≤ k). over.foreign (program_of x.image).image x.pick k q e d m st w foreign_out (record { named = named; quiet = quiet; some = some; hidden = hidden; lacks = lacks }) many in
-      handler_overflows x q before st w out.here.facts out.here.stands 1 last st.world [] 0 handler lost m quiet some lacks holds 20 stays (ran 20 (omega arith)).shown (λ k many. (ran k many).run)))
+      handler_overflows x q before st w out.here.facts out.here.stands 1 last st.world [] 0 handler lost m quiet some lacks holds 20 (omega arith) stays (ran 20 (omega arith)).shown (λ k many. (ran k many).run)))
 
 pub out_of_handler_is_crowded : UnexpectedRefuses → TerminateHandlersOverflow → StacksHoldCalls → OutOfHandlerIsCrowded
 out_of_handler_is_crowded run over holds x q before e d st w out few may crowded = follows x q before e d st w out few may crowded run over holds

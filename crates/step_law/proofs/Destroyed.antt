@@ -43,7 +43,7 @@ use Rattle.step_law.specs.Facts.{regions_for, needs_for, code_for}
 use Rattle.step_law.specs.Leaves.{DestructorsEndFollow}
 use Rattle.step_law.specs.Rows.{Run, IsAt, FollowsIn}
 use Rattle.step_law.proofs.Aligned.{SameFrames, CallsAlign, align_pop, align_then, align_return, itself}
-use Rattle.step_law.proofs.At.{same_code, step_acts}
+use Rattle.step_law.proofs.At.{same_code, step_acts, weight_paid}
 use Rattle.step_law.proofs.Exceptions.{calm_other}
 use Rattle.step_law.proofs.Keeping.{NotEntered, CalmAt, unmarked_stands, ShownBehind}
 use Rattle.step_law.proofs.Leaving.{frees_in_catch}
@@ -164,7 +164,7 @@ module _ (x : Run) (q : Plan) (before n m : ℕ) (r : Option ℕ) (waiting a : A
         let ran = run image q n m e st second waiting a fs r w at.matches at_return in
         let calmly = calm ran.0 in
         let many = some_shown image x.pick ran.2.turns w ran.2.after (Free e) [] (made_by_turns image x.pick ran.2.turns w ran.2.after (Free e ∷ []) ran.2.runs) in
-        steps_follow x q p before 3 ran.2.turns st next w ran.2.after (Free e ∷ []) at.facts at.stands (omega arith) calmly (destroyed_once code st waiting.frame (a ∷ fs) st.world quiet one) (omega (arith, many)) ran.1 ran.2.runs
+        steps_follow x q p before 3 ran.2.turns st next w ran.2.after (Free e ∷ []) at.facts at.stands (omega arith) calmly (destroyed_once code st waiting.frame (a ∷ fs) st.world quiet one) (omega (arith, many)) (weight_paid x q before n (return r) st w at ran.2.turns (omega (arith, ran.2.few))) ran.1 ran.2.runs
         (shown ran.2.turns ran.2.after calmly ran.2.runs ran.2.holds)
 
   ended : DestructorsEnd → FollowsIn x before st w

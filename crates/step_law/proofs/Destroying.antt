@@ -52,7 +52,7 @@ use Rattle.step_law.specs.Facts.{regions_for, needs_for, code_for}
 use Rattle.step_law.specs.Leaves.{destructor_of, destructor_due, DestructorsBeginFollow}
 use Rattle.step_law.specs.Rows.{Run, IsAt, FollowsIn}
 use Rattle.step_law.proofs.Aligned.{SameFrames, align_push_two}
-use Rattle.step_law.proofs.At.{same_code}
+use Rattle.step_law.proofs.At.{same_code, own_end_paid, weight_paid}
 use Rattle.step_law.proofs.Destructors.{destructor_there, object_fits}
 use Rattle.step_law.proofs.Facing.{newest_made}
 use Rattle.step_law.proofs.Keeping.{NotEntered, unmarked_stands, ShownBehind}
@@ -170,7 +170,8 @@ module _ (x : Run) (q : Plan) (before n d : ℕ) (st : State) (w : abi.World) (a
       let ran = run image q n st first y ys t d kept w at.matches (at_leave x q before n st w at y ys caught) last there may in
       let stack : ℕ = frame_for q d active in
       let many = some_shown image x.pick ran.2.turns w ran.2.after (Leave e) (Destroy e ∷ []) (made_by_turns image x.pick ran.2.turns w ran.2.after (Leave e ∷ Destroy e ∷ []) ran.2.runs) in
-      steps_follow x q (r stack) before 3 ran.2.turns st next w ran.2.after (Leave e ∷ Destroy e ∷ []) at.facts at.stands (omega arith) calm once (omega (arith, many)) ran.1 ran.2.runs
+      steps_follow x q (r stack) before 3 ran.2.turns st next w ran.2.after (Leave e ∷ Destroy e ∷ []) at.facts at.stands (omega arith) calm once (omega (arith, many))
+      (weight_paid x q before n (plain leave) st w at ran.2.turns (omega (arith, ran.2.few))) ran.1 ran.2.runs
       (shown stack ran.2.turns ran.2.after ran.2.runs ran.2.holds)
 
   -- it has none
@@ -187,7 +188,7 @@ module _ (x : Run) (q : Plan) (before n d : ℕ) (st : State) (w : abi.World) (a
       let more = deepest_grows code 3 st next (calm_leads code 3 st next calm) in
       let ran = over_by over lacks 20 (omega arith) in
       inr (inr (inl (subst (λ c. Overflows image x.pick c st w) own
-      (steps_overflow image x.pick q st w 3 next 20 (Leave e ∷ Destroy e ∷ []) ran.0 (subst (λ c. paying c 3 st ≤ 1) (sym own) once) (omega (arith, deep, more)) ran.1 (λ j many. (over_by over lacks j many).2)))))
+      (steps_overflow image x.pick q st w 3 next 20 (Leave e ∷ Destroy e ∷ []) ran.0 (subst (λ c. paying c 3 st ≤ 1) (sym own) once) (own_end_paid x q before n (plain leave) st w at 20 (omega arith)) (omega (arith, deep, more)) ran.1 (λ j many. (over_by over lacks j many).2)))))
 
   either : DestructorsBegin → DestructorsOverflow → StacksHoldCalls → FollowsIn x before st w
   either run over holds = by (leb_tells (open_bytes q active + (shape q d).size + 0x1000) 0x100_0000)

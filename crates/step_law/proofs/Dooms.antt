@@ -208,7 +208,7 @@ module _ (x : Run) (q : Plan) (before n s t : ℕ) (d : Option ℕ) (st : State)
     -- no handler is called
     aborts : DoomsAbort → (st.world.ending ≡ true) ⊎ (handler ≡ None) → FollowsIn x before st w
     aborts run none =
-        aborts_here x q before n o st w at_op v thrown (Enter e ∷ []) handler lost none (unless_ending st.world (Enter e ∷ [])) (length (linear_code (shape q n) o) + 10)
+        aborts_here x q before n o st w at_op v thrown (Enter e ∷ []) handler lost none (unless_ending st.world (Enter e ∷ [])) (length (linear_code (shape q n) o) + 10) (omega arith)
         (λ k many. run x.image x.pick k q n s e t d st w at_op.matches (is_running x q before n o st w at_op) doomed_here none many)
 
     either : DoomsRun → DoomsOverflow → StacksHoldCalls → (m : ℕ) → st.world.ending ≡ false → handler ≡ Some m → FollowsIn x before st w
@@ -217,9 +217,9 @@ module _ (x : Run) (q : Plan) (before n s t : ℕ) (d : Option ℕ) (st : State)
         either_here x q before n o st w at_op v thrown (Enter e ∷ []) handler lost m quiet some
         (λ room.
         let ran = run x.image q n m s e t d st w at_op.matches (is_running x q before n o st w at_op) doomed_here quiet some hidden room in
-        begins_here x q before n o st w at_op v thrown (Enter e ∷ []) handler lost m quiet some (length (linear_code (shape q n) o) + 11) ran.0 refl ran.1)
+        begins_here x q before n o st w at_op v thrown (Enter e ∷ []) handler lost m quiet some (length (linear_code (shape q n) o) + 11) (omega arith) ran.0 refl ran.1)
         (λ lacks.
-        overflows_here x q before n o st w at_op v thrown (Enter e ∷ []) handler lost m quiet some lacks holds (length (linear_code (shape q n) o) + 13)
+        overflows_here x q before n o st w at_op v thrown (Enter e ∷ []) handler lost m quiet some lacks holds (length (linear_code (shape q n) o) + 13) (omega arith)
         (λ k many. over x.image x.pick k q n m s e t d st w at_op.matches (is_running x q before n o st w at_op) doomed_here quiet some hidden lacks many))
 
     dooms : DoomsRun → DoomsAbort → DoomsOverflow → StacksHoldCalls → FollowsIn x before st w

@@ -1,5 +1,5 @@
 -- Exceptions that are made, given back and entered, in a whole run.
-use Rattle.std.proofs.Common.{◌≡◌, ◌∙◌, refl, sym, ap, subst, arith, ℕ, zero, suc, ◌+◌, ◌≤◌, ◌<◌, ◌⊎◌, inl, inr, Bool, true, false, ◌==◌, List, [], ◌∷◌, ◌++◌, Option, Some, None, if◌then◌else◌}
+use Rattle.std.proofs.Common.{◌≡◌, ◌∙◌, refl, sym, ap, subst, arith, ℕ, zero, suc, ◌+◌, ◌≤◌, ◌<◌, ◌⊎◌, inl, inr, Bool, true, false, ◌==◌, List, [], ◌∷◌, ◌++◌, Option, Some, None, if◌then◌else◌, length}
 use Rattle.std.specs.List.{AllByRecursion}
 use Rattle.std.proofs.lemmas.Bool.Decides.{nat_tests}
 use Rattle.meaning_forms.specs.Class.{contains}
@@ -28,7 +28,7 @@ use Rattle.linear_invariant.proofs.Worlds.{But}
 use Rattle.linear_invariant.proofs.Lists.{few_entered}
 use Rattle.linear_invariant.proofs.Asked.{enters_are_asked, frees_are_asked}
 use Rattle.source_bounds.specs.Compiled.{unit_for}
-use Rattle.machine_simulation.specs.Plan.{Plan, function}
+use Rattle.machine_simulation.specs.Plan.{Plan, function, shape}
 use Rattle.machine_simulation.specs.Exceptions.{destroyed_by, destroyed}
 use Rattle.machine_simulation.specs.Matches.{Matches}
 use Rattle.machine_simulation.specs.Objects.{with_object, without_object, HoldsObject, Shows}
@@ -46,11 +46,12 @@ use Rattle.operation_premises.specs.Static.{IsWord}
 use Rattle.whole_runs.specs.Turns.{Made}
 use Rattle.whole_runs.proofs.Rounds.{pays_known, some_shown}
 use Rattle.whole_runs.proofs.Single.{goes_on_one, made_by_turns}
+use Rattle.machine_forms.specs.LinearCode.{linear_code}
 use Rattle.step_law.specs.Facts.{regions_for, needs_for, code_for}
 use Rattle.step_law.specs.Standing.{Standing}
 use Rattle.step_law.specs.Rows.{Run, IsAt, FollowsIn, MakesFollow, FreesFollow, EntersFollow}
 use Rattle.step_law.proofs.Aligned.{CallsAlign, align_same}
-use Rattle.step_law.proofs.At.{in_unit, is_static, fetches, same_code, step_acts, step_at}
+use Rattle.step_law.proofs.At.{in_unit, is_static, fetches, same_code, step_acts, step_at, words_paid}
 use Rattle.step_law.proofs.Keeping.{RuntimeKept, NotEntered, CalmAt, IsCalm, kept_by_turns, kept_by_picked, unmarked_stands, calm_forced, PlanGoes, stands_behind}
 use Rattle.step_law.proofs.Returns.{undefined_breaks}
 
@@ -69,13 +70,13 @@ module _ (x : Run) (q : Plan) (before n : ℕ) (o : LinearOp) (st : State) (w : 
   word_slot s h = record { inside = h.inside; plain = h.plain; near = h.near }
 
   -- a step in the same call
-  in_call : (next : State) (r : Plan) (turns : ℕ) (u : abi.World) (items : List Item) → step code st ≡ goes_to next → linear_pays o ≡ false → CalmAt code st → SameCall st next → PlanGoes q r →
+  in_call : (next : State) (r : Plan) (turns : ℕ) (u : abi.World) (items : List Item) → step code st ≡ goes_to next → linear_pays o ≡ false → turns ≤ length (linear_code (shape q n) o) → CalmAt code st → SameCall st next → PlanGoes q r →
       GoesOn (extents_of q) (extents_of r) (unit_for x.program) st.world next → Spared x.carrying (NotEntered items) None (next.top ∷ next.frames) → open_handlers next.world.caught ≤ open_handlers st.world.caught + turns →
       Shows st next items → Made (program_of x.image).image x.pick turns w u items → RuntimeKept w u items → Matches r next u → FollowsIn x before st w
-  in_call next r turns u items e unpaid calm same plan on spared few shows made kept matches =
+  in_call next r turns u items e unpaid least calm same plan on spared few shows made kept matches =
       let paid : pays_at code st ≡ false = subst (λ c. pays_at c st ≡ false) (same_code x q before n o st w at) (pays_known (program_of x.image).image x.pick q st w n o at.runs at.there ∙ unpaid) in
       let none = ap one_if paid in
-      inl (goes_on_one (program_of x.image).image x.pick code st w (Standing x.program x.image x.carrying x.tables) before next items turns u e shows (omega (arith, none)) made (
+      inl (goes_on_one (program_of x.image).image x.pick code st w (Standing x.program x.image x.carrying x.tables) before next items turns u e shows (omega (arith, none)) (words_paid x q before n o st w at turns least) made (
         r,
         stands_behind x.program x.image x.carrying x.tables at.facts q r before turns 1 st next w u items at.stands (Paces.one_step code st (goes_to next) e) first_calm kept (record {
           plan = plan;
@@ -122,7 +123,7 @@ makes_follow run x q before n s st w at room =
     let plans : GoesOn (extents_of q) (extents_of (with_object q (st.world.last_number + 1) ran.1)) (unit_for x.program) st.world next =
     subst (λ u. GoesOn (extents_of q) (extents_of (with_object q (st.world.last_number + 1) ran.1)) u st.world next) at.stands.unit
     (plans_go_on.made q ran.1 st.world next at.stands.reaches.objects refl (λ is. omega (arith, is, older))) in
-    in_call x q before n (plain (make s)) st w at next (with_object q (st.world.last_number + 1) ran.1) ran.3.turns ran.3.after (Make (st.world.last_number + 1) ∷ []) e refl
+    in_call x q before n (plain (make s)) st w at next (with_object q (st.world.last_number + 1) ran.1) ran.3.turns ran.3.after (Make (st.world.last_number + 1) ∷ []) e refl ran.3.few
     (calm_op x q before n (plain (make s)) st w at (make s) refl (calm_made (is_full st.world))) (record { function = refl; frames = refl; ending = refl })
     (record { frames = record { unit = refl; hidden = refl }; base = refl; tables = refl }) plans (all_spared x.carrying (NotEntered (Make (st.world.last_number + 1) ∷ [])) (λ d. refl) None (next.top ∷ next.frames))
     (omega arith) ran.0 (record { run = ran.3.runs.run }) (kept_by_picked (program_of x.image).image x.pick ran.3.turns w ran.3.after (Make (st.world.last_number + 1) ∷ []) ran.3.runs) ran.3.holds
@@ -172,7 +173,7 @@ frees_follow run x q before n s st w at = by (may_free st.top.function st.world 
         let plans : GoesOn (extents_of q) (extents_of (without_object q e)) (unit_for x.program) st.world next =
         subst (λ u. GoesOn (extents_of q) (extents_of (without_object q e)) u st.world next) at.stands.unit
         (plans_go_on.same q (without_object q e) st.world next refl at.stands.reaches.objects (omega arith) (λ is. omega (arith, is, older))) in
-        in_call x q before n (free s) st w at next (without_object q e) ran.1.turns ran.1.after (Free e ∷ []) here refl (calm_other x q before n (free s) st w at (λ op is. cc is))
+        in_call x q before n (free s) st w at next (without_object q e) ran.1.turns ran.1.after (Free e ∷ []) here refl ran.1.few (calm_other x q before n (free s) st w at (λ op is. cc is))
         (record { function = refl; frames = refl; ending = refl }) (record { frames = record { unit = refl; hidden = refl }; base = refl; tables = refl }) plans
         (all_spared x.carrying (NotEntered (Free e ∷ [])) (λ d. refl) None (next.top ∷ next.frames)) (omega arith) ran.0
         (made_by_turns (program_of x.image).image x.pick ran.1.turns w ran.1.after (Free e ∷ []) ran.1.runs) (kept_by_turns (program_of x.image).image ran.1.turns w ran.1.after (Free e ∷ []) ran.1.runs) ran.1.holds
@@ -291,7 +292,7 @@ enters_follow run x q before n s st w at few crowded = by (may_enter st.world e)
         let plans : GoesOn (extents_of q) (extents_of q) (unit_for x.program) st.world next =
         subst (λ u. GoesOn (extents_of q) (extents_of q) u st.world next) at.stands.unit (plans_go_on.same q q st.world next refl at.stands.reaches.objects (omega arith) (λ is. omega (arith, is, older))) in
         let top = spared_top st.top.function at.runs in
-        in_call x q before n (plain (enter s)) st w at next q ran.1.turns ran.1.after (Enter e ∷ []) here refl
+        in_call x q before n (plain (enter s)) st w at next q ran.1.turns ran.1.after (Enter e ∷ []) here refl ran.1.few
         (calm_op x q before n (plain (enter s)) st w at (enter s) refl (calm_entered (may_enter st.world e) (is_crowded st.world e))) (record { function = refl; frames = refl; ending = refl })
         (record { frames = record { unit = refl; hidden = refl }; base = refl; tables = refl }) plans (top.0, top.1, spared_others x.carrying e (Some st.top.function) st.frames asked.has.unheld)
         (omega (arith, some, more)) ran.0 made (kept_by_turns (program_of x.image).image ran.1.turns w ran.1.after (Enter e ∷ []) ran.1.runs) ran.1.holds

@@ -29,11 +29,13 @@ use Rattle.machine_raises.specs.Cancels.{Cancels}
 use Rattle.stub_landings.specs.Landings.{GoesOn, resting, ForcedLands, CancelsLand}
 use Rattle.whole_runs.proofs.Rounds.{pays_known}
 use Rattle.whole_runs.proofs.Single.{goes_on_one, made_by_turns, made_by_forced}
+use Rattle.whole_runs.proofs.Landing.{AtPad, Lands, force_lands, at_pad}
+use Rattle.cost_turns.specs.Runs.{may_land}
 use Rattle.step_law.specs.Facts.{code_for}
 use Rattle.step_law.specs.Forced.{ForcedFollow, CancelsFollow}
 use Rattle.step_law.specs.Standing.{Standing, aims}
 use Rattle.step_law.specs.Rows.{Run, IsAt, FollowsIn}
-use Rattle.step_law.proofs.At.{fetches, same_code, step_acts, step_at}
+use Rattle.step_law.proofs.At.{fetches, same_code, step_acts, step_at, pad_paid}
 use Rattle.step_law.proofs.Builtins.{given_effect, builtin_is, one_value, one_asked, kinds_same}
 use Rattle.step_law.proofs.Exceptions.{calm_other}
 use Rattle.step_law.proofs.Keeping.{CalmAt, kept_by_turns, kept_by_forced, calm_forced, stands_behind, marked_behind}
@@ -92,13 +94,19 @@ module _ (x : Run) (q : Plan) (before n s : ℕ) (z : ℤ) (st next : State) (w 
   calm : CalmAt (in_code x) st
   calm = calm_other x q before n (resume s) st w at (λ op same. cc same)
 
+  forces_it : step (in_code x) st ≡ force (in_code x) (look (in_code x) st.top.function st.top.place) z st.top.function st.top.frame st.frames st.world
+  forces_it = step_acts x q before n (resume s) st w at ∙ ap (λ y. resumed (in_code x) y st.top st.frames st.world) is
+
+  lands_at : AtPad (in_code x) next
+  lands_at = at_pad (in_code x) (step (in_code x) st) next (subst (Lands (in_code x)) (sym forces_it) (force_lands (in_code x) (look (in_code x) st.top.function st.top.place) z st.top.function st.top.frame st.frames st.world)) h goes_on
+
   forced_follows : ForcedLands → FollowsIn x before st w
   forced_follows run =
       let ran = run x.image q n s z st next w at.matches (is_running x q before n (resume s) st w at) (step_at x q before n (resume s) st w at next h) (forced_asked x q before n s st w at z is)
       (at.facts.pads q at.stands.unit) (at.facts.filters q at.stands.unit) goes_on in
       let paid : pays_at (in_code x) st ≡ false = subst (λ c. pays_at c st ≡ false) (same_code x q before n (resume s) st w at) (pays_known (in_image x) x.pick q st w n (resume s) at.runs at.there) in
       let none = ap one_if paid in
-      inl (goes_on_one (in_image x) x.pick (in_code x) st w (Standing x.program x.image x.carrying x.tables) before next [] ran.1.turns ran.1.after h ran.0 (omega (arith, none)) (made_by_turns (in_image x) x.pick ran.1.turns w ran.1.after [] ran.1.runs) (
+      inl (goes_on_one (in_image x) x.pick (in_code x) st w (Standing x.program x.image x.carrying x.tables) before next [] ran.1.turns ran.1.after h ran.0 (omega (arith, none)) (pad_paid x q before n (resume s) st w at next ran.1.turns h refl lands_at ran.1.few) (made_by_turns (in_image x) x.pick ran.1.turns w ran.1.after [] ran.1.runs) (
         resting q next,
         stands_behind x.program x.image x.carrying x.tables at.facts q (resting q next) before ran.1.turns 1 st next w ran.1.after [] at.stands (Paces.one_step (in_code x) st (goes_to next) h) first_calm
             (kept_by_turns (in_image x) ran.1.turns w ran.1.after [] ran.1.runs)
@@ -117,6 +125,10 @@ forced_follow run x q before n s z st next w at is h goes_on = forced_follows x 
 pub cancels_one : (v : Value) (o : LinearOp) → Cancels v o → CallsBuiltin Cancel (argument_then (int_argument v) no_arguments) None o
 cancels_one v o (inl is) = inr (inr (refl, is))
 cancels_one v o (inr is) = inr (inl (refl, is))
+
+cancel_may_land : (v : Value) (o : LinearOp) → Cancels v o → may_land (Some (linear o)) ≡ true
+cancel_may_land v o (inl is) = ap (λ y. may_land (Some (linear y))) is
+cancel_may_land v o (inr is) = ap (λ y. may_land (Some (linear y))) is
 
 pub cancels_unpaid : (v : Value) (o : LinearOp) → Cancels v o → linear_pays o ≡ false
 cancels_unpaid v o (inl is) = ap linear_pays is
@@ -198,6 +210,10 @@ module _ (x : Run) (q : Plan) (before n : ℕ) (o : LinearOp) (v : Value) (st ne
       by (inr (inl same)) = is ∙ sym same ∙ now
       by (inr (inr (k, never, other))) = absurd never
 
+  cancel_lands : AtPad (in_code x) next
+  cancel_lands = at_pad (in_code x) (goes_to next) next
+      (subst (Lands (in_code x)) begun_here.forces (force_lands (in_code x) (look (in_code x) st.top.function st.top.place) begun_here.number st.top.function st.top.frame st.frames st.world)) refl goes_on
+
   cancelled_follows : CancelsLand → FollowsIn x before st w
   cancelled_follows run =
       let ran = run x.image q n st next w o v at.matches (is_running x q before n o st w at) (step_at x q before n o st w at next h) begins (one_asked x q before n o st w at Cancel v None begun_here.number (cancels_one v o begins) begun_here.value)
@@ -205,7 +221,7 @@ module _ (x : Run) (q : Plan) (before n : ℕ) (o : LinearOp) (v : Value) (st ne
       let m = ran.3 in
       let none = ap one_if (unpaid x q before n o v st w at begins) in
       let number : Some ran.1 ≡ Some begun_here.number = sym ran.2 ∙ begun_here.value in
-      inl (goes_on_one (in_image x) x.pick (in_code x) st w (Standing x.program x.image x.carrying x.tables) before next [] m.turns m.after h ran.0 (omega (arith, none)) (made_by_forced (in_image x) x.pick m.turns w m.after [] m.runs) (
+      inl (goes_on_one (in_image x) x.pick (in_code x) st w (Standing x.program x.image x.carrying x.tables) before next [] m.turns m.after h ran.0 (omega (arith, none)) (pad_paid x q before n o st w at next m.turns h (cancel_may_land v o begins) cancel_lands m.few) (made_by_forced (in_image x) x.pick m.turns w m.after [] m.runs) (
         resting q next,
         marked_behind x.program x.image x.carrying x.tables at.facts q (resting q next) before m.turns 1 st next w m.after [] at.stands (Paces.one_step (in_code x) st (goes_to next) h) first_news (kept_by_forced (in_image x) m.turns w m.after [] m.runs)
             (landed x q before st w at.facts at.stands next h begun_lands m.turns m.after m.holds.0 (newest_begun m.after (m.holds.2 ∙ number))),

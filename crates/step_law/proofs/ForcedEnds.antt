@@ -35,7 +35,7 @@ use Rattle.whole_runs.proofs.Single.{ends_one}
 use Rattle.step_law.specs.Facts.{code_for}
 use Rattle.step_law.specs.ForcedEnds.{ForcedEndsFollow}
 use Rattle.step_law.specs.Rows.{Run, IsAt, FollowsIn}
-use Rattle.step_law.proofs.At.{same_code, step_acts}
+use Rattle.step_law.proofs.At.{same_code, step_acts, own_end_paid, end_paid}
 use Rattle.step_law.proofs.Builtins.{one_asked}
 use Rattle.step_law.proofs.Forced.{cancels_one, cancels_unpaid, begun}
 use Rattle.step_law.proofs.Landing.{enters_pad}
@@ -101,18 +101,18 @@ module _ (x : Run) (q : Plan) (before n : ℕ) (o : LinearOp) (st : State) (w : 
         turns = most;
         shows = λ j many. (exits_by run z v e j many).2.0;
         ends = λ j many. (exits_by run z v e j many).2.1 ∙ ap Exit (sym first.0);
-      })))
+      }) (end_paid x q before n o st w at most (omega arith))))
 
   -- both abort
-  both_abort : (turns : ℕ) → paying own 3 st ≤ 1 → ((j : ℕ) → turns ≤ j → BothAbort image x.pick j q st w []) → FollowsIn x before st w
-  both_abort turns once abort =
+  both_abort : (turns : ℕ) → turns ≤ most + 64 → paying own 3 st ≤ 1 → ((j : ℕ) → turns ≤ j → BothAbort image x.pick j q st w []) → FollowsIn x before st w
+  both_abort turns least once abort =
       let first = abort turns (omega arith) in
-      inr (inl (subst (λ c. Ends image x.pick c st w) (same_code x q before n o st w at) (runs_end image x.pick q st w 3 turns aborted first.0.0 [] first.0.1 once first.0.2 (λ j many. (abort j many).1))))
+      inr (inl (subst (λ c. Ends image x.pick c st w) (same_code x q before n o st w at) (runs_end image x.pick q st w 3 turns aborted first.0.0 [] first.0.1 once (own_end_paid x q before n o st w at turns least) first.0.2 (λ j many. (abort j many).1))))
 
   aborts_again : ForcedUnwindsTerminate → (v : World) → step code st ≡ finishes (by_program aborted) v → FollowsIn x before st w
   aborts_again run v e =
       let goes = in_own (finishes (by_program aborted) v) e in
-      both_abort most (finished_once own st (by_program aborted) v goes) (λ j many. run.aborts_again x.image x.pick j q n k st v w at.matches (is_running x q before n o st w at) at_unwind goes many)
+      both_abort most (omega arith) (finished_once own st (by_program aborted) v goes) (λ j many. run.aborts_again x.image x.pick j q n k st v w at.matches (is_running x q before n o st w at) at_unwind goes many)
 
   pub ends_by : ForcedUnwindsExit → ForcedUnwindsTerminate → (why : End) (v : World) → step code st ≡ finishes (by_program why) v → FollowsIn x before st w
   ends_by exit_run abort_run (exit z) v e = exits exit_run z v e
@@ -127,7 +127,7 @@ module _ (x : Run) (q : Plan) (before n : ℕ) (o : LinearOp) (st : State) (w : 
       let quiet : pays_at own st ≡ false = pays_known image x.pick q st w n o at.runs at.there ∙ unpaid in
       let terminates = goes ∙ sym forces ∙ t.1 in
       let named : (program_of x.image).image.places.terminate ≡ stub_word q.base terminating 0 = at.facts.named ∙ ap (λ b. stub_word b terminating 0) (sym at.stands.base) in
-      both_abort (most + 10) (aborts_once own st st.world.installed.terminate_handler t.0 st.world quiet terminates (inr none))
+      both_abort (most + 10) (omega arith) (aborts_once own st st.world.installed.terminate_handler t.0 st.world quiet terminates (inr none))
       (λ j many. run.aborts_without x.image x.pick j q n k st next w at.matches (is_running x q before n o st w at) at_unwind goes ends named none many)
 
 module _ (x : Run) (q : Plan) (before n : ℕ) (o : LinearOp) (v : Value) (st : State) (w : abi.World) (at : IsAt x q before n o st w) (begins : Cancels v o) (z : Next) (e : step (code_for x.program) st ≡ z)

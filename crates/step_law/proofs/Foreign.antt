@@ -128,6 +128,7 @@ module _ (x : Run) (q : Plan) (before n : ℕ) (o : LinearOp) (wants : Option Pl
       (resting (with_object q new ran.1) next) (object_gains ran.1 next) ran.3.ran.turns ran.3.ran.after items (record {
         shows = ran.0;
         made = record { run = ran.3.ran.runs.run };
+        few = ran.3.ran.few;
         kept = kept_by_picked (program_of x.image).image x.pick ran.3.ran.turns w ran.3.ran.after items ran.3.ran.runs;
         none = λ y. refl;
         rests = ran.3.ran.holds.0;

@@ -49,11 +49,13 @@ use Rattle.whole_runs.specs.Turns.{Made}
 use Rattle.whole_runs.proofs.Counts.{aborts_once, quiet_once}
 use Rattle.whole_runs.proofs.Rounds.{pays_known, some_shown, steps_go_on_made, runs_end, steps_overflow}
 use Rattle.whole_runs.proofs.Staying.{deepest_grows}
+use Rattle.cost_words.specs.Spends.{spends}
+use Rattle.whole_runs.proofs.Spending.{terminate_turns}
 use Rattle.step_law.specs.Facts.{needs_for, code_for}
 use Rattle.step_law.specs.Standing.{Standing, aims}
 use Rattle.step_law.specs.Rows.{Run, IsAt, FollowsIn}
 use Rattle.step_law.proofs.Aligned.{align_push_two}
-use Rattle.step_law.proofs.At.{fetches, same_code, step_acts}
+use Rattle.step_law.proofs.At.{fetches, same_code, step_acts, own_end_paid, own_paid, turn_paid}
 use Rattle.step_law.proofs.Foreign.{RaisesHere, new, raised, is_foreign_there}
 use Rattle.step_law.proofs.HandlerBegins.{second_step, led_one, middle, next, none_waits, none_forced, spared_begun}
 use Rattle.step_law.proofs.Keeping.{NotEntered, kept_by_picked, ShownBehind, way_kept, marked_behind}
@@ -138,7 +140,7 @@ module _ (x : Run) (q : Plan) (before n : ℕ) (o : LinearOp) (wants : Option Pl
       let ends = (run.aborts x.image x.pick most q n r.k r.token r.left st w at_op.matches (is_running x q before n o st w at_op) raises_here r.room own_none none (omega arith)).0 in
       let once = aborts_once (code_of q.unit) st handler here v unpaid_at (ap (λ c. step c st) (same_code x q before n o st w at_op) ∙ steps) none in
       inr (inl (subst (λ c. Ends (program_of x.image).image x.pick c st w) (same_code x q before n o st w at_op)
-      (runs_end (program_of x.image).image x.pick q st w 3 most aborted ends.0 items ends.1 once ends.2
+      (runs_end (program_of x.image).image x.pick q st w 3 most aborted ends.0 items ends.1 once (own_end_paid x q before n o st w at_op most (omega arith)) ends.2
       (λ k many. (run.aborts x.image x.pick k q n r.k r.token r.left st w at_op.matches (is_running x q before n o st w at_op) raises_here r.room own_none none many).1))))
 
   module _ (m : ℕ) (quiet : st.world.ending ≡ false) (some : handler ≡ Some m) where
@@ -231,6 +233,10 @@ module _ (x : Run) (q : Plan) (before n : ℕ) (o : LinearOp) (wants : Option Pl
               (way_kept w u items (kept_by_picked (program_of x.image).image x.pick turns w u items turned)) (shown turns u matches),
         )
 
+    -- terminate begins by the first step
+    begun_paid : (turns : ℕ) → turns ≤ length (linear_code (shape q n) o) + 64 → turns ≤ spends (code_of q.unit) 1 st
+    begun_paid turns least = own_paid x q before n o st w at_op turns (turn_paid x q before n o st w at_op mid turns one (terminate_turns code st mid refl) least)
+
     -- the handler begins
     begins : ModulesDoom → open_bytes q active + (shape q m).size + 0x1000 ≤ 0x100_0000 → FollowsIn x before st w
     begins run room =
@@ -240,7 +246,7 @@ module _ (x : Run) (q : Plan) (before n : ℕ) (o : LinearOp) (wants : Option Pl
         let more = some_shown (program_of x.image).image x.pick turns w ran.3.after (Foreign e r.k r.token) [] made in
         let few = once in
         inl (subst (λ c. RoundGoesOn (program_of x.image).image x.pick c (Standing x.program x.image x.carrying x.tables) before st w) (same_code x q before n o st w at_op)
-        (steps_go_on_made (program_of x.image).image x.pick q st w (Standing x.program x.image x.carrying x.tables) before 2 go items turns ran.3.after (omega arith) ran.0.0 once ran.0.1 (omega (arith, more, few)) made
+        (steps_go_on_made (program_of x.image).image x.pick q st w (Standing x.program x.image x.carrying x.tables) before 2 go items turns ran.3.after (omega arith) ran.0.0 once ran.0.1 (omega (arith, more, few)) (begun_paid turns (omega (arith, ran.3.few))) made
         (stands (two ran.0.0) ran.1 turns ran.3.after ran.3.runs ran.3.holds)))
 
     -- there is no room for it
@@ -254,7 +260,7 @@ module _ (x : Run) (q : Plan) (before n : ℕ) (o : LinearOp) (wants : Option Pl
         let deep = holds q active m st.world.deepest (at_op.facts.frames q at_op.stands.unit) nest (omega (arith, none)) at_op.stands.hidden (omega (arith, nested)) lacks in
         let more = deepest_grows code 2 st go (leads (two first.0)) in
         inr (inr (inl (subst (λ c. Overflows (program_of x.image).image x.pick c st w) (same_code x q before n o st w at_op)
-        (steps_overflow (program_of x.image).image x.pick q st w 2 go most items first.0 once (omega (arith, deep, more)) first.1
+        (steps_overflow (program_of x.image).image x.pick q st w 2 go most items first.0 once (own_end_paid x q before n o st w at_op most (omega arith)) (omega (arith, deep, more)) first.1
         (λ k many.
         (over.nothing_stops x.image x.pick k q n m r.k r.token r.left st w at_op.matches (is_running x q before n o st w at_op) raises_here r.room own_none quiet some hidden lacks many).1)))))
 

@@ -34,6 +34,10 @@ use Rattle.own_ends.specs.Resumes.{held_back, freed_on_the_way, CatchFreesOnTheW
 use Rattle.whole_runs.proofs.Rounds.{steps_go_on_made}
 use Rattle.whole_runs.proofs.Single.{made_by_turns}
 use Rattle.whole_runs.specs.Steps.{GoesOn as RoundGoesOn}
+use Rattle.whole_runs.proofs.Spending.{own_spends}
+use Rattle.cost_turns.specs.Weights.{is_own}
+use Rattle.cost_words.specs.Spends.{spends}
+use Rattle.step_law.proofs.At.{few_pad_words}
 use Rattle.step_law.specs.Facts.{regions_for, needs_for, code_for}
 use Rattle.step_law.specs.Standing.{Standing}
 use Rattle.step_law.specs.Rows.{Run, FollowsIn}
@@ -134,7 +138,8 @@ module _ (x : Run) (q : Plan) (before e d : ℕ) (st : State) (w : abi.World) (a
         let made = made_by_turns (program_of x.image).image x.pick ran.2.turns w ran.2.after (Free (held_back st) ∷ []) ran.2.runs in
         inl (subst (λ c. RoundGoesOn (program_of x.image).image x.pick c (Standing x.program x.image x.carrying x.tables) before st w) same
         (steps_go_on_made (program_of x.image).image x.pick q st w (Standing x.program x.image x.carrying x.tables) before 2 next (Free (held_back st) ∷ []) ran.2.turns ran.2.after (omega arith) ran.0
-        (subst (λ c. paying c 2 st ≤ 1) (sym same) (omega (arith, unpaid))) ran.1 (subst (λ c. paying c 2 st ≤ ran.2.turns) (sym same) (omega (arith, unpaid))) made (
+        (subst (λ c. paying c 2 st ≤ 1) (sym same) (omega (arith, unpaid))) ran.1 (subst (λ c. paying c 2 st ≤ ran.2.turns) (sym same) (omega (arith, unpaid)))
+        (subst (λ c. ran.2.turns ≤ spends c 1 st) (sym same) (own_spends code st (linear (free 0)) ran.2.turns (ap is_own rests.rests.runs) runs_first (omega (arith, ran.2.few, few_pad_words next.top.function)))) made (
           r,
           stands_behind x.program x.image x.carrying x.tables at.facts q r before ran.2.turns 2 st next w ran.2.after (Free (held_back st) ∷ []) at.stands leads calm
               (kept_by_turns (program_of x.image).image ran.2.turns w ran.2.after (Free (held_back st) ∷ []) ran.2.runs) (shown ran.2.turns ran.2.after ran.2.runs ran.2.holds),

@@ -62,7 +62,7 @@ use Rattle.step_law.specs.Facts.{regions_for, needs_for, code_for}
 use Rattle.step_law.specs.Standing.{Standing}
 use Rattle.step_law.specs.Rows.{Run, IsAt, FollowsIn}
 use Rattle.step_law.specs.Unexpected.{UnexpectedFollows}
-use Rattle.step_law.proofs.At.{fetches, same_code}
+use Rattle.step_law.proofs.At.{fetches, same_code, own_end_paid, own_paid, weight_paid}
 use Rattle.step_law.proofs.Exceptions.{calm_other, spared_others}
 use Rattle.step_law.proofs.Keeping.{NotEntered, CalmAt, kept_by_turns, unmarked_stands, stands_behind}
 use Rattle.step_law.proofs.Aligned.{SameFrames, align_push_two}
@@ -219,11 +219,11 @@ module _ (x : Run) (q : Plan) (before n o s type m : ℕ) (d : Option ℕ) (kept
         steps_reach (extents_of q) (extents_of r) (unit_for x.program) (needs_for x.program) second next here.facts.reach reach_second
         (newest_made (unmarked (known_in (regions_for x.program))) code x.carrying (here.stands.steps + 1 + 1) second second_stands) (third_step steps_made) goes
 
-    begins : (most : ℕ) → Shows st next (Enter e ∷ []) → Reaches (program_of x.image).image most w (Enter e ∷ []) (λ u. Matches (opened q m st.world.calls (frame_for q m active)) next u) → FollowsIn x before st w
-    begins most shows ran =
+    begins : (most : ℕ) → most ≤ 32 → Shows st next (Enter e ∷ []) → Reaches (program_of x.image).image most w (Enter e ∷ []) (λ u. Matches (opened q m st.world.calls (frame_for q m active)) next u) → FollowsIn x before st w
+    begins most least shows ran =
         inl (subst (λ c. RoundGoesOn (program_of x.image).image x.pick c (Standing x.program x.image x.carrying x.tables) before st w) same
         (reaches_goes_on (program_of x.image).image x.pick q st w (Standing x.program x.image x.carrying x.tables) before 3 next (Enter e ∷ []) most (λ u. Matches (opened q m st.world.calls (frame_for q m active)) next u) (omega arith) made
-        (omega (arith, once)) shows ran (λ turns u turned matches. stands (opened q m st.world.calls (frame_for q m active)) refl turns u turned matches)))
+        (omega (arith, once)) (own_paid x q before n (unexpected o s) st w here most (weight_paid x q before n (unexpected o s) st w here most least)) shows ran (λ turns u turned matches. stands (opened q m st.world.calls (frame_for q m active)) refl turns u turned matches)))
       where
         stands : (r : Plan) → r ≡ opened q m st.world.calls (frame_for q m active) → (turns : ℕ) (u : abi.World) → Turns (program_of x.image).image turns w u (Enter e ∷ []) → Matches r next u →
             (paying (code_of q.unit) 3 st ≤ turns) × Standing x.program x.image x.carrying x.tables (before + turns) next u
@@ -253,13 +253,13 @@ module _ (x : Run) (q : Plan) (before n o s type m : ℕ) (d : Option ℕ) (kept
             same_frames = record { unit = ap (λ y. y.unit) plan; hidden = ap (λ y. y.hidden) plan }
 
     -- it finds no room
-    runs_over : HandlerLacksRoom q m active → StacksHoldCalls → Shows st next (Enter e ∷ []) → (most : ℕ) → ((k : ℕ) → most ≤ k → RunEnds (program_of x.image).image x.pick k w (Enter e ∷ []) Stack) → FollowsIn x before st w
-    runs_over lacks holds shows most ends =
+    runs_over : HandlerLacksRoom q m active → StacksHoldCalls → Shows st next (Enter e ∷ []) → (most : ℕ) → most ≤ 64 → ((k : ℕ) → most ≤ k → RunEnds (program_of x.image).image x.pick k w (Enter e ∷ []) Stack) → FollowsIn x before st w
+    runs_over lacks holds shows most least ends =
         let terminates = here.stands.once in
         let deep = holds q active m second.world.deepest (here.facts.frames q here.stands.unit) second_stands.stand.nest (omega (arith, terminates)) here.stands.hidden second_stands.stand.deep lacks in
         let more = deepest_grows code 1 second next (Paces.one_step code second (goes_to next) (third_step steps_made)) in
         inr (inr (inl (subst (λ c. Overflows (program_of x.image).image x.pick c st w) same
-        (steps_overflow (program_of x.image).image x.pick q st w 3 next most (Enter e ∷ []) made (omega (arith, once)) (omega (arith, deep, more)) shows (λ k many. let ran = ends k many in (ran.0, ran.1))))))
+        (steps_overflow (program_of x.image).image x.pick q st w 3 next most (Enter e ∷ []) made (omega (arith, once)) (own_end_paid x q before n (unexpected o s) st w here most (omega (arith, least))) (omega (arith, deep, more)) shows (λ k many. let ran = ends k many in (ran.0, ran.1))))))
 
   follows : UnexpectedHandlersBegin → UnexpectedHandlersOverflow → StacksHoldCalls → FollowsIn x before st w
   follows run over holds = by (leb_tells (open_bytes q active + (shape q m).size + 0x1000) 0x100_0000)
@@ -268,12 +268,12 @@ module _ (x : Run) (q : Plan) (before n o s type m : ℕ) (d : Option ℕ) (kept
           ⊎ ((leb (open_bytes q active + (shape q m).size + 0x1000) 0x100_0000 ≡ false) × (0x100_0000 < open_bytes q active + (shape q m).size + 0x1000)) → FollowsIn x before st w
       by (inl room) =
           let ran = run (program_of x.image).image q n o s e asked.selector type d kept m st w here.matches stopped handler room.1 in
-          begins ran.0 (length (linear_code (shape q n) (unexpected o s)) + 14) ran.1 ran.2
+          begins ran.0 (length (linear_code (shape q n) (unexpected o s)) + 14) (omega arith) ran.1 ran.2
       by (inr lacks) =
           let most = length (linear_code (shape q n) (unexpected o s)) + 16 in
           let ran = λ (k : ℕ) (many : most ≤ k). over (program_of x.image).image x.pick k q n o s e asked.selector type d kept m st w here.matches stopped handler lacks.1 many in
           let first_ran = ran most (omega arith) in
-          runs_over first_ran.0 lacks.1 holds first_ran.1 most (λ k many. (ran k many).2)
+          runs_over first_ran.0 lacks.1 holds first_ran.1 most (omega arith) (λ k many. (ran k many).2)
 
 pub unexpected_follows : UnexpectedHandlersBegin → UnexpectedHandlersOverflow → StacksHoldCalls → UnexpectedFollows
 unexpected_follows run over holds x q before n o s type m d kept st w here few is handler =

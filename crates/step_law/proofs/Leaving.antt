@@ -39,7 +39,7 @@ use Rattle.address_invariant.specs.Reaching.{Reaches}
 use Rattle.address_invariant.proofs.Following.{follows_reach}
 use Rattle.address_invariant.proofs.Operations.{still_at}
 use Rattle.address_invariant.proofs.Plans.{plans_go_on}
-use Rattle.whole_runs.proofs.Counts.{own_state, quiet_once, leaves_once, freed_once}
+use Rattle.whole_runs.proofs.Counts.{own_state, quiet_once, leaves_once, freed_once, at_most}
 use Rattle.whole_runs.proofs.Rounds.{pays_known, some_shown}
 use Rattle.whole_runs.proofs.Single.{made_by_turns}
 use Rattle.whole_runs.proofs.Staying.{once_stays}
@@ -47,7 +47,7 @@ use Rattle.step_law.specs.Facts.{regions_for, needs_for, code_for}
 use Rattle.step_law.specs.Leaves.{destructor_of, destructor_due, LeavesFollow}
 use Rattle.step_law.specs.Rows.{Run, IsAt, FollowsIn}
 use Rattle.step_law.proofs.Aligned.{align_same}
-use Rattle.step_law.proofs.At.{same_code, step_acts, step_at}
+use Rattle.step_law.proofs.At.{same_code, step_acts, step_at, weight_paid}
 use Rattle.step_law.proofs.Exceptions.{calm_op}
 use Rattle.step_law.proofs.Keeping.{NotEntered, CalmAt, unmarked_stands, PlanGoes, ShownBehind}
 use Rattle.step_law.proofs.Calm.{CalmSteps, rest_of, catch_calm, calm_newest, steps_follow}
@@ -121,6 +121,7 @@ module _ (x : Run) (q : Plan) (before n : ℕ) (st : State) (w : abi.World) (at 
     over = ap (go_on (exec code 1)) begins ∙ ap (go_on (exec code 0)) second;
     stays = once_stays image x.pick code 2 st w (quiet_once code st quiet);
     no_end = λ why is. let no : not_defined ≡ by_program why = is in absurd (cc no);
+    few = let most = at_most code 2 st in omega (arith, most);
   })))
     where
       a : Activation
@@ -170,11 +171,11 @@ module _ (x : Run) (q : Plan) (before n : ℕ) (st : State) (w : abi.World) (at 
         forced = calm_newest x.program x.image x.carrying x.tables at.facts q before steps st next w u at.stands calm turned.unwinding;
       }
 
-      left_on : (steps turns : ℕ) (u : abi.World) (i : Item) (items : List Item) → 0 < steps → CalmSteps code steps st next → paying code steps st ≤ 1 → Shows st next (i ∷ items) → Turns image turns w u (i ∷ items) →
+      left_on : (steps turns : ℕ) (u : abi.World) (i : Item) (items : List Item) → 0 < steps → CalmSteps code steps st next → paying code steps st ≤ 1 → turns ≤ 18 → Shows st next (i ∷ items) → Turns image turns w u (i ∷ items) →
           ((e : ℕ) → NotEntered (i ∷ items) e) → Matches r next u → FollowsIn x before st w
-      left_on steps turns u i items some calm once shows turned none matches =
+      left_on steps turns u i items some calm once least shows turned none matches =
           let many = some_shown image x.pick turns w u i items (made_by_turns image x.pick turns w u (i ∷ items) turned) in
-          steps_follow x q r before steps turns st next w u (i ∷ items) at.facts at.stands some calm once (omega (arith, many)) shows turned (shown steps turns u (i ∷ items) calm turned none matches)
+          steps_follow x q r before steps turns st next w u (i ∷ items) at.facts at.stands some calm once (omega (arith, many)) (weight_paid x q before n (plain leave) st w at turns (omega (arith, least))) shows turned (shown steps turns u (i ∷ items) calm turned none matches)
 
     same_plan : (r : Plan) → r.unit ≡ q.unit → r.hidden ≡ q.hidden → r.base ≡ q.base → r.tables ≡ q.tables → PlanGoes q r
     same_plan r unit hidden base tables = record { frames = record { unit = unit; hidden = hidden }; base = base; tables = tables }
@@ -197,7 +198,7 @@ module _ (x : Run) (q : Plan) (before n : ℕ) (st : State) (w : abi.World) (at 
         ) in
         let ran = run.still_handled image q n st first y ys w at.matches at_leave asked.can last in
         left_on v q (record { calls = refl; last = refl; ending = refl; few = left_fewer st.world.caught }) refl (same_plan q refl refl refl refl) 3 ran.2.turns ran.2.after (Leave y.number) [] (omega arith) calm
-        (leaves_once code st no_words (st.top ∷ st.frames) st.world quiet begins) ran.1 ran.2.runs (λ e. refl) ran.2.holds
+        (leaves_once code st no_words (st.top ∷ st.frames) st.world quiet begins) (omega (arith, ran.2.few)) ran.1 ran.2.runs (λ e. refl) ran.2.holds
 
     -- a foreign one is cleaned up
     cleaned : LeavesRun → (k token : ℕ) → is_last y ≡ true → exception_at st.world y.number ≡ foreign k token → FollowsIn x before st w
@@ -217,7 +218,7 @@ module _ (x : Run) (q : Plan) (before n : ℕ) (st : State) (w : abi.World) (at 
         ) in
         let ran = run.foreign_cleaned image q n st first y ys k token w at.matches at_leave last (live ∙ ap (λ z. Some z) is) in
         left_on v (without_object q y.number) (record { calls = refl; last = refl; ending = refl; few = left_fewer st.world.caught }) refl (same_plan (without_object q y.number) refl refl refl refl) 3 ran.2.turns ran.2.after
-        (Leave y.number) (Clean k token ∷ []) (omega arith) calm (leaves_once code st no_words (st.top ∷ st.frames) st.world quiet begins) ran.1 ran.2.runs (λ e. refl) ran.2.holds
+        (Leave y.number) (Clean k token ∷ []) (omega arith) calm (leaves_once code st no_words (st.top ∷ st.frames) st.world quiet begins) (omega (arith, ran.2.few)) ran.1 ran.2.runs (λ e. refl) ran.2.holds
 
     -- one without a destructor is freed at once
     freed_now : LeavesRun → (t : ℕ) (kept : Installed) → is_last y ≡ true → exception_at st.world y.number ≡ native t None kept → FollowsIn x before st w
@@ -252,7 +253,7 @@ module _ (x : Run) (q : Plan) (before n : ℕ) (st : State) (w : abi.World) (at 
           ),
         ) in
         left_on v (without_object q e) (destroyed_less t e fs st.world) refl (same_plan (without_object q e) refl refl refl refl) 5 ran.2.turns ran.2.after (Leave e) (Destroy e ∷ Free e ∷ []) (omega arith) calm
-        (freed_once code st first frame fs d quiet begins refl two refl) ran.1 ran.2.runs (λ k. refl) ran.2.holds
+        (freed_once code st first frame fs d quiet begins refl two refl) (omega (arith, ran.2.few)) ran.1 ran.2.runs (λ k. refl) ran.2.holds
 
     by_exception : LeavesRun → is_last y ≡ true → (z : Exception) → exception_at st.world y.number ≡ z → destructor_of z ≡ None → FollowsIn x before st w
     by_exception run last building is none = let no : false ≡ true = ap is_built (sym is) ∙ asked.can in absurd (cc no)

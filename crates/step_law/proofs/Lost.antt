@@ -33,10 +33,13 @@ use Rattle.whole_runs.proofs.Counts.{aborts_once, quiet_once}
 use Rattle.whole_runs.proofs.Rounds.{pays_known, some_ending, reaches_goes_on, runs_end, steps_overflow}
 use Rattle.whole_runs.proofs.Single.{made_by_turns}
 use Rattle.whole_runs.proofs.Staying.{deepest_grows}
+use Rattle.cost_words.specs.Spends.{spends}
+use Rattle.whole_runs.proofs.Spending.{terminate_turns}
+use Rattle.machine_forms.specs.LinearCode.{linear_code}
 use Rattle.step_law.specs.Facts.{code_for}
 use Rattle.step_law.specs.Standing.{Standing, aims}
 use Rattle.step_law.specs.Rows.{Run, IsAt, FollowsIn}
-use Rattle.step_law.proofs.At.{same_code}
+use Rattle.step_law.proofs.At.{same_code, own_end_paid, own_paid, turn_paid}
 use Rattle.step_law.proofs.HandlerBegins.{EndsIn, second_step, led_one, middle, next, plan, none_waits, spared_begun, leads, shown}
 use Rattle.step_law.proofs.Keeping.{NotEntered, kept_by_turns, way_kept, marked_behind}
 
@@ -90,11 +93,11 @@ module _ (x : Run) (q : Plan) (before n : ℕ) (o : LinearOp) (st : State) (w : 
   once_without (inr none) = none_once none st.world.ending refl
 
   -- no handler is called
-  pub aborts_here : (st.world.ending ≡ true) ⊎ (h ≡ None) → (shows : List Item) (most : ℕ) → ((k : ℕ) → most ≤ k → LinearEnds q 3 st shows aborted × RunEnds (program_of x.image).image x.pick k w shows Aborted) → FollowsIn x before st w
-  aborts_here none shows most over =
+  pub aborts_here : (st.world.ending ≡ true) ⊎ (h ≡ None) → (shows : List Item) (most : ℕ) → most ≤ length (linear_code (shape q n) o) + 64 → ((k : ℕ) → most ≤ k → LinearEnds q 3 st shows aborted × RunEnds (program_of x.image).image x.pick k w shows Aborted) → FollowsIn x before st w
+  aborts_here none shows most least over =
       let ends = (over most (omega arith)).0 in
       inr (inl (subst (λ c. Ends (program_of x.image).image x.pick c st w) (same_code x q before n o st w at_op)
-      (runs_end (program_of x.image).image x.pick q st w 3 most aborted ends.0 shows ends.1 (once_without none) ends.2 (λ k many. (over k many).1))))
+      (runs_end (program_of x.image).image x.pick q st w 3 most aborted ends.0 shows ends.1 (once_without none) (own_end_paid x q before n o st w at_op most least) ends.2 (λ k many. (over k many).1))))
 
   module _ (m : ℕ) (quiet : st.world.ending ≡ false) (some : h ≡ Some m) where
     abbrev active : List Activation
@@ -151,18 +154,22 @@ module _ (x : Run) (q : Plan) (before n : ℕ) (o : LinearOp) (st : State) (w : 
         let more = some_ending (program_of x.image).image x.pick turns w u items (made_by_turns (program_of x.image).image x.pick turns w u items turned) (at_op.matches.runtime.terminating ∙ quiet) matches.runtime.terminating in
         let few = once in omega (arith, more, few)
 
+    -- terminate begins by the first step
+    begun_paid : (most : ℕ) → most ≤ length (linear_code (shape q n) o) + 64 → most ≤ spends (code_of q.unit) 1 st
+    begun_paid most least = own_paid x q before n o st w at_op most (turn_paid x q before n o st w at_op mid most one (terminate_turns code st mid refl) least)
+
     -- the handler begins
-    pub begins_here : (most : ℕ) → StepsTo (code_of q.unit) 2 st go → Shows st go items → Reaches (program_of x.image).image most w items (λ u. Matches r go u) → FollowsIn x before st w
-    begins_here most led shows reaches =
+    pub begins_here : (most : ℕ) → most ≤ length (linear_code (shape q n) o) + 64 → StepsTo (code_of q.unit) 2 st go → Shows st go items → Reaches (program_of x.image).image most w items (λ u. Matches r go u) → FollowsIn x before st w
+    begins_here most least led shows reaches =
         let second = two led in
         inl (subst (λ c. RoundGoesOn (program_of x.image).image x.pick c (Standing x.program x.image x.carrying x.tables) before st w) (same_code x q before n o st w at_op)
-        (reaches_goes_on (program_of x.image).image x.pick q st w (Standing x.program x.image x.carrying x.tables) before 2 go items most (λ u. Matches r go u) (omega arith) led once shows reaches
+        (reaches_goes_on (program_of x.image).image x.pick q st w (Standing x.program x.image x.carrying x.tables) before 2 go items most (λ u. Matches r go u) (omega arith) led once (begun_paid most least) shows reaches
         (λ turns u turned matches. (paid turns u turned matches, stands second turns u turned matches))))
 
     -- there is no room for it
-    pub overflows_here : (lacks : 0x100_0000 < open_bytes q active + (shape q m).size + 0x1000) → StacksHoldCalls → (most : ℕ) →
+    pub overflows_here : (lacks : 0x100_0000 < open_bytes q active + (shape q m).size + 0x1000) → StacksHoldCalls → (most : ℕ) → most ≤ length (linear_code (shape q n) o) + 64 →
         ((k : ℕ) → most ≤ k → (StepsTo (code_of q.unit) 2 st go × Shows st go items) × RunEnds (program_of x.image).image x.pick k w items Stack) → FollowsIn x before st w
-    overflows_here lacks holds most over =
+    overflows_here lacks holds most least over =
         let first = (over most (omega arith)).0 in
         let led = leads x q before n o st w at_op m v lost.beside quiet known one (two first.0) in
         let none = none_waits x q before n o st w at_op m v quiet in
@@ -171,7 +178,7 @@ module _ (x : Run) (q : Plan) (before n : ℕ) (o : LinearOp) (st : State) (w : 
         let deep = holds q active m st.world.deepest (at_op.facts.frames q at_op.stands.unit) nest (omega (arith, none)) at_op.stands.hidden (omega (arith, nested)) lacks in
         let more = deepest_grows code 2 st go led in
         inr (inr (inl (subst (λ c. Overflows (program_of x.image).image x.pick c st w) (same_code x q before n o st w at_op)
-        (steps_overflow (program_of x.image).image x.pick q st w 2 go most items first.0 once (omega (arith, deep, more)) first.1 (λ k many. (over k many).1)))))
+        (steps_overflow (program_of x.image).image x.pick q st w 2 go most items first.0 once (own_end_paid x q before n o st w at_op most least) (omega (arith, deep, more)) first.1 (λ k many. (over k many).1)))))
 
     pub either_here : (open_bytes q active + (shape q m).size + 0x1000 ≤ 0x100_0000 → FollowsIn x before st w) → (0x100_0000 < open_bytes q active + (shape q m).size + 0x1000 → FollowsIn x before st w) → FollowsIn x before st w
     either_here begin over = by (leb_tells (open_bytes q active + (shape q m).size + 0x1000) 0x100_0000)

@@ -49,6 +49,7 @@ use Rattle.unexpected_calls.specs.Terminates.{BothAbort}
 use Rattle.whole_runs.specs.Turns.{Made}
 use Rattle.whole_runs.specs.Steps.{StaysBehind}
 use Rattle.whole_runs.proofs.Staying.{deepest_grows}
+use Rattle.cost_words.specs.Spends.{spends}
 use Rattle.step_law.specs.Facts.{regions_for, needs_for, code_for, Facts}
 use Rattle.step_law.specs.Standing.{HeaderAims, IsAimed, aims, StandsBy}
 use Rattle.step_law.specs.Rows.{Run, FollowsIn}
@@ -81,8 +82,8 @@ pub record IsLostBehind (x : Run) (q : Plan) (st : State) (steps : ℕ) (last : 
 
 module _ (x : Run) (q : Plan) (before : ℕ) (st : State) (w : abi.World) (facts : Facts x.program x.image x.carrying x.tables) (stands : StandsBy x.program x.image x.carrying x.tables q before st w) where
   -- both machines abort, that for linear code within so many steps
-  pub abort_behind : (n most : ℕ) (items : List Item) → StaysBehind (program_of x.image).image x.pick (code_for x.program) n st w → ((k : ℕ) → most ≤ k → BothAbort (program_of x.image).image x.pick k q n st w items) → FollowsIn x before st w
-  abort_behind n most items stays ends =
+  pub abort_behind : (n most : ℕ) (items : List Item) → most ≤ spends (code_for x.program) 1 st + 64 → StaysBehind (program_of x.image).image x.pick (code_for x.program) n st w → ((k : ℕ) → most ≤ k → BothAbort (program_of x.image).image x.pick k q n st w items) → FollowsIn x before st w
+  abort_behind n most items least stays ends =
       let first = ends most (omega arith) in
       inr (inl (record {
         steps = n;
@@ -93,6 +94,7 @@ module _ (x : Run) (q : Plan) (before : ℕ) (st : State) (w : abi.World) (facts
         items = items;
         shows = first.shown;
         ends = record { turns = most; shows = λ k many. (ends k many).run.0; ends = λ k many. (ends k many).run.1 };
+        few = least;
       }))
 
 module _ (x : Run) (q : Plan) (before : ℕ) (st : State) (w : abi.World) (facts : Facts x.program x.image x.carrying x.tables) (stands : StandsBy x.program x.image x.carrying x.tables q before st w)
@@ -240,9 +242,9 @@ module _ (x : Run) (q : Plan) (before : ℕ) (st : State) (w : abi.World) (facts
         }
 
         -- the handler begins
-        pub handler_begins : Made (program_of x.image).image x.pick turns w u items → Matches r go u → more ≤ turns → paying code (steps + 2) st ≤ turns → StaysBehind (program_of x.image).image x.pick code (steps + 2) st w → Shows st go items →
+        pub handler_begins : Made (program_of x.image).image x.pick turns w u items → Matches r go u → more ≤ turns → paying code (steps + 2) st ≤ turns → turns ≤ spends code 1 st → StaysBehind (program_of x.image).image x.pick code (steps + 2) st w → Shows st go items →
             FollowsIn x before st w
-        handler_begins made matches enough paid stays shows = inl (record {
+        handler_begins made matches enough paid least stays shows = inl (record {
           steps = steps + 2;
           some = omega arith;
           next = go;
@@ -252,15 +254,16 @@ module _ (x : Run) (q : Plan) (before : ℕ) (st : State) (w : abi.World) (facts
           shows = shows;
           turns = turns;
           paid = paid;
+          few = least;
           after = u;
           made = made;
           stands = (r, handler_stands matches enough);
         })
 
     -- there is no room for it
-    pub handler_overflows : HandlerLacksRoom q m (waiting_terminate m ∷ left) → StacksHoldCalls → (most : ℕ) → StaysBehind (program_of x.image).image x.pick code (steps + 2) st w → Shows st go items →
+    pub handler_overflows : HandlerLacksRoom q m (waiting_terminate m ∷ left) → StacksHoldCalls → (most : ℕ) → most ≤ spends code 1 st + 64 → StaysBehind (program_of x.image).image x.pick code (steps + 2) st w → Shows st go items →
         ((k : ℕ) → most ≤ k → RunEnds (program_of x.image).image x.pick k w items Stack) → FollowsIn x before st w
-    handler_overflows lacks holds most stays shows ends =
+    handler_overflows lacks holds most least stays shows ends =
         let none = none_waits quiet in
         let before_last = deepest_grows code steps st last lost.leads in
         let nest : CallsNest (waiting_terminate m ∷ left) = (refl, stands_last.stand.nest) in
@@ -275,6 +278,7 @@ module _ (x : Run) (q : Plan) (before : ℕ) (st : State) (w : abi.World) (facts
           items = items;
           shows = shows;
           ends = record { turns = most; shows = λ k many. (ends k many).0; ends = λ k many. (ends k many).1 };
+          few = least;
         })))
 
     pub room_or_none : (open_bytes q (waiting_terminate m ∷ left) + (shape q m).size + 0x1000 ≤ 0x100_0000 → FollowsIn x before st w) → (HandlerLacksRoom q m (waiting_terminate m ∷ left) → FollowsIn x before st w) → FollowsIn x before st w

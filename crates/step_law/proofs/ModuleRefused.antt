@@ -107,7 +107,7 @@ module _ (x : Run) (q : Plan) (before n : ℕ) (o : LinearOp) (wants : Option Pl
 
   aborts : ModulesAreRefusedWhenFull → (st.world.ending ≡ true) ⊎ (handler ≡ None) → FollowsIn x before st w
   aborts run none =
-      aborts_here x q before n o st w at_op v v [] handler lost none [] (length (linear_code (shape q n) o) + 10)
+      aborts_here x q before n o st w at_op v v [] handler lost none [] (length (linear_code (shape q n) o) + 10) (omega arith)
       (λ j many. run.aborts x.image x.pick j q n r.k r.token r.left st w at_op.matches raises_here r.full none many)
 
   either : ModulesAreRefusedWhenFull → ModulesOverflow → StacksHoldCalls → (m : ℕ) → st.world.ending ≡ false → handler ≡ Some m → FollowsIn x before st w
@@ -116,9 +116,9 @@ module _ (x : Run) (q : Plan) (before n : ℕ) (o : LinearOp) (wants : Option Pl
       either_here x q before n o st w at_op v v [] handler lost m quiet some
       (λ room.
       let ran = run.calls_the_handler x.image q n m r.k r.token r.left st w at_op.matches raises_here r.full quiet some hidden room in
-      begins_here x q before n o st w at_op v v [] handler lost m quiet some (length (linear_code (shape q n) o) + 11) ran.0.0 ran.0.1 ran.1)
+      begins_here x q before n o st w at_op v v [] handler lost m quiet some (length (linear_code (shape q n) o) + 11) (omega arith) ran.0.0 ran.0.1 ran.1)
       (λ lacks.
-      overflows_here x q before n o st w at_op v v [] handler lost m quiet some lacks holds (length (linear_code (shape q n) o) + 13)
+      overflows_here x q before n o st w at_op v v [] handler lost m quiet some lacks holds (length (linear_code (shape q n) o) + 13) (omega arith)
       (λ j many. over.full x.image x.pick j q n m r.k r.token r.left st w at_op.matches raises_here r.full quiet some hidden lacks many))
 
   pub refused_here : ModulesAreRefusedWhenFull → ModulesOverflow → StacksHoldCalls → FollowsIn x before st w

@@ -42,6 +42,7 @@ use Rattle.whole_runs.proofs.Counts.{quiet_once}
 use Rattle.whole_runs.proofs.Rounds.{some_ending}
 use Rattle.whole_runs.proofs.Single.{made_by_turns}
 use Rattle.whole_runs.proofs.Staying.{once_stays, deepest_grows}
+use Rattle.cost_words.specs.Spends.{spends}
 use Rattle.step_law.specs.Facts.{regions_for, needs_for, code_for}
 use Rattle.step_law.specs.Own.{StandsAt}
 use Rattle.step_law.specs.Rows.{Run, FollowsIn}
@@ -84,6 +85,8 @@ pub record LastThere (x : Run) (q lq : Plan) (p : ℕ) (v : World) (items : List
   pub more : ℕ → ℕ
   pub more_some : (n : ℕ) → 0 < n → 0 < more n
   pub calmly : (n : ℕ) (next : State) → CalmSteps (code_for x.program) n (record { top = record { function = st.top.function; place = p; frame = st.top.frame }; frames = st.frames; world = v }) next → CalmSteps (code_for x.program) (more n) st next
+  pub spent : ℕ
+  pub few : spent ≤ spends (code_for x.program) 1 st
   pub paid : (n : ℕ) → paying (code_for x.program) (more n) st ≡ paying (code_for x.program) n (record { top = record { function = st.top.function; place = p; frame = st.top.frame }; frames = st.frames; world = v })
 
 module _ (x : Run) (q lq : Plan) (before p : ℕ) (v : World) (items : List Item) (gs : List Activation) (m : ℕ) (st : State) (w : abi.World) (at : StandsAt x q before st w) (l : LastThere x q lq p v items gs m st w) where
@@ -201,8 +204,8 @@ module _ (x : Run) (q lq : Plan) (before p : ℕ) (v : World) (items : List Item
     shows_all : go.world.items ≡ st.world.items ++ items
     shows_all = begins.1 ∙ append-nil v.items ∙ l.shows
 
-    goes_on : (turns : ℕ) (u : abi.World) → Turns image turns w u items → Matches r go u → FollowsIn x before st w
-    goes_on turns u turned matches =
+    goes_on : (turns : ℕ) → turns ≤ l.spent → (u : abi.World) → Turns image turns w u items → Matches r go u → FollowsIn x before st w
+    goes_on turns least u turned matches =
         let made = made_by_turns image x.pick turns w u items turned in
         let many = some_ending image x.pick turns w u items made (l.off ∙ sym l.ending ∙ l.quiet) matches.runtime.terminating in
         let handlers = ap open_handlers l.caught in
@@ -231,13 +234,14 @@ module _ (x : Run) (q lq : Plan) (before p : ℕ) (v : World) (items : List Item
           shows = shows_all;
           turns = turns;
           paid = let few = once in omega (arith, few, many);
+          few = omega (arith, least, l.few);
           after = u;
           made = made;
           stands = (r, barred_stands x q r before turns m (l.more 2) (st.top ∷ left.calls) left.barring left.outer v st w u items at.facts at.stands barred);
         })
 
-    runs_over : StacksHoldCalls → (most : ℕ) → 0x100_0000 < open_bytes lq (waiting_terminate m ∷ last.top ∷ st.frames) + (shape lq m).size + 0x1000 → ((j : ℕ) → most ≤ j → RunEnds image x.pick j w items Stack) → FollowsIn x before st w
-    runs_over holds most lacks ran =
+    runs_over : StacksHoldCalls → (most : ℕ) → most ≤ 64 → 0x100_0000 < open_bytes lq (waiting_terminate m ∷ last.top ∷ st.frames) + (shape lq m).size + 0x1000 → ((j : ℕ) → most ≤ j → RunEnds image x.pick j w items Stack) → FollowsIn x before st w
+    runs_over holds most least lacks ran =
         let none = none_open in
         let depth = l.inv.stand.deep in
         let nest : CallsNest (waiting_terminate m ∷ last.top ∷ st.frames) = (refl, l.inv.stand.nest) in
@@ -253,13 +257,14 @@ module _ (x : Run) (q lq : Plan) (before p : ℕ) (v : World) (items : List Item
           items = items;
           shows = shows_all;
           ends = record { turns = most; shows = λ j many. (ran j many).0; ends = λ j many. (ran j many).1 };
+          few = omega (arith, least);
         })))
 
-  pub own_either : (most : ℕ) → (open_bytes lq (waiting_terminate m ∷ last.top ∷ st.frames) + (shape lq m).size + 0x1000 ≤ 0x100_0000 → (most_turns : ℕ) × OwnBarred lq x.image m last w most_turns items) →
+  pub own_either : (most : ℕ) → most ≤ 64 → (open_bytes lq (waiting_terminate m ∷ last.top ∷ st.frames) + (shape lq m).size + 0x1000 ≤ 0x100_0000 → OwnBarred lq x.image m last w l.spent items) →
       (0x100_0000 < open_bytes lq (waiting_terminate m ∷ last.top ∷ st.frames) + (shape lq m).size + 0x1000 → (j : ℕ) → most ≤ j → OwnOverflows lq x.image x.pick j m last w items) → StacksHoldCalls → FollowsIn x before st w
-  own_either most fits over holds = by (leb_tells (open_bytes lq (waiting_terminate m ∷ last.top ∷ st.frames) + (shape lq m).size + 0x1000) 0x100_0000)
+  own_either most least fits over holds = by (leb_tells (open_bytes lq (waiting_terminate m ∷ last.top ∷ st.frames) + (shape lq m).size + 0x1000) 0x100_0000)
     where
       by : ((leb (open_bytes lq (waiting_terminate m ∷ last.top ∷ st.frames) + (shape lq m).size + 0x1000) 0x100_0000 ≡ true) × (open_bytes lq (waiting_terminate m ∷ last.top ∷ st.frames) + (shape lq m).size + 0x1000 ≤ 0x100_0000))
           ⊎ ((leb (open_bytes lq (waiting_terminate m ∷ last.top ∷ st.frames) + (shape lq m).size + 0x1000) 0x100_0000 ≡ false) × (0x100_0000 < open_bytes lq (waiting_terminate m ∷ last.top ∷ st.frames) + (shape lq m).size + 0x1000)) → FollowsIn x before st w
-      by (inl room) = let b = (fits room.1).1 in goes_on b.left b.begins b.ran.turns b.ran.after b.ran.runs b.ran.holds
-      by (inr lacks) = let first = over lacks.1 most (omega arith) in runs_over first.left first.begins holds most lacks.1 (λ j many. (over lacks.1 j many).ran)
+      by (inl room) = let b = fits room.1 in goes_on b.left b.begins b.ran.turns b.ran.few b.ran.after b.ran.runs b.ran.holds
+      by (inr lacks) = let first = over lacks.1 most (omega arith) in runs_over first.left first.begins holds most least lacks.1 (λ j many. (over lacks.1 j many).ran)

@@ -208,7 +208,7 @@ module _ (x : Run) (q : Plan) (before d : ℕ) (st : State) (w : abi.World) (at 
       let stack : ℕ = frame_for q d active in
       let all : Turns image (c.turns + ran.2.turns) w ran.2.after items = turns_then image c.turns ran.2.turns w c.there ran.2.after [] items c.turned ran.2.runs in
       let many = some_shown image x.pick (c.turns + ran.2.turns) w ran.2.after (Leave e) (Destroy e ∷ []) (made_by_turns image x.pick (c.turns + ran.2.turns) w ran.2.after items all) in
-      steps_follow x q (r stack) before (c.more 3) (c.turns + ran.2.turns) st next w ran.2.after items at.facts at.stands (c.some 3 (omega arith)) calm_all once (omega (arith, many)) ran.1 all
+      steps_follow x q (r stack) before (c.more 3) (c.turns + ran.2.turns) st next w ran.2.after items at.facts at.stands (c.some 3 (omega arith)) calm_all once (omega (arith, many)) (omega (arith, ran.2.few, c.few)) ran.1 all
       (shown stack (c.turns + ran.2.turns) ran.2.after all ran.2.holds)
 
   -- it has none
@@ -234,6 +234,7 @@ module _ (x : Run) (q : Plan) (before d : ℕ) (st : State) (w : abi.World) (at 
         items = Leave e ∷ Destroy e ∷ [];
         shows = ran.1;
         ends = record { turns = c.turns + 22; shows = λ j many. (ends j many).0; ends = λ j many. (ends j many).1 };
+        few = omega (arith, c.few);
       })))
 
   either : OwnDestructorsBegin → DestructorsOverflow → StacksHoldCalls → FollowsIn x before st w

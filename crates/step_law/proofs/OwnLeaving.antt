@@ -1,5 +1,5 @@
 -- How call_unexpected comes to one of its `leave`s, and what is known there.
-use Rattle.std.proofs.Common.{◌≡◌, ◌∙◌, refl, sym, ap, subst, arith, ℕ, suc, ◌+◌, ◌<◌, inl, inr, pos, true, false, List, [], ◌∷◌, Some}
+use Rattle.std.proofs.Common.{◌≡◌, ◌∙◌, refl, sym, ap, subst, arith, ℕ, suc, ◌+◌, ◌<◌, inl, inr, pos, true, false, List, [], ◌∷◌, Some, ◌≤◌}
 use Rattle.cxa_runtime.specs.Raising.{Image}
 use Rattle.cxa_runtime.specs.World as abi
 use Rattle.eh_run.specs.Program.{program_of}
@@ -25,6 +25,9 @@ use Rattle.own_ends.specs.Callers.{CalledBy}
 use Rattle.own_ends.specs.Canceled.{CanceledLeaves}
 use Rattle.own_ends.specs.Leaving.{IsLeaving as IsAtLeave, Leaving}
 use Rattle.whole_runs.proofs.Counts.{quiet_then}
+use Rattle.whole_runs.proofs.Spending.{own_spends}
+use Rattle.cost_turns.specs.Weights.{is_own}
+use Rattle.cost_words.specs.Spends.{spends}
 use Rattle.step_law.specs.Facts.{regions_for, code_for}
 use Rattle.step_law.specs.Own.{StandsAt}
 use Rattle.step_law.specs.OwnLeaves.{IsLeaving}
@@ -52,6 +55,7 @@ pub record Comes (x : Run) (q : Plan) (st : State) (w : abi.World) : Type 0 wher
   pub calmly : (n : ℕ) (next : State) → CalmSteps (code_for x.program) n (at_place place st) next → CalmSteps (code_for x.program) (more n) st next
   pub paid : (n : ℕ) → paying (code_for x.program) (more n) st ≡ paying (code_for x.program) n (at_place place st)
   pub runs_on : (n : ℕ) → exec (code_for x.program) (more n) st ≡ exec (code_for x.program) n (at_place place st)
+  pub few : turns + 24 ≤ spends (code_for x.program) 1 st
 
 -- who called it
 pub called_by : (a : Activation) (fs : List Activation) → a.function ≡ call_unexpected → IsFounded a.function fs → CallsNest (a ∷ fs) → CalledBy fs
@@ -80,8 +84,8 @@ module _ (x : Run) (q : Plan) (before : ℕ) (st : State) (w : abi.World) (at : 
   pub own_stands : StandsIn (unmarked (known_in (regions_for x.program))) code x.carrying at.stands.steps st
   own_stands = unmarked_stands x.program x.image x.carrying x.tables q before st w at.stands
 
-  comes_at : (place word : ℕ) → st.top.place ≡ place → Leaving q place word st w → st.top.function ≡ call_unexpected → Comes x q st w
-  comes_at place word is leaving runs = record {
+  comes_at : (place word : ℕ) → stub_op call_unexpected place ≡ Some (linear (plain leave)) → st.top.place ≡ place → Leaving q place word st w → st.top.function ≡ call_unexpected → Comes x q st w
+  comes_at place word op is leaving runs = record {
     place = place;
     word = word;
     there = w;
@@ -94,6 +98,7 @@ module _ (x : Run) (q : Plan) (before : ℕ) (st : State) (w : abi.World) (at : 
     calmly = λ n next h. subst (λ p. CalmSteps code n (at_place p st) next) (sym is) h;
     paid = λ n. ap (λ p. paying code n (at_place p st)) is;
     runs_on = λ n. ap (λ p. exec code n (at_place p st)) is;
+    few = own_spends code st (linear (plain leave)) 24 (ap is_own runs) (ap (λ f. fetch code f st.top.place) runs ∙ ap (stub_op call_unexpected) is ∙ op) (omega arith);
   }
 
   canceled : CanceledLeaves → (h : ChecksThrown q st w) → h.filter ≡ pos 0 → Comes x q st w
@@ -114,14 +119,15 @@ module _ (x : Run) (q : Plan) (before : ℕ) (st : State) (w : abi.World) (at : 
         calmly = λ n next rest. (calm op, at_place 16 st, one, rest);
         paid = λ n. quiet_then code n st (at_place 16 st) (ap pays op) one;
         runs_on = λ n. ap (go_on (exec code n)) one;
+        few = own_spends code st (linear (jump_filter 5 (pos 0) 16)) (law.1.turns + 24) (ap is_own h.rests.runs) op (omega (arith, law.1.few));
       }
     where
       calm : RunsAt code st (linear (jump_filter 5 (pos 0) 16)) → CalmAt code st
       calm op other also = let same : Some (linear (jump_filter 5 (pos 0) 16)) ≡ Some (linear (plain other)) = sym op ∙ also in absurd (cc same)
 
   pub comes : CanceledLeaves → IsLeaving q st w → Comes x q st w
-  comes run (inl h) = comes_at 15 55 h.place (inl (h, refl, refl)) h.rests.runs
-  comes run (inr (inl h)) = comes_at 16 57 h.there (inr (inl (h, refl, refl))) h.rests.runs
+  comes run (inl h) = comes_at 15 55 refl h.place (inl (h, refl, refl)) h.rests.runs
+  comes run (inr (inl h)) = comes_at 16 57 refl h.there (inr (inl (h, refl, refl))) h.rests.runs
   comes run (inr (inr h)) = canceled run h.0 h.1
 
   module _ (c : Comes x q st w) where

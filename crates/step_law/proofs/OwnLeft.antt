@@ -81,6 +81,7 @@ module _ (x : Run) (q : Plan) (before : ℕ) (st : State) (w : abi.World) (at : 
         over = c.runs_on 2 ∙ own;
         stays = once_stays image x.pick code (c.more 2) st w (omega (arith, few, same));
         no_end = λ why is. let no : not_defined ≡ by_program why = is in absurd (cc no);
+        few = omega (arith, few, same);
       })))
 
   module _ (y : Entry) (ys : List Entry) (caught : st.world.caught ≡ y ∷ ys) where
@@ -125,13 +126,13 @@ module _ (x : Run) (q : Plan) (before : ℕ) (st : State) (w : abi.World) (at : 
         forced = calm_newest x.program x.image x.carrying x.tables at.facts q before (c.more steps) st next w u at.stands (c.calmly steps next calm) turned.unwinding;
       }
 
-      left_on : (steps turns : ℕ) (u : abi.World) (i : Item) (items : List Item) → 0 < steps → CalmSteps code steps here next → paying code steps here ≤ 1 → Shows here next (i ∷ items) → Turns image turns c.there u (i ∷ items) →
+      left_on : (steps turns : ℕ) (u : abi.World) (i : Item) (items : List Item) → 0 < steps → CalmSteps code steps here next → paying code steps here ≤ 1 → turns ≤ 20 → Shows here next (i ∷ items) → Turns image turns c.there u (i ∷ items) →
           ((e : ℕ) → NotEntered (i ∷ items) e) → LeavesOn r c.word (c.place + 1) next u → FollowsIn x before st w
-      left_on steps turns u i items some calm once shows turned none rests =
+      left_on steps turns u i items some calm once least shows turned none rests =
           let all : Turns image (c.turns + turns) w u (i ∷ items) = turns_then image c.turns turns w c.there u [] (i ∷ items) c.turned turned in
           let many = some_shown image x.pick (c.turns + turns) w u i items (made_by_turns image x.pick (c.turns + turns) w u (i ∷ items) all) in
           let paid = c.paid steps in
-          steps_follow x q r before (c.more steps) (c.turns + turns) st next w u (i ∷ items) at.facts at.stands (c.some steps some) (c.calmly steps next calm) (omega (arith, paid, once)) (omega (arith, many)) shows all
+          steps_follow x q r before (c.more steps) (c.turns + turns) st next w u (i ∷ items) at.facts at.stands (c.some steps some) (c.calmly steps next calm) (omega (arith, paid, once)) (omega (arith, many)) (omega (arith, least, c.few)) shows all
           (shown steps (c.turns + turns) u (i ∷ items) calm all none (rests_behind r c.place c.word next u (which x q before st w at c) rests))
 
     same_plan : (r : Plan) → r.unit ≡ q.unit → r.hidden ≡ q.hidden → r.base ≡ q.base → r.tables ≡ q.tables → PlanGoes q r
@@ -154,7 +155,7 @@ module _ (x : Run) (q : Plan) (before : ℕ) (st : State) (w : abi.World) (at : 
         let ran = run.still_handled image q c.place c.word here y ys c.there own_at_leave own_asked.can last in
         let two = own_step x q before st w at first (goes_to (in_catch here 3 no_words v)) (still_step q here y ys caught own_asked.can last) in
         left_on v q (record { calls = refl; last = refl; ending = refl; few = left_fewer st.world.caught }) refl (same_plan q refl refl refl refl) 3 ran.2.turns ran.2.after (Leave y.number) [] (omega arith)
-        (three_calm v two (own_steps 3 (behind here v) ran.0)) (leaves_once code here no_words (here.top ∷ st.frames) st.world (own_quiet x q before st w at c) begins) ran.1 ran.2.runs (λ e. refl) ran.2.holds
+        (three_calm v two (own_steps 3 (behind here v) ran.0)) (leaves_once code here no_words (here.top ∷ st.frames) st.world (own_quiet x q before st w at c) begins) (omega (arith, ran.2.few)) ran.1 ran.2.runs (λ e. refl) ran.2.holds
 
     -- a foreign one is cleaned up
     cleaned : OwnHandlersLeft → (k token : ℕ) → is_last y ≡ true → exception_at st.world y.number ≡ foreign k token → FollowsIn x before st w
@@ -164,7 +165,7 @@ module _ (x : Run) (q : Plan) (before : ℕ) (st : State) (w : abi.World) (at : 
         let ran = run.foreign_cleaned image q c.place c.word here y ys k token c.there own_at_leave last (own_live ∙ ap (λ z. Some z) is) in
         let two = own_step x q before st w at first (goes_to (in_catch here 3 no_words v)) (last_step q here y ys (foreign k token) caught own_asked.can last is) in
         left_on v r (record { calls = refl; last = refl; ending = refl; few = left_fewer st.world.caught }) refl (same_plan r refl refl refl refl) 3 ran.2.turns ran.2.after (Leave y.number) (Clean k token ∷ []) (omega arith)
-        (three_calm v two (own_steps 3 (behind here v) ran.0)) (leaves_once code here no_words (here.top ∷ st.frames) st.world (own_quiet x q before st w at c) begins) ran.1 ran.2.runs (λ e. refl) ran.2.holds
+        (three_calm v two (own_steps 3 (behind here v) ran.0)) (leaves_once code here no_words (here.top ∷ st.frames) st.world (own_quiet x q before st w at c) begins) (omega (arith, ran.2.few)) ran.1 ran.2.runs (λ e. refl) ran.2.holds
 
     -- one without a destructor is freed at once
     freed_now : OwnHandlersLeft → (t : ℕ) (kept : Installed) → is_last y ≡ true → exception_at st.world y.number ≡ native t None kept → FollowsIn x before st w
@@ -200,7 +201,7 @@ module _ (x : Run) (q : Plan) (before : ℕ) (st : State) (w : abi.World) (at : 
           ),
         ) in
         left_on v r (destroyed_less t e fs st.world) refl (same_plan r refl refl refl refl) 5 ran.2.turns ran.2.after (Leave e) (Destroy e ∷ Free e ∷ []) (omega arith) calm
-        (freed_once code here first frame fs d (own_quiet x q before st w at c) begins refl two refl) ran.1 ran.2.runs (λ k. refl) ran.2.holds
+        (freed_once code here first frame fs d (own_quiet x q before st w at c) begins refl two refl) (omega (arith, ran.2.few)) ran.1 ran.2.runs (λ k. refl) ran.2.holds
 
     by_exception : OwnHandlersLeft → is_last y ≡ true → (z : Exception) → exception_at st.world y.number ≡ z → destructor_of z ≡ None → FollowsIn x before st w
     by_exception run last building is none = let no : false ≡ true = ap is_built (sym is) ∙ own_asked.can in absurd (cc no)

@@ -28,6 +28,13 @@ use Rattle.step_law.proofs.ForcedEnds.{forced_terminates, finished_once}
 use Rattle.step_law.proofs.GoingOff.{GoesOff, goes_off, off_forces, off_quiet}
 use Rattle.step_law.proofs.OwnLeaving.{own_same}
 
+-- few turns lead to the end of the function's last operation
+last_few : (f : Function) → last_turns f ≤ 8
+last_few (compiled n) = omega arith
+last_few end_catch = omega arith
+last_few terminating = omega arith
+last_few call_unexpected = omega arith
+
 module _ (x : Run) (q : Plan) (before : ℕ) (f : Function) (z : ℤ) (st : State) (w : abi.World) (at : StandsAt x q before st w) (g : GoesOff x q f z st w) (law : OwnUnwindsEnd) where
   abbrev code : Code
   code = code_for x.program
@@ -65,11 +72,12 @@ module _ (x : Run) (q : Plan) (before : ℕ) (f : Function) (z : ℤ) (st : Stat
           shows = λ j many. (exits_by k v e j many).2.0;
           ends = λ j many. (exits_by k v e j many).2.1 ∙ ap Exit (sym first.0);
         };
+        few = let most = last_few f in omega (arith, most);
       }))
 
   -- both abort
-  both_abort : (turns : ℕ) → paying own 3 last ≤ 1 → ((j : ℕ) → turns ≤ j → LinearEnds q 3 last [] aborted × RunEnds image x.pick j w (last_items f st) Aborted) → FollowsIn x before st w
-  both_abort turns once abort =
+  both_abort : (turns : ℕ) → turns ≤ 64 → paying own 3 last ≤ 1 → ((j : ℕ) → turns ≤ j → LinearEnds q 3 last [] aborted × RunEnds image x.pick j w (last_items f st) Aborted) → FollowsIn x before st w
+  both_abort turns least once abort =
       let first = abort turns (omega arith) in
       let few : paying code 3 last ≤ 1 = subst (λ c. paying c 3 last ≤ 1) (own_same x q before st w at) once in
       let paid = g.paid 3 in
@@ -82,13 +90,14 @@ module _ (x : Run) (q : Plan) (before : ℕ) (f : Function) (z : ℤ) (st : Stat
         items = last_items f st;
         shows = first.0.2 ∙ append-nil last.world.items ∙ g.shows;
         ends = record { turns = turns; shows = λ j many. (abort j many).1.0; ends = λ j many. (abort j many).1.1 };
+        few = omega (arith, least);
       }))
 
   ends_by : (why : End) (v : World) → step code last ≡ finishes (by_program why) v → FollowsIn x before st w
   ends_by (exit k) v e = exits k v e
   ends_by aborted v e =
       let goes = in_own (finishes (by_program aborted) v) e in
-      both_abort (last_turns f) (finished_once own last (by_program aborted) v goes)
+      both_abort (last_turns f) (let few = last_few f in omega (arith, few)) (finished_once own last (by_program aborted) v goes)
       (λ j many. law.aborts_again x.image x.pick j q f z st v w g.unwinds (runs_image x q before st w at.facts at.stands) goes many)
 
   -- no handler is in effect
@@ -99,7 +108,7 @@ module _ (x : Run) (q : Plan) (before : ℕ) (f : Function) (z : ℤ) (st : Stat
       let t = forced_terminates code z last.world next ends last.top last.frames (sym forces ∙ e) in
       let quiet : pays_at own last ≡ false = ap (λ c. pays_at c last) (own_same x q before st w at) ∙ off_quiet x q before z st w at f g in
       let named : image.places.terminate ≡ stub_word q.base terminating 0 = at.facts.named ∙ ap (λ b. stub_word b terminating 0) (sym at.stands.base) in
-      both_abort (last_turns f + 7) (aborts_once own last last.world.installed.terminate_handler t.0 last.world quiet (in_own (terminated last.world.installed.terminate_handler t.0 last.world) (forces ∙ t.1)) (inr none))
+      both_abort (last_turns f + 7) (let few = last_few f in omega (arith, few)) (aborts_once own last last.world.installed.terminate_handler t.0 last.world quiet (in_own (terminated last.world.installed.terminate_handler t.0 last.world) (forces ∙ t.1)) (inr none))
       (λ j many. law.aborts_without x.image x.pick j q f z st next w g.unwinds (runs_image x q before st w at.facts at.stands) g.called goes ends named none many)
 
 -- what is not defined, or a fault
@@ -115,6 +124,7 @@ module _ (x : Run) (q : Plan) (before : ℕ) (f : Function) (z : ℤ) (st : Stat
         over = g.runs_on 1 ∙ ap (go_on (exec (code_for x.program) 0)) e;
         stays = once_stays (program_of x.image).image x.pick (code_for x.program) (g.more 1) st w (omega (arith, few, paid));
         no_end = no_end;
+        few = omega (arith, few, paid);
       })))
 
 -- the same handlers are in effect

@@ -35,6 +35,9 @@ use Rattle.own_ends.specs.Flights.{UnwindsOn}
 use Rattle.own_ends.specs.Resumes.{held_back, freed_on_the_way, OwnFlightsGoOn, CatchFreesOnTheWay}
 use Rattle.whole_runs.proofs.Rounds.{some_shown}
 use Rattle.whole_runs.proofs.Single.{goes_on_one, made_by_turns}
+use Rattle.whole_runs.proofs.Spending.{own_spends}
+use Rattle.cost_turns.specs.Weights.{is_own}
+use Rattle.step_law.proofs.At.{few_pad_words}
 use Rattle.step_law.specs.Facts.{regions_for, needs_for, code_for}
 use Rattle.step_law.specs.Own.{StandsAt}
 use Rattle.step_law.specs.OwnUnwinds.{PassedUnwindsFollow, FreedUnwindsFollow}
@@ -85,7 +88,8 @@ module _ (x : Run) (q : Plan) (before : ℕ) (z : ℤ) (st next : State) (w : ab
       (at.facts.filters q at.stands.unit) goes_on in
       let none = ap one_if (ap pays runs) in
       let calm = resumes_calmly code 4 st runs in
-      inl (goes_on_one image x.pick code st w (Standing x.program x.image x.carrying x.tables) before next [] ran.1.turns ran.1.after h ran.0 (omega (arith, none)) (made_by_turns image x.pick ran.1.turns w ran.1.after [] ran.1.runs) (
+      inl (goes_on_one image x.pick code st w (Standing x.program x.image x.carrying x.tables) before next [] ran.1.turns ran.1.after h ran.0 (omega (arith, none))
+      (own_spends code st (linear (resume 4)) ran.1.turns (ap is_own rests.rests.runs) runs (omega (arith, ran.1.few, few_pad_words next.top.function))) (made_by_turns image x.pick ran.1.turns w ran.1.after [] ran.1.runs) (
         resting q next,
         stands_behind x.program x.image x.carrying x.tables at.facts q (resting q next) before ran.1.turns 1 st next w ran.1.after [] at.stands (Paces.one_step code st (goes_to next) h) (first_calm calm)
             (kept_by_turns image ran.1.turns w ran.1.after [] ran.1.runs)
@@ -193,7 +197,8 @@ module _ (x : Run) (q : Plan) (before : ℕ) (z : ℤ) (st next : State) (w : ab
       let b = ap one_if (ap pays runs_last) in
       let unpaid : paying its_code 2 st ≤ 1 = omega (arith, two, one, a, b) in
       let many = some_shown its_image x.pick m.turns w m.after (Free e) [] (made_by_turns its_image x.pick m.turns w m.after (Free e ∷ []) m.runs) in
-      steps_follow x q r before 2 m.turns st next w m.after (Free e ∷ []) at.facts at.stands (omega arith) calm unpaid (omega (arith, many)) ran.1 m.runs (shown m.turns m.after m.runs m.holds)
+      steps_follow x q r before 2 m.turns st next w m.after (Free e ∷ []) at.facts at.stands (omega arith) calm unpaid (omega (arith, many))
+      (own_spends its_code st (linear (free 0)) m.turns (ap is_own rests.rests.runs) runs_first (omega (arith, m.few, few_pad_words next.top.function))) ran.1 m.runs (shown m.turns m.after m.runs m.holds)
 
 pub freed_unwinds_follow : CatchFreesOnTheWay → FreedUnwindsFollow
 freed_unwinds_follow run x q before z st next w at rests is h goes_on = freed x q before z st next w at rests is h goes_on run

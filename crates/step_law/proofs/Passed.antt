@@ -24,6 +24,9 @@ use Rattle.stub_landings.specs.Rests.{LeavesOn, Rests}
 use Rattle.own_ends.specs.Flights.{FliesOn}
 use Rattle.own_ends.specs.Resumes.{OwnFlightsGoOn}
 use Rattle.whole_runs.proofs.Single.{goes_on_one, made_by_turns, breaks_one}
+use Rattle.whole_runs.proofs.Spending.{own_spends}
+use Rattle.cost_turns.specs.Weights.{is_own}
+use Rattle.step_law.proofs.At.{few_pad_words}
 use Rattle.step_law.specs.Facts.{regions_for, code_for}
 use Rattle.step_law.specs.Standing.{Standing}
 use Rattle.step_law.specs.Rows.{Run, FollowsIn}
@@ -79,6 +82,7 @@ module _ (x : Run) (q : Plan) (before e d : ℕ) (st : State) (w : abi.World) (a
         let paid : pays_at code st ≡ false = ap pays runs in
         let none = ap one_if paid in
         inl (goes_on_one (program_of x.image).image x.pick code st w (Standing x.program x.image x.carrying x.tables) before next [] ran.1.turns ran.1.after h ran.0 (omega (arith, none))
+        (own_spends code st (linear (resume 4)) ran.1.turns (ap is_own rests.rests.runs) runs (omega (arith, ran.1.few, few_pad_words next.top.function)))
         (made_by_turns (program_of x.image).image x.pick ran.1.turns w ran.1.after [] ran.1.runs) (
           r,
           stands_behind x.program x.image x.carrying x.tables at.facts q r before ran.1.turns 1 st next w ran.1.after [] at.stands (Paces.one_step code st (goes_to next) h) first_calm

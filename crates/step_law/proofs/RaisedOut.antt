@@ -50,6 +50,8 @@ use Rattle.stub_landings.specs.Rests.{Rests}
 use Rattle.whole_runs.specs.Turns.{Made}
 use Rattle.whole_runs.specs.Steps.{StaysBehind}
 use Rattle.whole_runs.proofs.Staying.{deepest_grows}
+use Rattle.whole_runs.proofs.Counts.{at_most}
+use Rattle.cost_words.specs.Spends.{spends}
 use Rattle.step_law.specs.Facts.{regions_for, needs_for, code_for, Facts}
 use Rattle.step_law.specs.Standing.{HeaderAims, IsAimed, aims, StandsBy}
 use Rattle.step_law.specs.Rows.{Run, FollowsIn}
@@ -100,8 +102,8 @@ module _ (x : Run) (q : Plan) (before : ℕ) (st : State) (w : abi.World) (facts
   comes = subst (ComesToPad code (type_at v e) d e calls (flies e v)) (sym raises_it) ((flights_come_to_pads code e raising.top raising.frames v).raised d found_it)
 
   -- the pad is none
-  pub no_pad : (f : Final) (u : World) → step code raising ≡ finishes f u → StaysBehind (program_of x.image).image x.pick code (n + 1) st w → FollowsIn x before st w
-  no_pad f u h stays =
+  pub no_pad : (f : Final) (u : World) → step code raising ≡ finishes f u → n ≤ 60 → StaysBehind (program_of x.image).image x.pick code (n + 1) st w → FollowsIn x before st w
+  no_pad f u h least stays =
       let c : ComesToPad code (type_at v e) d e calls (flies e v) (finishes f u) = subst (ComesToPad code (type_at v e) d e calls (flies e v)) h comes in
       let faulty = no_pad_faults (fetch code c.call.function c.pad) (flying e d) c.number c.call.function c.pad c.call.frame c.outer (flies e v) u f (sym c.comes) in
       inr (inr (inr (record {
@@ -111,6 +113,7 @@ module _ (x : Run) (q : Plan) (before : ℕ) (st : State) (w : abi.World) (facts
         over = Paces.leads_run code n 1 st (goes_to raising) leads ∙ ap (go_on (exec code 0)) h;
         stays = stays;
         no_end = λ why ends. let no : fault ≡ by_program why = sym faulty ∙ ends in absurd (cc no);
+        few = let most = at_most code (n + 1) st in omega (arith, most, least);
       })))
 
   inv : StandsIn (unmarked (known_in (regions_for x.program))) code x.carrying stands.steps st
@@ -280,8 +283,8 @@ module _ (x : Run) (q : Plan) (before : ℕ) (st : State) (w : abi.World) (facts
             by z later (inl gone_on) = let no : None ≡ Some z = sym gone_on ∙ later in absurd (cc no)
             by z later (inr same) = kept.unwinding ∙ stands.forced z (sym same ∙ later)
 
-        pub pad_follows : more ≤ turns → Made (program_of x.image).image x.pick turns w u items → paying code (n + 1) st ≤ turns → StaysBehind (program_of x.image).image x.pick code (n + 1) st w → Shows st next items → FollowsIn x before st w
-        pad_follows enough made paid stays shows = inl (record {
+        pub pad_follows : more ≤ turns → Made (program_of x.image).image x.pick turns w u items → paying code (n + 1) st ≤ turns → turns ≤ spends code 1 st → StaysBehind (program_of x.image).image x.pick code (n + 1) st w → Shows st next items → FollowsIn x before st w
+        pad_follows enough made paid least stays shows = inl (record {
           steps = n + 1;
           some = omega arith;
           next = next;
@@ -291,6 +294,7 @@ module _ (x : Run) (q : Plan) (before : ℕ) (st : State) (w : abi.World) (facts
           shows = shows;
           turns = turns;
           paid = paid;
+          few = least;
           after = u;
           made = made;
           stands = (r, pad_stands enough);

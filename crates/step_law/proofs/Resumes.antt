@@ -5,7 +5,7 @@ use Rattle.eh_run.specs.Program.{program_of}
 use Rattle.region_forms.specs.World.{flying, World, type_at}
 use Rattle.linear_forms.specs.Linear.{resume}
 use Rattle.linear_forms.specs.Stub.{Function, compiled, end_catch, terminating, call_unexpected}
-use Rattle.linear_forms.specs.Activation.{Activation, State, Code, Next, goes_to, finishes, by_program, fault, fetch}
+use Rattle.linear_forms.specs.Activation.{Activation, State, Code, Next, goes_to, finishes, by_program, fault, fetch, look}
 use Rattle.linear_forms.specs.Machine.{step}
 use Rattle.linear_forms.specs.Operation.{resumed}
 use Rattle.linear_forms.specs.Pace.{pays_at, one_if, Leads}
@@ -27,11 +27,13 @@ use Rattle.stub_landings.specs.Landings.{resting, ResumesLand}
 use Rattle.stub_landings.specs.Rests.{Rests}
 use Rattle.whole_runs.proofs.Rounds.{pays_known}
 use Rattle.whole_runs.proofs.Single.{goes_on_one, made_by_turns, breaks_one}
+use Rattle.linear_forms.specs.Unwinding.{unwind}
+use Rattle.whole_runs.proofs.Landing.{AtPad, Lands, unwind_lands, at_pad}
 use Rattle.step_law.specs.Facts.{regions_for, needs_for, code_for}
 use Rattle.step_law.specs.Standing.{Standing}
 use Rattle.step_law.specs.Rows.{Run, IsAt, FollowsIn}
 use Rattle.step_law.specs.Raises.{ResumesFollow}
-use Rattle.step_law.proofs.At.{fetches, same_code, step_acts, step_at}
+use Rattle.step_law.proofs.At.{fetches, same_code, step_acts, step_at, pad_paid}
 use Rattle.step_law.proofs.Exceptions.{calm_other}
 use Rattle.step_law.proofs.Keeping.{NotEntered, CalmAt, kept_by_turns, unmarked_stands, calm_forced, ShownBehind, stands_behind}
 use Rattle.step_law.proofs.Several.{no_pad_faults}
@@ -54,6 +56,9 @@ module _ (x : Run) (q : Plan) (before n s e d : ℕ) (st : State) (w : abi.World
 
   resume_calm : CalmAt code st
   resume_calm = calm_other x q before n (resume s) st w at (λ op same. cc same)
+
+  resumes_it : step code st ≡ unwind code (look code st.top.function st.top.place) d e st.top.function st.top.frame st.frames st.world
+  resumes_it = step_acts x q before n (resume s) st w at ∙ ap (λ y. resumed code y st.top st.frames st.world) is
 
   module _ (next : State) (h : step code st ≡ goes_to next) where
     comes_there : ComesToPad code (type_at st.world e) d e here st.world (goes_to next)
@@ -96,13 +101,17 @@ module _ (x : Run) (q : Plan) (before n s e d : ℕ) (st : State) (w : abi.World
       forced = calm_forced x.program x.image x.carrying x.tables q before st next w u at.facts at.stands h resume_calm turned.unwinding;
     }
 
+    -- the landing pad is in front of its place
+    lands_at : AtPad code next
+    lands_at = at_pad code (step code st) next (subst (Lands code) (sym resumes_it) (unwind_lands code (look code st.top.function st.top.place) d e st.top.function st.top.frame st.frames st.world)) h goes_on
+
     follows : ResumesLand → FollowsIn x before st w
     follows run =
         let ran = run x.image q n s e d st next w at.matches (is_running x q before n (resume s) st w at) (step_at x q before n (resume s) st w at next h) (resume_asked x q before n s st w at e d is)
         (at.facts.pads q at.stands.unit) (at.facts.filters q at.stands.unit) goes_on in
         let paid : pays_at code st ≡ false = subst (λ c. pays_at c st ≡ false) (same_code x q before n (resume s) st w at) (pays_known (program_of x.image).image x.pick q st w n (resume s) at.runs at.there) in
         let none = ap one_if paid in
-        inl (goes_on_one (program_of x.image).image x.pick code st w (Standing x.program x.image x.carrying x.tables) before next [] ran.1.turns ran.1.after h ran.0 (omega (arith, none))
+        inl (goes_on_one (program_of x.image).image x.pick code st w (Standing x.program x.image x.carrying x.tables) before next [] ran.1.turns ran.1.after h ran.0 (omega (arith, none)) (pad_paid x q before n (resume s) st w at next ran.1.turns h refl lands_at ran.1.few)
         (made_by_turns (program_of x.image).image x.pick ran.1.turns w ran.1.after [] ran.1.runs) (
           r,
           stands_behind x.program x.image x.carrying x.tables at.facts q r before ran.1.turns 1 st next w ran.1.after [] at.stands (Paces.one_step code st (goes_to next) h) first_calm

@@ -179,7 +179,7 @@ module _ (x : Run) (q : Plan) (before n : ℕ) (y : Entry) (ys : List Entry) (st
 
   aborts : RethrowsDoom → (st.world.ending ≡ true) ⊎ (handler ≡ None) → FollowsIn x before st w
   aborts run none =
-      aborts_here x q before n o st w at_op v st.world items handler lost none (unless_ending st.world items) (length (linear_code (shape q n) o) + 10)
+      aborts_here x q before n o st w at_op v st.world items handler lost none (unless_ending st.world items) (length (linear_code (shape q n) o) + 10) (omega arith)
       (λ k many. run.aborts x.image x.pick k q n y ys st w at_op.matches (is_running x q before n o st w at_op) rethrows_here none many)
 
   either : RethrowsDoom → RethrowsOverflow → StacksHoldCalls → (m : ℕ) → st.world.ending ≡ false → handler ≡ Some m → FollowsIn x before st w
@@ -188,9 +188,9 @@ module _ (x : Run) (q : Plan) (before n : ℕ) (y : Entry) (ys : List Entry) (st
       either_here x q before n o st w at_op v st.world items handler lost m quiet some
       (λ room.
       let ran = run.calls_the_handler x.image q n m y ys st w at_op.matches (is_running x q before n o st w at_op) rethrows_here quiet some hidden room in
-      begins_here x q before n o st w at_op v st.world items handler lost m quiet some (length (linear_code (shape q n) o) + 11) ran.0.0 ran.0.1 ran.1)
+      begins_here x q before n o st w at_op v st.world items handler lost m quiet some (length (linear_code (shape q n) o) + 11) (omega arith) ran.0.0 ran.0.1 ran.1)
       (λ lacks.
-      overflows_here x q before n o st w at_op v st.world items handler lost m quiet some lacks holds (length (linear_code (shape q n) o) + 13)
+      overflows_here x q before n o st w at_op v st.world items handler lost m quiet some lacks holds (length (linear_code (shape q n) o) + 13) (omega arith)
       (λ k many. over x.image x.pick k q n m y ys st w at_op.matches (is_running x q before n o st w at_op) rethrows_here quiet some hidden lacks many))
 
   whatever : RethrowsDoom → RethrowsOverflow → StacksHoldCalls → FollowsIn x before st w

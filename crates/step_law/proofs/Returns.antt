@@ -1,12 +1,12 @@
 -- Returns to calls of compiled functions, and the ends of a run by main and by exit.
-use Rattle.std.proofs.Common.{◌≡◌, ◌∙◌, refl, sym, ap, subst, arith, ℕ, zero, suc, ◌+◌, ◌≤◌, ◌<◌, inl, inr, ℤ, List, [], ◌∷◌, length, append-nil, Option, Some, None}
+use Rattle.std.proofs.Common.{◌≡◌, ◌∙◌, refl, sym, ap, subst, arith, ℕ, zero, suc, ◌+◌, ◌≤◌, ◌<◌, inl, inr, ℤ, List, [], ◌∷◌, length, append-nil, Option, Some, None, false}
 use Rattle.std.specs.Prelude.{slice_get}
 use Rattle.cxx_ast.specs.declared.name.Builtin.TheVariants.{Exit}
 use Rattle.rv64_isa.specs.Step as isa
 use Rattle.cxa_runtime.specs.World as abi
 use Rattle.eh_run.specs.Program.{program_of}
 use Rattle.meaning_forms.specs.Outcome.{exit}
-use Rattle.region_forms.specs.Form.{SlotKind, int_slot, address_slot, object_slot, help_slot, Place, Value, Arguments, store, int_argument, no_arguments, argument_then}
+use Rattle.region_forms.specs.Form.{SlotKind, int_slot, address_slot, object_slot, help_slot, Place, Value, Arguments, store, int_argument, no_arguments, argument_then, Root, in_slot, through, in_global}
 use Rattle.region_forms.specs.World.{Word, Frame, World}
 use Rattle.region_forms.specs.Evaluation.{Location, locate, words_in}
 use Rattle.region_forms.specs.Effect.{Effect, goes, calls, raises, terminates, ends, cancels, leaves_newest, meaningless, stored_at, finished, if_some, number_at, result_in}
@@ -27,7 +27,7 @@ use Rattle.machine_pieces.specs.Frames.{SlotFits}
 use Rattle.machine_pieces.specs.Turning.{Turns}
 use Rattle.machine_simulation.specs.Plan.{Plan, function, shape, slot_kinds}
 use Rattle.machine_simulation.specs.Asked.{WantedAsked}
-use Rattle.machine_simulation.specs.Calls.{CallsWait, wanted, stored_behind}
+use Rattle.machine_simulation.specs.Calls.{CallsWait, wanted, stored_behind, stored_in}
 use Rattle.machine_simulation.specs.Ending.{MainsEnd}
 use Rattle.machine_simulation.specs.Exits.{CallsExit, ExitsEnd}
 use Rattle.machine_simulation.specs.Matches.{Matches}
@@ -52,11 +52,16 @@ use Rattle.operation_premises.proofs.Coded.{code_is_static}
 use Rattle.whole_runs.specs.Steps.{GoesOn as RoundGoesOn}
 use Rattle.whole_runs.proofs.Rounds.{matched_goes_on}
 use Rattle.whole_runs.proofs.Single.{breaks_one, ends_one}
+use Rattle.cost_words.specs.Spends.{op_weight}
+use Rattle.cost_words.proofs.Counts.{return_words}
+use Rattle.machine_forms.specs.PlaceCode.{root_stored}
+use Rattle.machine_forms.specs.Shape.{Shape}
+use Rattle.machine_forms.specs.Registers.{register}
 use Rattle.step_law.specs.Facts.{regions_for, needs_for, code_for}
 use Rattle.step_law.specs.Standing.{Standing}
 use Rattle.step_law.specs.Rows.{Run, IsAt, FollowsIn, ReturnsFollow, MainsFollow, ExitsFollow}
 use Rattle.step_law.proofs.Aligned.{CallsAlign, align_return}
-use Rattle.step_law.proofs.At.{there_is, is_static, fetches, same_code, step_acts, step_at}
+use Rattle.step_law.proofs.At.{there_is, is_static, fetches, same_code, step_acts, step_at, own_paid, weight_paid, end_paid}
 use Rattle.step_law.proofs.Builtins.{WantedStatic, WantedRoom, given_effect, builtin_is, one_value, one_asked, kinds_same}
 use Rattle.step_law.proofs.Keeping.{NotEntered, CalmAt, kept_by_turns, calm_forced, stands_behind}
 use Rattle.machine_simulation.proofs.Items.{step_items}
@@ -90,6 +95,16 @@ settled_only leaves_newest a fs w = refl
 pub returned_only : (code : Code) (o : Option ℤ) (a : Activation) (fs : List Activation) (w : World) → OnlyUndefined (returned_with code o (a ∷ fs) w)
 returned_only code None a fs w = refl
 returned_only code (Some z) a fs w = settled_only _ a fs w
+
+-- a store has few words
+root_words : (f : Shape) (r : Root) (n : ℕ) → length (root_stored f (register 0) (register 1) r n) ≤ 2
+root_words f (in_slot s) n = omega arith
+root_words f (through s) n = omega arith
+root_words f (in_global g) n = omega arith
+
+stored_words : (f : Shape) (q : Option Place) → length (stored_in f q) ≤ 2
+stored_words f None = omega arith
+stored_words f (Some p) = root_words f p.root p.offset
 
 module _ (x : Run) (q : Plan) (before n : ℕ) (o : LinearOp) (st : State) (w : abi.World) (at : IsAt x q before n o st w) where
   pub undefined_breaks : (f : Final) (v : World) → step (code_for x.program) st ≡ finishes f v → f ≡ not_defined → FollowsIn x before st w
@@ -227,6 +242,13 @@ module _ (x : Run) (q : Plan) (before n : ℕ) (r : Option ℕ) (st : State) (w 
           first_calm zero middle few leads = let one : st ≡ middle = cc leads in subst (λ s. CalmAt code s) one return_calm
           first_calm (suc j) middle few leads = absurd (omega (arith, few))
 
+      -- a return and a store have few words
+      return_weighs : length (linear_code (shape q n) (return r)) + length (stored_behind (shape q m) waits.waits.op) ≤ op_weight false (linear (return r))
+      return_weighs =
+          let back = return_words (shape q n) r in
+          let stored = stored_words (shape q m) (wanted waits.waits.op) in
+          omega (arith, back, stored)
+
       returns_on : ReturnsRun → FollowsIn x before st w
       returns_on run =
           let most : ℕ = length (linear_code (shape q n) (return r)) + length (stored_behind (shape q m) waits.waits.op) in
@@ -250,7 +272,8 @@ module _ (x : Run) (q : Plan) (before n : ℕ) (r : Option ℕ) (st : State) (w 
             nothing_shown = refl;
           })))) in
           inl (subst (λ y. RoundGoesOn (program_of x.image).image x.pick y (Standing x.program x.image x.carrying x.tables) before st w) (same_code x q before n (return r) st w at)
-          (matched_goes_on (program_of x.image).image x.pick q st w (Standing x.program x.image x.carrying x.tables) before next n (return r) most [] (λ u. Matches p next u) step_is_at (omega arith) (step_items q p st next most [] made)
+          (matched_goes_on (program_of x.image).image x.pick q st w (Standing x.program x.image x.carrying x.tables) before next n (return r) most [] (λ u. Matches p next u) step_is_at (omega arith)
+          (own_paid x q before n (return r) st w at most (weight_paid x q before n (return r) st w at most return_weighs)) (step_items q p st next most [] made)
           (run (program_of x.image).image q n m st next w a fs r waits.waits.op at.matches at.runs at.there frames callee waits.waits.there result asked step_is_at.step) (λ turns u turned matches. stands turns u turned matches)))
 
     pub returns_to : ReturnsRun → FollowsIn x before st w
@@ -283,7 +306,7 @@ mains_follow over x q before n r st w at alone = by (result_in r st.top.frame st
           turns = 6;
           shows = λ k many. (over (program_of x.image).image x.pick k q n st w r z st.world at.matches at.runs at.there alone result own many).0;
           ends = λ k many. (over (program_of x.image).image x.pick k q n st w r z st.world at.matches at.runs at.there alone result own many).1;
-        })))
+        }) (end_paid x q before n (return r) st w at 6 (omega arith))))
 
 -- ---- exit is called
 
@@ -315,4 +338,4 @@ exits_follow over x q before n v o st w at exits = by (words_in (slot_kinds q n)
           turns = length (linear_code (shape q n) o);
           shows = λ k many. (over (program_of x.image).image x.pick k q n st w o v (number_at given 0) st.world at.matches at.runs at.there exits asked own many).0;
           ends = λ k many. (over (program_of x.image).image x.pick k q n st w o v (number_at given 0) st.world at.matches at.runs at.there exits asked own many).1;
-        })))
+        }) (end_paid x q before n o st w at (length (linear_code (shape q n) o)) (omega arith))))

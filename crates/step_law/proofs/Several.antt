@@ -56,4 +56,5 @@ breaks_behind x st middle w how v first second free also no_end = record {
   over = ap (go_on (exec (code_for x.program) 1)) first ∙ ap (go_on (exec (code_for x.program) 0)) second;
   stays = once_stays (program_of x.image).image x.pick (code_for x.program) 2 st w (omega (arith, Paces.tally_step (code_for x.program) (pays_at (code_for x.program)) 1 st middle first, Paces.tally_once (code_for x.program) (pays_at (code_for x.program)) middle, free, also));
   no_end = no_end;
+  few = (let two = Paces.tally_step (code_for x.program) (pays_at (code_for x.program)) 1 st middle first in let last = Paces.tally_once (code_for x.program) (pays_at (code_for x.program)) middle in omega (arith, two, last, free, also));
 }

@@ -1,5 +1,5 @@
 -- An exception that an operation of a compiled function raises, and that something stops, in a whole run.
-use Rattle.std.proofs.Common.{◌≡◌, ◌∙◌, refl, sym, ap, subst, arith, ℕ, ◌+◌, ◌≤◌, ◌<◌, inl, inr, ℤ, true, false, List, ◌∷◌, Option, Some, None}
+use Rattle.std.proofs.Common.{◌≡◌, ◌∙◌, refl, sym, ap, subst, arith, ℕ, ◌+◌, ◌≤◌, ◌<◌, inl, inr, ℤ, true, false, List, ◌∷◌, Option, Some, None, length}
 use Rattle.run_items.specs.declared.item.Item.{Item}
 use Rattle.meaning_forms.specs.Class.{contains}
 use Rattle.cxx_ast.specs.Plain.{Checked}
@@ -34,7 +34,7 @@ use Rattle.linear_invariant.proofs.ForcedRuns.{steps_keep_forced}
 use Rattle.linear_invariant.proofs.Lists.{few_flown}
 use Rattle.source_bounds.specs.Compiled.{unit_for}
 use Rattle.machine_forms.specs.Registers.{sp}
-use Rattle.machine_simulation.specs.Plan.{Plan}
+use Rattle.machine_simulation.specs.Plan.{Plan, shape}
 use Rattle.machine_simulation.specs.Calls.{IsBegun}
 use Rattle.machine_simulation.specs.Objects.{Shows}
 use Rattle.machine_raises.specs.Throws.{HasAim}
@@ -43,16 +43,19 @@ use Rattle.address_invariant.specs.Reaching.{IsBegunCall, VariablesLie, CallsRea
 use Rattle.address_invariant.specs.Laws.{GoesOn}
 use Rattle.address_invariant.proofs.Newest.{newest_was_made}
 use Rattle.address_invariant.proofs.Steps.{steps_reach}
-use Rattle.stub_landings.specs.Landings.{GoesOn as NotDoomed}
+use Rattle.stub_landings.specs.Landings.{GoesOn as NotDoomed, pad_words}
 use Rattle.stub_landings.specs.Rests.{Rests}
 use Rattle.whole_runs.specs.Turns.{Made}
 use Rattle.whole_runs.proofs.Rounds.{pays_known}
 use Rattle.whole_runs.proofs.Single.{goes_on_one}
+use Rattle.machine_forms.specs.LinearCode.{linear_code}
+use Rattle.cost_turns.specs.Runs.{may_land}
+use Rattle.whole_runs.proofs.Landing.{AtPad, Lands, raise_lands, at_pad}
 use Rattle.step_law.specs.Facts.{regions_for, needs_for, code_for, Facts}
 use Rattle.step_law.specs.Standing.{HeaderAims, StandsBy, Standing}
 use Rattle.step_law.specs.Rows.{Run, IsAt, FollowsIn}
 use Rattle.step_law.proofs.Aligned.{CallsAlign}
-use Rattle.step_law.proofs.At.{fetches, same_code, step_acts}
+use Rattle.step_law.proofs.At.{fetches, same_code, step_acts, pad_paid}
 use Rattle.step_law.proofs.Bounded.{aims_below}
 use Rattle.step_law.proofs.Keeping.{RuntimeKept, NotEntered, unmarked_stands, PlanGoes, ShownBehind}
 use Rattle.step_law.proofs.Landing.{LandsIn, lands_in, lands_aligned, lands_once}
@@ -92,9 +95,10 @@ pub record PlanGains (q r : Plan) (st : State) (e : ℕ) (v : World) : Type 0 wh
   pub objects : ObjectsReach (extents_of r) (flies e v)
 
 -- what laws say of the world of the ABI machine there
-pub record LandsAbove (x : Run) (q r : Plan) (st next : State) (w u : abi.World) (e turns : ℕ) (items : List Item) : Type 0 where
+pub record LandsAbove (x : Run) (q r : Plan) (st next : State) (w u : abi.World) (e most turns : ℕ) (items : List Item) : Type 0 where
   pub shows : Shows st next items
   pub made : Made (program_of x.image).image x.pick turns w u items
+  pub few : turns ≤ most
   pub kept : RuntimeKept w u items
   pub none : (y : ℕ) → NotEntered items y
   pub rests : Rests r next u
@@ -115,6 +119,10 @@ module _ (x : Run) (q : Plan) (before n : ℕ) (o : LinearOp) (st next : State) 
 
   raises_it : step code st ≡ raise code e st.top st.frames v
   raises_it = step_acts x q before n o st w here_at ∙ ap (λ y. act code y st.top st.frames st.world) is ∙ ap (λ y. performed code y st.top st.frames st.world) does
+
+  -- it comes to a landing pad
+  lands_at : AtPad code next
+  lands_at = at_pad code (step code st) next (subst (Lands code) (sym raises_it) (raise_lands code e st.top st.frames v)) goes on
 
   -- something stops it
   record IsStopped : Type 0 where
@@ -189,7 +197,7 @@ module _ (x : Run) (q : Plan) (before n : ℕ) (o : LinearOp) (st next : State) 
           by terminating same new = tt
           by call_unexpected same new = tt
 
-      module _ (turns : ℕ) (u : abi.World) (items : List Item) (l : LandsAbove x q r st next w u e turns items) where
+      module _ (turns : ℕ) (u : abi.World) (items : List Item) (l : LandsAbove x q r st next w u e (length (linear_code (shape q n) o) + pad_words next.top.function) turns items) where
         aligned : CallsAlign q r here there
         aligned = lands_aligned q r gains.goes.frames here (flies e v) next lands
 
@@ -233,11 +241,11 @@ module _ (x : Run) (q : Plan) (before n : ℕ) (o : LinearOp) (st next : State) 
         follows_by =
             let paid : pays_at code st ≡ false = subst (λ c. pays_at c st ≡ false) (same_code x q before n o st w here_at) (pays_known (program_of x.image).image x.pick q st w n o here_at.runs here_at.there ∙ unpaid) in
             let none = ap one_if paid in
-            inl (goes_on_one (program_of x.image).image x.pick code st w (Standing x.program x.image x.carrying x.tables) before next items turns u goes l.shows (omega (arith, none)) l.made (
+            inl (goes_on_one (program_of x.image).image x.pick code st w (Standing x.program x.image x.carrying x.tables) before next items turns u goes l.shows (omega (arith, none)) (pad_paid x q before n o st w here_at next turns goes (ap (λ y. may_land (Some (linear y))) is) lands_at l.few) l.made (
               r,
               raised_behind x.program x.image x.carrying x.tables here_at.facts q r before turns st next w u items here_at.stands e s.depth goes new_marked l.kept shown aimed,
             ))
 
   -- a raise that lands is followed
-  pub stopped_follows : MayTravel st e v → (r : Plan) → PlanGains q r st e v → (turns : ℕ) (u : abi.World) (items : List Item) → LandsAbove x q r st next w u e turns items → FollowsIn x before st w
+  pub stopped_follows : MayTravel st e v → (r : Plan) → PlanGains q r st e v → (turns : ℕ) (u : abi.World) (items : List Item) → LandsAbove x q r st next w u e (length (linear_code (shape q n) o) + pad_words next.top.function) turns items → FollowsIn x before st w
   stopped_follows may r gains turns u items l = follows_by is_stopped may r gains turns u items l

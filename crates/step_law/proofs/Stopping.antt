@@ -48,7 +48,7 @@ use Rattle.step_law.specs.Facts.{regions_for, needs_for, code_for}
 use Rattle.step_law.specs.Rows.{Run, IsAt, FollowsIn}
 use Rattle.step_law.specs.Passing.{StoppedTerminates}
 use Rattle.step_law.proofs.Aligned.{align_push, itself}
-use Rattle.step_law.proofs.At.{fetches}
+use Rattle.step_law.proofs.At.{fetches, weight_paid}
 use Rattle.step_law.proofs.CalledFirst.{SomeUnshown, called_unshown}
 use Rattle.step_law.proofs.Exceptions.{spared_others, calm_other}
 use Rattle.step_law.proofs.Facing.{newest_made}
@@ -210,7 +210,7 @@ module _ (x : Run) (q : Plan) (before n o s type : ℕ) (d : Option ℕ) (kept :
     without : UnexpectedTerminates → (st.world.ending ≡ true) ⊎ (kept.terminate_handler ≡ None) → FollowsIn x before st w
     without run none_called =
         let most = length (linear_code (shape q n) (unexpected o s)) + 19 in
-        abort_behind x q before st w here.facts here.stands 6 most items (stays 6 (omega arith))
+        abort_behind x q before st w here.facts here.stands 6 most items (omega arith) (stays 6 (omega arith))
         (λ k many. run.aborts_without (program_of x.image).image x.pick k q n o s e asked.selector type d kept st w here.matches stopped none named none_called many)
 
     with_one : UnexpectedTerminates → TerminateHandlersOverflow → StacksHoldCalls → (m : ℕ) → st.world.ending ≡ false → kept.terminate_handler ≡ Some m → FollowsIn x before st w
@@ -225,12 +225,12 @@ module _ (x : Run) (q : Plan) (before n o s type : ℕ) (d : Option ℕ) (kept :
         let most = at_most code 5 st in
         handler_begins x q before st w here.facts here.stands 3 last v items 1 kept.terminate_handler lost m quiet some q
         (record { frames = itself q; base = refl; tables = refl }) reach_last reaches.turns reaches.after (kept_by_turns (program_of x.image).image reaches.turns w reaches.after items reaches.runs)
-        made reaches.holds (omega (arith, later)) (omega (arith, later, most, unshown.enough)) (stays 5 (omega arith)) ran.1)
+        made reaches.holds (omega (arith, later)) (omega (arith, later, most, unshown.enough)) (weight_paid x q before n (unexpected o s) st w here reaches.turns (omega (arith, reaches.few))) (stays 5 (omega arith)) ran.1)
         (λ lacks.
         let most = length (linear_code (shape q n) (unexpected o s)) + 24 in
         let ran = λ (k : ℕ) (many : most ≤ k). over.without (program_of x.image).image x.pick k q n o s e asked.selector type d kept m st w here.matches stopped none
         (record { named = named; quiet = quiet; some = some; hidden = hidden; lacks = lacks }) many in
-        handler_overflows x q before st w here.facts here.stands 3 last v items 1 kept.terminate_handler lost m quiet some lacks holds most (stays 5 (omega arith)) (ran most (omega arith)).shown (λ k many. (ran k many).run))
+        handler_overflows x q before st w here.facts here.stands 3 last v items 1 kept.terminate_handler lost m quiet some lacks holds most (omega arith) (stays 5 (omega arith)) (ran most (omega arith)).shown (λ k many. (ran k many).run))
 
     follows : UnexpectedTerminates → TerminateHandlersOverflow → StacksHoldCalls → FollowsIn x before st w
     follows run over holds = with_or_without x q before st w here.facts here.stands 3 last v items 1 kept.terminate_handler lost (without run) (with_one run over holds)

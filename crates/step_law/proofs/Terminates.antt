@@ -121,7 +121,7 @@ module _ (x : Run) (q : Plan) (before n : ℕ) (o : LinearOp) (st : State) (w : 
 
   aborts : TerminatesRun → (st.world.ending ≡ true) ⊎ (handler ≡ None) → FollowsIn x before st w
   aborts run none =
-      aborts_here x q before n o st w at_op st.world st.world [] handler lost none [] (length (linear_code (shape q n) o) + 10)
+      aborts_here x q before n o st w at_op st.world st.world [] handler lost none [] (length (linear_code (shape q n) o) + 10) (omega arith)
       (λ k many. let ended = run.aborts (program_of x.image).image x.pick k q n st w at_op.matches at_end none many in ((ended.0.0, ended.0.1, ended.0.2 ∙ sym (append-nil st.world.items)), ended.1))
 
   either : TerminatesRun → TerminatesOverflow → StacksHoldCalls → (m : ℕ) → st.world.ending ≡ false → handler ≡ Some m → FollowsIn x before st w
@@ -130,9 +130,9 @@ module _ (x : Run) (q : Plan) (before n : ℕ) (o : LinearOp) (st : State) (w : 
       either_here x q before n o st w at_op st.world st.world [] handler lost m quiet some
       (λ room.
       let ran = run.calls_the_handler (program_of x.image).image q n m st w at_op.matches at_end quiet some hidden room in
-      begins_here x q before n o st w at_op st.world st.world [] handler lost m quiet some (length (linear_code (shape q n) o) + 13) ran.0 (ran.1 ∙ sym (append-nil st.world.items)) ran.2)
+      begins_here x q before n o st w at_op st.world st.world [] handler lost m quiet some (length (linear_code (shape q n) o) + 13) (omega arith) ran.0 (ran.1 ∙ sym (append-nil st.world.items)) ran.2)
       (λ lacks.
-      overflows_here x q before n o st w at_op st.world st.world [] handler lost m quiet some lacks holds 15
+      overflows_here x q before n o st w at_op st.world st.world [] handler lost m quiet some lacks holds 15 (omega arith)
       (λ k many. over (program_of x.image).image x.pick k q n m st w at_op.matches at_end quiet some hidden lacks many))
 
   whatever : TerminatesRun → TerminatesOverflow → StacksHoldCalls → FollowsIn x before st w

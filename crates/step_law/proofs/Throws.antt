@@ -54,10 +54,11 @@ rests_gains q st next e v last objects = record {
 
 -- what laws of landings say, where nothing is shown
 pub lands_above : (x : Run) (q : Plan) (st next : State) (w : abi.World) (e words : ℕ) → Shows st next [] →
-    (ran : RaisedTo q x.image st next w e (isa.x w.hart sp) words (λ u. Rests (resting q next) next u)) → LandsAbove x q (resting q next) st next w ran.ran.after e ran.ran.turns []
+    (ran : RaisedTo q x.image st next w e (isa.x w.hart sp) words (λ u. Rests (resting q next) next u)) → LandsAbove x q (resting q next) st next w ran.ran.after e words ran.ran.turns []
 lands_above x q st next w e words shows ran = record {
   shows = shows;
   made = made_by_turns (program_of x.image).image x.pick ran.ran.turns w ran.ran.after [] ran.ran.runs;
+  few = ran.ran.few;
   kept = kept_by_turns (program_of x.image).image ran.ran.turns w ran.ran.after [] ran.ran.runs;
   none = λ y. refl;
   rests = ran.ran.holds.0;

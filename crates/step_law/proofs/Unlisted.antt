@@ -101,7 +101,7 @@ module _ (x : Run) (q : Plan) (before e d type type0 : ℕ) (destructor destruct
       let j = number x q before st w e d a.out a.few type destructor kept a.native a.may in
       let says = list_answers x q before st w e d a.out a.few type destructor kept a.native a.may (pos 2) a.says in
       with_or_without x q before st w a.out.here.facts a.out.here.stands 5 last v (Enter e ∷ []) 1 kept0.terminate_handler lost
-      (λ none. out_aborts x q before st w e d a.out a.few type destructor kept a.native a.may 5 last v (Enter e) [] 1 kept0.terminate_handler lost (omega arith) (omega arith) 8 30 (Enter e ∷ []) (omega arith)
+      (λ none. out_aborts x q before st w e d a.out a.few type destructor kept a.native a.may 5 last v (Enter e) [] 1 kept0.terminate_handler lost (omega arith) (omega arith) 8 30 (Enter e ∷ []) (omega arith) (omega arith)
       (λ k many. run.aborts x.image x.pick k q e d type destructor kept j type0 destructor0 kept0 st w out says lives named none many))
       (λ m quiet some.
       let hidden = a.out.here.stands.hides quiet in
@@ -110,10 +110,10 @@ module _ (x : Run) (q : Plan) (before e d type type0 : ℕ) (destructor destruct
       let ran = run.calls_the_handler x.image q e d type destructor kept j m type0 destructor0 kept0 st w out says lives named quiet some hidden room in
       let reaches = ran.2 in
       out_begins x q before st w e d a.out a.few type destructor kept a.native a.may 5 last v (Enter e) [] 1 kept0.terminate_handler lost (omega arith) (omega arith) m quiet some q (record { frames = itself q; base = refl; tables = refl })
-      (own_reach x q a.out.here.facts 5 a.out.here.stands.steps st last (inv x q before st w e d a.out) a.out.here.stands.reaches own) reaches.turns reaches.after
+      (own_reach x q a.out.here.facts 5 a.out.here.stands.steps st last (inv x q before st w e d a.out) a.out.here.stands.reaches own) reaches.turns reaches.after (omega (arith, reaches.few))
       (made_by_turns (program_of x.image).image x.pick reaches.turns w reaches.after (Enter e ∷ []) reaches.runs) (kept_by_turns (program_of x.image).image reaches.turns w reaches.after (Enter e ∷ []) reaches.runs) reaches.holds ran.1)
       (λ lacks.
-      out_overflows x q before st w e d a.out a.few type destructor kept a.native a.may 5 last v (Enter e) [] 1 kept0.terminate_handler lost (omega arith) (omega arith) m quiet some lacks holds 35 7
+      out_overflows x q before st w e d a.out a.few type destructor kept a.native a.may 5 last v (Enter e) [] 1 kept0.terminate_handler lost (omega arith) (omega arith) m quiet some lacks holds 35 7 (omega arith)
       (λ k many. over.unlisted x.image x.pick k q e d type destructor kept j m type0 destructor0 kept0 st w out says lives (record { named = named; quiet = quiet; some = some; hidden = hidden; lacks = lacks }) many)))
 
 pub unlisted_follows : UnlistedTerminates → TerminateHandlersOverflow → StacksHoldCalls → UnlistedFollows

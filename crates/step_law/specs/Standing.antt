@@ -5,7 +5,7 @@ use Rattle.caught_stack.specs.declared.header.Header.{Header}
 use Rattle.elf_image.specs.Clean.{CleanImage}
 use Rattle.cxa_runtime.specs.World as abi
 use Rattle.region_forms.specs.World.{Word, flying}
-use Rattle.linear_forms.specs.Stub.{Function, compiled, call_unexpected}
+use Rattle.linear_forms.specs.Stub.{Function, compiled}
 use Rattle.linear_forms.specs.Activation.{Activation, State}
 use Rattle.flight_homes.specs.Keeps.{Carrying}
 use Rattle.flight_homes.specs.Lives.{known_in}

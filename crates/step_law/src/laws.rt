@@ -1,7 +1,7 @@
 // The step law: calls of no effect, whose contracts state what holds of every checked program.
 ghost use Rattle.step_law.specs.Barred.{BarredFollow};
 ghost use Rattle.step_law.specs.Breaks.{BreaksFollow};
-ghost use Rattle.step_law.specs.Complete.{CheckedImagesAreCompiled};
+ghost use Rattle.step_law.specs.Complete.{CheckedImagesAreCompiled, CheckedImagesGoOn, CheckedImagesHaveEnough};
 ghost use Rattle.step_law.specs.Dooms.{DoomsFollow};
 ghost use Rattle.step_law.specs.Facts.{FactsStand};
 ghost use Rattle.step_law.specs.Filters.{FiltersFollow};
@@ -25,7 +25,7 @@ ghost use Rattle.step_law.specs.Throws.{RethrowsFollow, ThrowsFollow};
 ghost use Rattle.step_law.specs.Unexpected.{UnexpectedBreaks, UnexpectedFollows};
 
 use builtin_calls::laws::builtin_calls_fit;
-use compiled_runs::laws::images_are_compiled;
+use compiled_runs::laws::{images_are_compiled, images_have_enough};
 use handler_overflows::laws::{
     dooms_overflow, forced_unwinds_overflow, modules_overflow, rethrows_overflow,
     terminates_overflow,
@@ -479,9 +479,9 @@ pub fn checks_follow()
     own_destructors_begin_follow();
 }
 
-/// The image of a checked program is the compiled program: what its runs show, and how they end, is what the program means.
-pub fn checked_images_are_compiled()
-    ensures { CheckedImagesAreCompiled }
+/// In the image of a checked program steps of linear code go on as turns from where main begins.
+pub fn checked_images_go_on()
+    ensures { CheckedImagesGoOn }
 {
     facts_stand();
     starts_stand();
@@ -529,5 +529,20 @@ pub fn checked_images_are_compiled()
     own_destructors_begin_follow();
     builtin_calls_fit();
     checked_is_linkable();
+}
+
+/// The image of a checked program is the compiled program: what its runs show, and how they end, is what the program means.
+pub fn checked_images_are_compiled()
+    ensures { CheckedImagesAreCompiled }
+{
+    checked_images_go_on();
     images_are_compiled();
+}
+
+/// So many instructions are enough for its runs: they come to the end of what the program means with fewer turns, or show all that it shows with these.
+pub fn checked_images_have_enough()
+    ensures { CheckedImagesHaveEnough }
+{
+    checked_images_go_on();
+    images_have_enough();
 }

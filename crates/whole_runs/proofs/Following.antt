@@ -148,6 +148,7 @@ module _ (image : Image) (pick : ℕ → ℕ) (code : Code) (most : ℕ) where
           shows = g.shows;
           turns = g.turns;
           paid = g.paid;
+          few = g.few;
           after = g.after;
           made = g.made;
           stands = rest (before + g.turns) g.next g.after g.stands;

@@ -4,6 +4,8 @@ pub mod Arriving
 pub mod Staying
 pub mod Counts
 pub mod Single
-pub mod Pieces
 pub mod Rounds
 pub mod Following
+pub mod Spending
+pub mod Landing
+pub mod Sufficing

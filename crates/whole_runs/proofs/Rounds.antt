@@ -17,18 +17,18 @@ use Rattle.linear_forms.specs.UnitRun.{code_of}
 use Rattle.linear_forms.proofs.Paces
 use Rattle.machine_forms.specs.LinearCode.{linear_code}
 use Rattle.machine_forms.proofs.Paying.{paying_takes_words}
-use Rattle.machine_pieces.specs.Turning.{Turns, ForcedTurns, Reaches, ForcedReaches}
+use Rattle.machine_pieces.specs.Turning.{Turns, Reaches}
 use Rattle.machine_simulation.specs.Plan.{Plan, function, shape}
 use Rattle.machine_simulation.specs.Objects.{Shows}
-use Rattle.machine_simulation.specs.Operations.{Matched, ForcedMatched}
+use Rattle.machine_simulation.specs.Operations.{Matched}
 use Rattle.machine_simulation.specs.Steps.{StepAt}
 use Rattle.machine_exceptions.specs.Leaves.{StepsTo}
-use Rattle.machine_exceptions.specs.Picks.{TurnsFor, MatchedFor}
+use Rattle.cost_words.specs.Spends.{spends}
 use Rattle.whole_runs.specs.Turns.{Invariant, Made}
 use Rattle.whole_runs.specs.Steps.{end_of, GoesOn, Ends, Overflows}
 use Rattle.whole_runs.proofs.Counts.{at_most}
 use Rattle.whole_runs.proofs.Staying.{once_stays}
-use Rattle.whole_runs.proofs.Single.{made_by_turns, made_by_forced, goes_on_one}
+use Rattle.whole_runs.proofs.Single.{made_by_turns, goes_on_one}
 
 -- steps one after the other lead on
 pub leads_by : (code : Code) (n : ℕ) (st next : State) → StepsTo code n st next → Leads code n st (goes_to next)
@@ -60,6 +60,10 @@ module _ (image : Image) (pick : ℕ → ℕ) (p : Plan) (st : State) (w : abi.W
   pub pays_known : (n : ℕ) (o : LinearOp) → st.top.function ≡ compiled n → slice_get (function p n).ops st.top.place ≡ Some o → pays_at (code_of p.unit) st ≡ linear_pays o
   pays_known n o runs there = ap (λ f. pays (fetch (code_of p.unit) f st.top.place)) runs ∙ ap (λ x. pays (compiled_op x)) there
 
+  -- it is the operation there
+  pub fetches_known : (n : ℕ) (o : LinearOp) → st.top.function ≡ compiled n → slice_get (function p n).ops st.top.place ≡ Some o → fetch (code_of p.unit) st.top.function st.top.place ≡ Some (linear o)
+  fetches_known n o runs there = ap (λ f. fetch (code_of p.unit) f st.top.place) runs ∙ ap compiled_op there
+
   -- it has words then, and so takes a turn
   takes_turn : (n : ℕ) (o : LinearOp) (most turns : ℕ) → st.top.function ≡ compiled n → slice_get (function p n).ops st.top.place ≡ Some o → length (linear_code (shape p n) o) ≤ most → (0 < most → 0 < turns)
       → one_if (pays_at (code_of p.unit) st) ≤ turns
@@ -68,30 +72,16 @@ module _ (image : Image) (pick : ℕ → ℕ) (p : Plan) (st : State) (w : abi.W
 
   module _ (S : Invariant) (before : ℕ) where
     -- a step that is matched, by no fewer turns than its operation has words, or none
-    pub matched_goes_on : (next : State) (n : ℕ) (o : LinearOp) (most : ℕ) (items : List Item) (P : abi.World → Type 0) → StepAt p st next n o → length (linear_code (shape p n) o) ≤ most → Shows st next items
+    pub matched_goes_on : (next : State) (n : ℕ) (o : LinearOp) (most : ℕ) (items : List Item) (P : abi.World → Type 0) → StepAt p st next n o → length (linear_code (shape p n) o) ≤ most → most ≤ spends (code_of p.unit) 1 st → Shows st next items
         → Matched image most w items P → ((turns : ℕ) (u : abi.World) → Turns image turns w u items → P u → S (before + turns) next u) → GoesOn image pick (code_of p.unit) S before st w
-    matched_goes_on next n o most items P at words shows m stands =
-        goes_on_one image pick (code_of p.unit) st w S before next items m.turns m.after at.step shows (takes_turn n o most m.turns at.runs at.there words m.some)
+    matched_goes_on next n o most items P at words few shows m stands =
+        goes_on_one image pick (code_of p.unit) st w S before next items m.turns m.after at.step shows (takes_turn n o most m.turns at.runs at.there words m.some) (omega (arith, few, m.few))
         (made_by_turns image pick m.turns w m.after items m.runs) (stands m.turns m.after m.runs m.holds)
-
-    -- where a forced unwind may begin
-    pub forced_goes_on : (next : State) (n : ℕ) (o : LinearOp) (most : ℕ) (items : List Item) (P : abi.World → Type 0) → StepAt p st next n o → length (linear_code (shape p n) o) ≤ most → Shows st next items
-        → ForcedMatched image most w items P → ((turns : ℕ) (u : abi.World) → ForcedTurns image turns w u items → P u → S (before + turns) next u) → GoesOn image pick (code_of p.unit) S before st w
-    forced_goes_on next n o most items P at words shows m stands =
-        goes_on_one image pick (code_of p.unit) st w S before next items m.turns m.after at.step shows (takes_turn n o most m.turns at.runs at.there words m.some)
-        (made_by_forced image pick m.turns w m.after items m.runs) (stands m.turns m.after m.runs m.holds)
-
-    -- where a slot is picked
-    pub picked_goes_on : (next : State) (n : ℕ) (o : LinearOp) (most : ℕ) (items : List Item) (P : abi.World → Type 0) → StepAt p st next n o → length (linear_code (shape p n) o) ≤ most → Shows st next items
-        → MatchedFor image pick most w items P → ((turns : ℕ) (u : abi.World) → TurnsFor image pick turns w u items → P u → S (before + turns) next u) → GoesOn image pick (code_of p.unit) S before st w
-    picked_goes_on next n o most items P at words shows m stands =
-        goes_on_one image pick (code_of p.unit) st w S before next items m.turns m.after at.step shows (takes_turn n o most m.turns at.runs at.there words m.some)
-        (record { run = m.runs.run }) (stands m.turns m.after m.runs m.holds)
 
     -- several steps, of which at most one pays, and turns that are some if it does
     pub steps_go_on_made : (steps : ℕ) (next : State) (items : List Item) (turns : ℕ) (u : abi.World) → 0 < steps → StepsTo (code_of p.unit) steps st next → paying (code_of p.unit) steps st ≤ 1 → Shows st next items
-        → paying (code_of p.unit) steps st ≤ turns → Made image pick turns w u items → S (before + turns) next u → GoesOn image pick (code_of p.unit) S before st w
-    steps_go_on_made steps next items turns u some leads once shows paid made stands = record {
+        → paying (code_of p.unit) steps st ≤ turns → turns ≤ spends (code_of p.unit) 1 st → Made image pick turns w u items → S (before + turns) next u → GoesOn image pick (code_of p.unit) S before st w
+    steps_go_on_made steps next items turns u some leads once shows paid few made stands = record {
       steps = steps;
       some = some;
       next = next;
@@ -101,29 +91,23 @@ module _ (image : Image) (pick : ℕ → ℕ) (p : Plan) (st : State) (w : abi.W
       shows = shows;
       turns = turns;
       paid = paid;
+      few = few;
       after = u;
       made = made;
       stands = stands;
     }
 
-    pub reaches_goes_on : (steps : ℕ) (next : State) (items : List Item) (most : ℕ) (P : abi.World → Type 0) → 0 < steps → StepsTo (code_of p.unit) steps st next → paying (code_of p.unit) steps st ≤ 1 → Shows st next items
+    pub reaches_goes_on : (steps : ℕ) (next : State) (items : List Item) (most : ℕ) (P : abi.World → Type 0) → 0 < steps → StepsTo (code_of p.unit) steps st next → paying (code_of p.unit) steps st ≤ 1 → most ≤ spends (code_of p.unit) 1 st → Shows st next items
         → Reaches image most w items P → ((turns : ℕ) (u : abi.World) → Turns image turns w u items → P u → (paying (code_of p.unit) steps st ≤ turns) × S (before + turns) next u)
         → GoesOn image pick (code_of p.unit) S before st w
-    reaches_goes_on steps next items most P some leads once shows m stands =
+    reaches_goes_on steps next items most P some leads once few shows m stands =
         let h = stands m.turns m.after m.runs m.holds in
-        steps_go_on_made steps next items m.turns m.after some leads once shows h.0 (made_by_turns image pick m.turns w m.after items m.runs) h.1
-
-    pub forced_reaches_goes_on : (steps : ℕ) (next : State) (items : List Item) (most : ℕ) (P : abi.World → Type 0) → 0 < steps → StepsTo (code_of p.unit) steps st next → paying (code_of p.unit) steps st ≤ 1
-        → Shows st next items → ForcedReaches image most w items P → ((turns : ℕ) (u : abi.World) → ForcedTurns image turns w u items → P u → (paying (code_of p.unit) steps st ≤ turns) × S (before + turns) next u)
-        → GoesOn image pick (code_of p.unit) S before st w
-    forced_reaches_goes_on steps next items most P some leads once shows m stands =
-        let h = stands m.turns m.after m.runs m.holds in
-        steps_go_on_made steps next items m.turns m.after some leads once shows h.0 (made_by_forced image pick m.turns w m.after items m.runs) h.1
+        steps_go_on_made steps next items m.turns m.after some leads once shows h.0 (omega (arith, few, m.few)) (made_by_turns image pick m.turns w m.after items m.runs) h.1
 
   -- the program ends, and each run of enough turns
-  pub runs_end : (steps most : ℕ) (why : source.End) (v : World) (items : List Item) → exec (code_of p.unit) steps st ≡ over (by_program why) v → paying (code_of p.unit) steps st ≤ 1 → v.items ≡ st.world.items ++ items
+  pub runs_end : (steps most : ℕ) (why : source.End) (v : World) (items : List Item) → exec (code_of p.unit) steps st ≡ over (by_program why) v → paying (code_of p.unit) steps st ≤ 1 → most ≤ spends (code_of p.unit) 1 st + 64 → v.items ≡ st.world.items ++ items
       → ((k : ℕ) → most ≤ k → ((run image pick k w).items ≡ items) × ((run image pick k w).end ≡ end_of why)) → Ends image pick (code_of p.unit) st w
-  runs_end steps most why v items ends once shows h = record {
+  runs_end steps most why v items ends once few shows h = record {
     steps = steps;
     why = why;
     world = v;
@@ -132,12 +116,13 @@ module _ (image : Image) (pick : ℕ → ℕ) (p : Plan) (st : State) (w : abi.W
     items = items;
     shows = shows;
     ends = record { turns = most; shows = λ n le. (h n le).0; ends = λ n le. (h n le).1 };
+    few = few;
   }
 
   -- the stack is used up where the last of some steps opens a call
-  pub steps_overflow : (steps : ℕ) (next : State) (most : ℕ) (items : List Item) → StepsTo (code_of p.unit) steps st next → paying (code_of p.unit) steps st ≤ 1 → 4096 ≤ next.world.deepest → Shows st next items
+  pub steps_overflow : (steps : ℕ) (next : State) (most : ℕ) (items : List Item) → StepsTo (code_of p.unit) steps st next → paying (code_of p.unit) steps st ≤ 1 → most ≤ spends (code_of p.unit) 1 st + 64 → 4096 ≤ next.world.deepest → Shows st next items
       → ((k : ℕ) → most ≤ k → ((run image pick k w).items ≡ items) × ((run image pick k w).end ≡ ends.Stack)) → Overflows image pick (code_of p.unit) st w
-  steps_overflow steps next most items leads once deep shows h = record {
+  steps_overflow steps next most items leads once few deep shows h = record {
     steps = steps;
     next = next;
     leads = leads_by (code_of p.unit) steps st next leads;
@@ -146,8 +131,9 @@ module _ (image : Image) (pick : ℕ → ℕ) (p : Plan) (st : State) (w : abi.W
     items = items;
     shows = shows;
     ends = record { turns = most; shows = λ k le. (h k le).0; ends = λ k le. (h k le).1 };
+    few = few;
   }
 
-  pub step_overflows : (next : State) (n : ℕ) (o : LinearOp) (most : ℕ) (items : List Item) → StepAt p st next n o → 4096 ≤ next.world.deepest → Shows st next items
+  pub step_overflows : (next : State) (n : ℕ) (o : LinearOp) (most : ℕ) (items : List Item) → StepAt p st next n o → most ≤ spends (code_of p.unit) 1 st + 64 → 4096 ≤ next.world.deepest → Shows st next items
       → ((k : ℕ) → most ≤ k → ((run image pick k w).items ≡ items) × ((run image pick k w).end ≡ ends.Stack)) → Overflows image pick (code_of p.unit) st w
-  step_overflows next n o most items at deep shows h = steps_overflow 1 next most items (next, at.step, refl) (at_most (code_of p.unit) 1 st) deep shows h
+  step_overflows next n o most items at few deep shows h = steps_overflow 1 next most items (next, at.step, refl) (at_most (code_of p.unit) 1 st) few deep shows h

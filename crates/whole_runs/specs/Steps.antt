@@ -12,6 +12,7 @@ use Rattle.linear_forms.specs.Activation.{Code, State, Final, by_program, goes_t
 use Rattle.linear_forms.specs.Machine.{over, exec}
 use Rattle.linear_forms.specs.Pace.{pays_at, paying, Leads}
 use Rattle.linear_simulation.specs.ProgramRuns.{BeginsWith}
+use Rattle.cost_words.specs.Spends.{spends}
 use Rattle.whole_runs.specs.Turns.{Invariant, Made, EndsSo}
 
 -- an end of the program on the ABI machine
@@ -25,7 +26,8 @@ abbrev pub StaysBehind : Image → (ℕ → ℕ) → Code → ℕ → State → 
 StaysBehind image pick code steps st w = (n k : ℕ) (last : State) → n < steps → Leads code n st (goes_to last) → pays_at code last ≡ true → k ≤ paying code n st →
     BeginsWith (st.world.items ++ (run image pick k w).items) last.world.items × ((run image pick k w).end ≡ ends.Budget)
 
--- Steps lead to a state in which the invariant holds again. Each that may pay for a turn has a turn of the ABI machine, which shows the same items.
+-- Steps lead to a state in which the invariant holds again. Each that may pay for a turn has a turn of the ABI machine, which shows the same items. The first of
+-- them pays for all these turns.
 pub record GoesOn (image : Image) (pick : ℕ → ℕ) (code : Code) (S : Invariant) (before : ℕ) (st : State) (w : abi.World) : Type 0 where
   pub steps : ℕ
   pub some : 0 < steps
@@ -36,11 +38,12 @@ pub record GoesOn (image : Image) (pick : ℕ → ℕ) (code : Code) (S : Invari
   pub shows : next.world.items ≡ st.world.items ++ items
   pub turns : ℕ
   pub paid : paying code steps st ≤ turns
+  pub few : turns ≤ spends code 1 st
   pub after : abi.World
   pub made : Made image pick turns w after items
   pub stands : S (before + turns) next after
 
--- the program ends in so many steps, and on the ABI machine so too
+-- the program ends in so many steps, and on the ABI machine so too, for which the first of them pays but for a few turns
 pub record Ends (image : Image) (pick : ℕ → ℕ) (code : Code) (st : State) (w : abi.World) : Type 0 where
   pub steps : ℕ
   pub why : source.End
@@ -50,6 +53,7 @@ pub record Ends (image : Image) (pick : ℕ → ℕ) (code : Code) (st : State) 
   pub items : List Item
   pub shows : world.items ≡ st.world.items ++ items
   pub ends : EndsSo image pick w items (end_of why)
+  pub few : ends.turns ≤ spends code 1 st + 64
 
 -- steps lead to a state in which, or before which, 4,096 calls were open, and on the ABI machine the stack is used up on the way
 pub record Overflows (image : Image) (pick : ℕ → ℕ) (code : Code) (st : State) (w : abi.World) : Type 0 where
@@ -61,8 +65,9 @@ pub record Overflows (image : Image) (pick : ℕ → ℕ) (code : Code) (st : St
   pub items : List Item
   pub shows : next.world.items ≡ st.world.items ++ items
   pub ends : EndsSo image pick w items ends.Stack
+  pub few : ends.turns ≤ spends code 1 st + 64
 
--- in so many steps linear code comes to what is not defined, or to a fault
+-- in so many steps, of which few may pay for a turn, linear code comes to what is not defined, or to a fault
 pub record Breaks (image : Image) (pick : ℕ → ℕ) (code : Code) (st : State) (w : abi.World) : Type 0 where
   pub steps : ℕ
   pub how : Final
@@ -70,6 +75,7 @@ pub record Breaks (image : Image) (pick : ℕ → ℕ) (code : Code) (st : State
   pub over : exec code steps st ≡ over how world
   pub stays : StaysBehind image pick code steps st w
   pub no_end : (why : source.End) → how ≡ by_program why → ⊥
+  pub few : paying code steps st ≤ 64
 
 abbrev pub Follows : Image → (ℕ → ℕ) → Code → Invariant → ℕ → State → abi.World → Type 0
 Follows image pick code S before st w = GoesOn image pick code S before st w ⊎ Ends image pick code st w ⊎ Overflows image pick code st w ⊎ Breaks image pick code st w

@@ -1,5 +1,6 @@
 // Laws of whole runs: calls of no effect, whose contracts state what holds of every image.
 ghost use Rattle.whole_runs.specs.Deepest.{DeepestGrows};
+ghost use Rattle.whole_runs.specs.Enough.{RunsSuffice};
 ghost use Rattle.whole_runs.specs.Runs.{RunsFollowSteps};
 
 /// Behind steps of linear code no fewer calls were open at most than before.
@@ -11,4 +12,9 @@ pub fn deepest_grows()
 /// items, or those of a front of it, and ends as it does, unless its turns are used up, or the stack where 4,096 calls are open.
 pub fn runs_follow_steps()
     ensures { RunsFollowSteps }
+{}
+
+/// And where its turns are enough for the steps of linear code, it comes to where these come, or the stack is used up.
+pub fn runs_suffice()
+    ensures { RunsSuffice }
 {}
