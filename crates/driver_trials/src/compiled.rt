@@ -188,6 +188,44 @@ fn again(rt: HostRuntime) -> Result<(), Fail> {
     Ok(())
 }
 
+/// A source, as many steps as are enough by its tokens and by the calls and loop tests that it makes, and what its run writes.
+struct Sufficing {
+    source: &'static str,
+    words: &'static [&'static str],
+    lines: &'static str,
+}
+
+static SUFFICING: &[Sufficing] = &[
+    // 14 tokens, and main's call: 2 * (128 * 14 + 4,096).
+    Sufficing {
+        source: "int main() { write_int(5); return 3; }",
+        words: &["run", "SRC", "--max=11776"],
+        lines: "5\n= exit 3\n",
+    },
+    // 33 tokens, main's call and four loop tests: 6 * (128 * 33 + 4,096).
+    Sufficing {
+        source: "int main() { int i = 0; while (i < 3) { write_int(i); i = i + 1; } return 0; }",
+        words: &["run", "SRC", "--max=49920"],
+        lines: "0\n1\n2\n= exit 0\n",
+    },
+];
+
+#[test]
+fn enough_steps(rt: HostRuntime) -> Result<(), Fail> {
+    for trial in SUFFICING {
+        let mut store = holding(rt.alloc(), trial.source, b"", &[])?;
+        let seen = answered(rt.alloc(), trial.words, &mut store)?;
+        assert_eq!(rt; seen.status, Status::Done, "{}", trial.source);
+        assert_eq!(rt;
+            seen.out.bytes(),
+            trial.lines.as_bytes(),
+            "{}",
+            trial.source
+        );
+    }
+    Ok(())
+}
+
 /// Words of `run` with the calls of the store that fail, and what is answered.
 struct Refusal {
     words: &'static [&'static str],

@@ -22,19 +22,21 @@ use Rattle.meaning_forms.specs.declared.ending.MeanEnd.TheVariants as meanings
 use Rattle.meaning_forms.specs.Meaning.{program_meaning}
 use Rattle.cxa_runtime.specs.Kept.{replies_of}
 use Rattle.cxa_runtime.specs.Run.{Ran}
+use Rattle.compiled_runs.specs.Enough.{HasEnd, HasEnough, enough_for}
 use Rattle.compiled_runs.specs.Given.{IsGiven}
-use Rattle.step_law.specs.Complete.{CheckedImagesAreCompiled}
+use Rattle.step_law.specs.Complete.{CheckedImagesAreCompiled, CheckedImagesHaveEnough}
 use Rattle.gen_source.specs.Laws.{SourcesAreValid}
 use Rattle.eh_commands.specs.declared.status.Status.{Status}
 use Rattle.eh_commands.specs.File.{Asked}
 use Rattle.eh_commands.specs.RunEnd.{run_lines, status_of_run}
 use Rattle.eh_commands.specs.RunSource.{CompiledRunsThis}
 use Rattle.eh_driver.proofs.EventsHeld.{LawsOfEvents, run_holds}
-use Rattle.eh_driver.specs.Promise.{AreBytes, AreCompiled, ShowsMeant, meaning_for}
+use Rattle.eh_driver.specs.Promise.{AreBytes, AreCompiled, ShowsMeant, ShowsEnd, ShowsAll, meaning_for, shorter_meaning}
 
 -- the laws of what is compiled, and of what is generated to be compiled
 pub record CompilerLaws : Type 0 where
   pub compiled : CheckedImagesAreCompiled
+  pub enough : CheckedImagesHaveEnough
   pub linkable : CheckedIsLinkable
   pub small : ImagesAreSmall
   pub events : LawsOfEvents
@@ -76,6 +78,7 @@ module _ (laws : CompilerLaws) (source : List ℕ) (p : Program) (program : IsPr
             words = laws.small.words (emitted_for (checked p)) linkable;
             small = laws.small.bytes (emitted_for (checked p)) linkable;
             compiled = laws.compiled (checked p) is bytes i read stands;
+            enough = laws.enough (checked p) is bytes i read stands;
             events = λ input replies n r means. run_holds laws.events (program_meaning (checked p) input replies n (n + 1)) r (laws.events.right (checked p) input replies n (n + 1)) means;
           }
       by (Err fault) read stands = absurd stands
@@ -91,3 +94,18 @@ module _ (laws : CompilerLaws) (source : List ℕ) (p : Program) (program : IsPr
       let given : IsGiven input (replies_of a.modules) = record { bytes = ints; few = few; ints = asked.ints } in
       let means = compiled.means input (replies_of a.modules) a.turns r given asked.turns run defined in
       (r, this, means, run_holds laws.events (meaning_for a p input) r (laws.events.right (checked p) input (replies_of a.modules) a.turns (a.turns + 1)) means, end, took.gains)
+
+  -- with enough steps for a meaning with fewer turns
+  module _ (a : Asked) (asked : IsAsked a) (input : List ℕ) (ints : AreBytes input) (turns : ℕ) (many : enough_for (checked p) turns ≤ a.turns) (out out' : SinkView) (status : Status) (r : Ran)
+      (this : CompiledRunsThis a r (checked p) input) (end : status ≡ status_of_run r.end) (took : TakesAll (run_lines a.trace a.count r) out out') where
+    enough : HasEnough (checked p) this.1.0
+    enough = laws.enough (checked p) (is_checked source p program holds) bytes this.1.0 this.1.1 (subst (λ y. IsOkAnd y (UnitStands (emitted_for (checked p)))) this.1.1 this.0)
+
+    given : IsGiven input (replies_of a.modules)
+    given = record { bytes = ints; few = subst (λ n. n ≤ 64) (sym (length-map a.modules (λ (seen : ModuleView). seen.rest))) asked.few; ints = asked.ints }
+
+    pub end_shown : HasEnd (shorter_meaning a p turns input).end → ShowsEnd a p turns input out out' status
+    end_shown some = (r, this.1, enough.ends input (replies_of a.modules) turns a.turns r given asked.turns many this.1.2 some, end, took.gains)
+
+    pub all_shown : (shorter_meaning a p turns input).end ≡ meanings.OutOfTurns → ((meaning_for a p input).end ≡ meanings.Undefined → ⊥) → ShowsAll a p turns input out out' status
+    all_shown gone defined = (r, this.1, enough.goes input (replies_of a.modules) turns a.turns r given asked.turns many this.1.2 gone defined, end, took.gains)

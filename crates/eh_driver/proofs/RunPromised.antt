@@ -14,8 +14,8 @@ use Rattle.eh_commands.specs.declared.status.Status.TheVariants.{Done, Usage, So
 use Rattle.eh_commands.specs.File.{Asked, ToldBoth, source_limit}
 use Rattle.eh_commands.specs.RunEnd.{run_lines, status_of_run}
 use Rattle.eh_commands.specs.RunSource.{CompiledRunsThis, SourceRunsThis, RunCause}
-use Rattle.eh_driver.specs.Promise.{MeanUndisturbed, ShowsImage, ShowsMeant, RunPromise}
-use Rattle.eh_driver.proofs.MeantShown.{CompilerLaws, IsAsked, meant_shown}
+use Rattle.eh_driver.specs.Promise.{MeanUndisturbed, ShowsImage, ShowsMeant, ShowsEnd, ShowsAll, RunPromise}
+use Rattle.eh_driver.proofs.MeantShown.{CompilerLaws, IsAsked, meant_shown, end_shown, all_shown}
 use Rattle.eh_commands.proofs.Sources.{valid_same, not_refused, same_refusal}
 use Rattle.eh_driver.proofs.MeanPromised.{both_of, both_read, both_short}
 
@@ -95,5 +95,11 @@ run_promised laws a asked old new out out' status cause = record {
       printed_so a source input old new out out' u p program holds (ShowsImage a p input out out') (image_shown a p input out out') status cause;
   means = λ source input p u program holds ints defined.
       printed_so a source input old new out out' u p program holds (ShowsMeant a p input out out') (meant_shown laws source p program holds a asked input ints defined out out') status cause;
+  ends = λ source input p turns u program holds ints many some.
+      printed_so a source input old new out out' u p program holds (ShowsEnd a p turns input out out')
+      (λ status r this end took. end_shown laws source p program holds a asked input ints turns many out out' status r this end took some) status cause;
+  goes_on = λ source input p turns u program holds ints many gone defined.
+      printed_so a source input old new out out' u p program holds (ShowsAll a p turns input out out')
+      (λ status r this end took. all_shown laws source p program holds a asked input ints turns many out out' status r this end took gone defined) status cause;
   refuses = λ source input number place u is. refuses_so a source input old new out out' u number place is status cause;
 }

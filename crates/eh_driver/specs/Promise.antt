@@ -10,7 +10,7 @@ use Rattle.command_line.specs.declared.command.Verb.{Verb}
 use Rattle.command_line.specs.declared.command.Verb.TheVariants.{Compile, Run, Exec, Mean, Check, Dump, Frames, Gen}
 use Rattle.command_line.specs.Command.{CommandView, source_size}
 use Rattle.eh_outer.specs.Module.{ModuleView}
-use Rattle.meaning_forms.specs.declared.ending.MeanEnd.TheVariants.{Undefined}
+use Rattle.meaning_forms.specs.declared.ending.MeanEnd.TheVariants.{Undefined, OutOfTurns}
 use Rattle.meaning_forms.specs.Meaning.{Meaning, program_meaning}
 use Rattle.scope_meaning.specs.Mean.{meant}
 use Rattle.eh_commands.specs.Words.{asked}
@@ -33,7 +33,10 @@ use Rattle.elf_image.specs.Reports.{reported}
 use Rattle.elf_image.specs.Runnable.{runnable}
 use Rattle.cxa_runtime.specs.Kept.{replies_of}
 use Rattle.cxa_runtime.specs.Run.{Ran}
-use Rattle.compiled_runs.specs.Compiled.{Compiled, IsCut, RunMeans}
+use Rattle.cxa_runtime.specs.declared.effect.End.TheVariants as ends
+use Rattle.linear_simulation.specs.ProgramRuns.{BeginsWith}
+use Rattle.compiled_runs.specs.Compiled.{Compiled, EndsAs, IsCut, RunMeans}
+use Rattle.compiled_runs.specs.Enough.{HasEnd, HasEnough, enough_for}
 use Rattle.eh_outer.specs.declared.module.Reply.{Reply}
 use Rattle.eh_run.specs.Program.{program_of}
 use Rattle.eh_run.specs.Runs.{IsRun}
@@ -52,13 +55,15 @@ pub record Undisturbed (limit : ℕ) (name source : List ℕ) (old new : StoreVi
   pub sink : Rose out.faults out'.faults → ⊥
 
 -- The bytes are an image that can be run, with so many words of code and so many bytes for its program's tokens at most, and that is the compiled program:
--- what its runs show, and how they end, is what the program means. So the exceptions of each run that is what the program means are handled as promised.
+-- what its runs show, and how they end, is what the program means; and so many instructions are enough for them. So the exceptions of each run that is what the
+-- program means are handled as promised.
 pub record AreCompiled (p : Checked) (bytes : List ℕ) : Type 0 where
   pub image : CleanImage
   pub read : runnable bytes ≡ Ok image
   pub words : length (all_code (emitted_for p)) ≤ 128 * p.program.tokens + 4096
   pub small : length bytes ≤ 768 * p.program.tokens + 131072
   pub compiled : Compiled p image
+  pub enough : HasEnough p image
   pub events : (input : List ℕ) (replies : List (List Reply)) (n : ℕ) (r : Ran) → let m = program_meaning p input replies n (n + 1) in RunMeans m r → EventsHold m r.items (IsCut r.end → ⊥)
 
 -- Where nothing disturbs: the image of a valid source, which is the compiled program, is stored under its name, and the told files are else as before; a
@@ -98,14 +103,37 @@ ShowsMeant a p input out out' status =
     (r : Ran) × RunsThis a r (image_for (checked p)) input × RunMeans (meaning_for a p input) r × EventsHold (meaning_for a p input) r.items (IsCut r.end → ⊥) × (status ≡ status_of_run r.end) ×
     Gains (bytes_of (run_lines a.trace a.count r)) out out'
 
+-- what it means with fewer turns
+abbrev pub shorter_meaning : Asked → Program → (turns : ℕ) → List ℕ → Meaning
+shorter_meaning a p turns input = program_meaning (checked p) input (replies_of a.modules) turns (turns + 1)
+
+-- so that this run comes to the end of that, or the stack is used up, where 4,096 calls were open
+abbrev pub ShowsEnd : Asked → Program → (turns : ℕ) → List ℕ → SinkView → SinkView → Status → Type 0
+ShowsEnd a p turns input out out' status =
+    (r : Ran) × RunsThis a r (image_for (checked p)) input ×
+    (((r.items ≡ (shorter_meaning a p turns input).items) × EndsAs (shorter_meaning a p turns input).end r.end) ⊎ ((r.end ≡ ends.Stack) × (4096 ≤ (shorter_meaning a p turns input).deepest))) ×
+    (status ≡ status_of_run r.end) × Gains (bytes_of (run_lines a.trace a.count r)) out out'
+
+-- or so that it has shown all that this shows
+abbrev pub ShowsAll : Asked → Program → (turns : ℕ) → List ℕ → SinkView → SinkView → Status → Type 0
+ShowsAll a p turns input out out' status =
+    (r : Ran) × RunsThis a r (image_for (checked p)) input ×
+    (BeginsWith (shorter_meaning a p turns input).items r.items ⊎ ((r.end ≡ ends.Stack) × (4096 ≤ (meaning_for a p input).deepest))) ×
+    (status ≡ status_of_run r.end) × Gains (bytes_of (run_lines a.trace a.count r)) out out'
+
 -- Where nothing disturbs: of a valid source the lines of a run of its image go out, and the status is that of its end. While what the program means is
--- defined, these are the lines of a front of its items, and unless the run is cut short they are all, and it ends as the meaning does. One that is refused
--- is refused by its number and place. Or memory ran out.
+-- defined, these are the lines of a front of its items, and unless the run is cut short they are all, and it ends as the meaning does. Where the run may have
+-- enough steps for a meaning with fewer turns, it is not cut short before that ends, or before it runs out of its turns. One that is refused is refused by its
+-- number and place. Or memory ran out.
 pub record RunPromise (a : Asked) (old new : StoreView) (out out' : SinkView) (status : Status) : Type 0 where
   pub shows : (source input : List ℕ) (p : Program) → MeanUndisturbed a source input old new out out' → IsProgram source p → Valid p →
       (status ≡ NoMemory) ⊎ ShowsImage a p input out out' status
   pub means : (source input : List ℕ) (p : Program) → MeanUndisturbed a source input old new out out' → IsProgram source p → Valid p → AreBytes input → ((meaning_for a p input).end ≡ Undefined → ⊥) →
       (status ≡ NoMemory) ⊎ ShowsMeant a p input out out' status
+  pub ends : (source input : List ℕ) (p : Program) (turns : ℕ) → MeanUndisturbed a source input old new out out' → IsProgram source p → Valid p → AreBytes input → enough_for (checked p) turns ≤ a.turns →
+      HasEnd (shorter_meaning a p turns input).end → (status ≡ NoMemory) ⊎ ShowsEnd a p turns input out out' status
+  pub goes_on : (source input : List ℕ) (p : Program) (turns : ℕ) → MeanUndisturbed a source input old new out out' → IsProgram source p → Valid p → AreBytes input → enough_for (checked p) turns ≤ a.turns →
+      (shorter_meaning a p turns input).end ≡ OutOfTurns → ((meaning_for a p input).end ≡ Undefined → ⊥) → (status ≡ NoMemory) ⊎ ShowsAll a p turns input out out' status
   pub refuses : (source input : List ℕ) (number place : ℕ) → MeanUndisturbed a source input old new out out' → IsRefused source number place →
       (status ≡ NoMemory) ⊎ (status ≡ SourceRefused number place)
 

@@ -14,7 +14,7 @@ use image_link::laws::images_are_small;
 use meaning_events::laws::{allowed_events_are_counted, events_are_right, fronts_are_allowed};
 use source_bounds::laws::checked_is_linkable;
 use std::alloc::Global;
-use step_law::laws::checked_images_are_compiled;
+use step_law::laws::{checked_images_are_compiled, checked_images_have_enough};
 
 /// Does all that the program does with its words, and answers its status.
 ///
@@ -45,6 +45,7 @@ pub fn ehc<St: Store, Out: Sink, Er: Sink>(
     ensures report { Reports (text_of_status (refused_name (St.view store.new)) result) (Er.view err.old) (Er.view err.new) }
 {
     checked_images_are_compiled();
+    checked_images_have_enough();
     checked_is_linkable();
     images_are_small();
     events_are_right();
