@@ -1,5 +1,6 @@
 """What the measuring scripts share: programs that are built and run, and how many rounds they do in a second."""
 import pathlib
+import re
 import resource
 import shutil
 import subprocess
@@ -88,3 +89,10 @@ def rounds_per_second(program, words, many, runs):
             times.append(time.perf_counter() - start)
         least[rounds] = min(times)
     return (many - 1) / (least[many] - least[1]), out
+
+
+def host_instructions(command):
+    """How many instructions a command takes, by callgrind, which no other work on the machine changes."""
+    done = subprocess.run(["valgrind", "--tool=callgrind", "--callgrind-out-file=/dev/null", *map(str, command)],
+                          capture_output=True, text=True)
+    return int(re.search(r"Collected : (\d+)", done.stderr).group(1))

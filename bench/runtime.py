@@ -11,14 +11,12 @@ Usage: bench/runtime.py [--counts] [PROGRAM]. With `--counts` there are no times
 is taken as it is. What is built lies in a folder of its own.
 """
 import pathlib
-import re
 import shutil
-import subprocess
 import sys
 import tempfile
 
 from assembling import A0, A1, A2, RA, S0, S1, SP, T0, addi, branch, call, exception_table, image, jal, load, number, store
-from building import TOP, processor_seconds, rattle_program, run
+from building import TOP, host_instructions, processor_seconds, rattle_program, run
 
 DEPTHS, RUNS = [1, 10, 100], 3
 
@@ -200,12 +198,6 @@ def built(work):
     (crate / "stdout").write_text("")
     run(["rt", "run"], cwd=crate)
     return crate / "out/image_run"
-
-
-def host_instructions(command):
-    done = subprocess.run(["valgrind", "--tool=callgrind", "--callgrind-out-file=/dev/null", *map(str, command)],
-                          capture_output=True, text=True)
-    return int(re.search(r"Collected : (\d+)", done.stderr).group(1))
 
 
 def each(measure, command_of, few, many):

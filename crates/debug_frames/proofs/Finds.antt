@@ -1,7 +1,7 @@
 -- What a search for the section answers, step by step.
 use Rattle.std.proofs.Common.{◌≡◌, ◌<◌, ◌+◌, ◌*◌, ◌==◌, ℕ, true, false, List, Some, None, refl, arith, nat_lt}
 use Rattle.std.proofs.lemmas.Bool.Decides.{nat_tests}
-use Rattle.debug_frames.specs.declared.reason.DebugReason.TheVariants.{NoDebugFrames, SectionHeader}
+use Rattle.table_forms.specs.declared.reason.Reason.TheVariants.{NoDebugFrames, SectionHeader}
 use Rattle.debug_frames.specs.declared.section.Section.{Section}
 use Rattle.debug_frames.specs.Least.{least_of}
 use Rattle.debug_frames.specs.Sections.{is_in_file, bytes_of, section_at, sections_of, headers_at, count_of, names_number}

@@ -2,15 +2,15 @@
 use Rattle.std.proofs.Common.{◌≡◌, ◌+◌, ◌≤◌, ◌==◌, ℕ, Bool, true, false, List, Option, Some, None, Result, Ok, refl, arith, subst, length, if◌then◌else◌}
 use Rattle.std.specs.Prelude.{slice_get}
 use Rattle.std.proofs.lemmas.Bool.Decides.{nat_tests}
-use Rattle.debug_frames.specs.declared.reason.DebugReason.TheVariants.{NoDebugFrames, SectionHeader, Compressed}
-use Rattle.debug_frames.specs.declared.error.DebugRefusal.{DebugRefusal}
+use Rattle.table_forms.specs.declared.reason.Reason.TheVariants.{NoDebugFrames, SectionHeader, Compressed}
+use Rattle.table_forms.specs.declared.refusal.Refusal.{Refusal}
 use Rattle.debug_frames.specs.declared.section.Section.{Section}
 use Rattle.debug_frames.specs.Least.{least_of}
 use Rattle.debug_frames.specs.Sections.{is_in_file, bytes_of, is_compressed, sections_of, count_of, names_number}
 use Rattle.debug_frames.specs.FoundSection.{count_places, unnamed_places, found_places, header_places, refused, unless_refused, section_named, section_found, found_among, found_section}
 use Rattle.debug_frames.proofs.Leasts.{none_second, holds}
 
-ok_same : {x y : ℕ × ℕ} → (λ (r : Result (ℕ × ℕ) DebugRefusal). r) (Ok x) ≡ Ok y → x ≡ y
+ok_same : {x y : ℕ × ℕ} → (λ (r : Result (ℕ × ℕ) Refusal). r) (Ok x) ≡ Ok y → x ≡ y
 ok_same e = cc
 
 inside_found : (file : List ℕ) (o : Option Section) (s : ℕ × ℕ) → least_of (found_places file o) ≡ None → section_found o ≡ Ok s → s.0 + s.1 ≤ length file

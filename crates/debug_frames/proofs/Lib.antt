@@ -1,7 +1,6 @@
 pub mod RowStays
 pub mod ChangesDecide
 pub mod Decided
-pub mod Members
 pub mod PiecesRise
 pub mod LeastDifference
 pub mod Counts
@@ -24,7 +23,6 @@ mod Soundly
 mod Pairs
 mod Meetings
 mod Merges
-mod ImageSound
 mod Carried
 mod Sides
 mod Compared

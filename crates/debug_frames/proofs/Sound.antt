@@ -1,6 +1,6 @@
 -- The FDEs of a reading have regions that are apart and end in the address space.
 use Rattle.std.proofs.Common.{◌≡◌, ◌<◌, ℕ, Bool, true, false, List, [], ◌∷◌, ◌++◌, map, refl, ap, sym, ◌∙◌, arith, subst, ◌+◌, ◌^◌, if◌then◌else◌}
-use Rattle.std.specs.Prelude.{Option, Some, None, Result, Ok, Err, IfSome, filter_map, flat_map, nat_lt, ◌||◌}
+use Rattle.std.specs.Prelude.{Option, Some, None, Result, Ok, Err, IfSome, filter_map, flat_map, nat_lt}
 use Rattle.std.specs.Int.{w64}
 use Rattle.std.specs.List.{AllByRecursion, cons_option, list_any}
 use Rattle.std.proofs.lemmas.Bool.Decides.{nat_tests}
@@ -9,7 +9,7 @@ use Rattle.eh_bytes.specs.Field.{fixed}
 use Rattle.eh_bytes.specs.Memory.{Part}
 use Rattle.table_forms.specs.declared.reason.Reason.TheVariants.{FrameTruncated, Overlap}
 use Rattle.table_forms.specs.Cie.{Cie}
-use Rattle.table_forms.specs.Fault.{Fault, fault, ◌>>=◌, demand, is_before, lesser, least, answer}
+use Rattle.table_forms.specs.Fault.{Fault, fault, ◌>>=◌, demand, least, answer}
 use Rattle.table_forms.specs.Fde.{Fde, overlap}
 use Rattle.table_forms.specs.Frames.{Frames}
 use Rattle.table_forms.specs.Instruction.{in_frames}
@@ -20,23 +20,10 @@ use Rattle.debug_frames.specs.DebugFde.{debug_region_at, debug_fde_at, orphan_at
 use Rattle.debug_frames.specs.DebugCie.{debug_cie_at}
 use Rattle.debug_frames.specs.DebugParts.{is_cie, debug_cies, cie_at_link, orphan_said, fde_linked, part_said, debug_says, region_read, region_linked, region_of, debug_regions, debug_frames_in}
 use Rattle.debug_frames.specs.DebugSpans.{section_part, debug_spans, link_at}
-use Rattle.debug_frames.specs.Laws.{AreApart, IsSound, ReadingIsSound}
+use Rattle.frame_read.specs.Sound.{AreApart, IsSound}
+use Rattle.debug_frames.specs.Laws.{ReadingIsSound}
 use Rattle.table_forms.proofs.Least.{none_second}
-use Rattle.debug_frames.proofs.Members.{turned}
-
--- where nothing answers nothing is refused
-pub none_refused : (fs : List Fault) → least fs ≡ None → fs ≡ []
-unfolding least
-none_refused [] e = refl
-none_refused (f ∷ fs) e = step (least fs) e
-  where
-    step : (o : Option Fault) → lesser f o ≡ None → f ∷ fs ≡ []
-    step None e' = cc
-    step (Some g) e' = tests (is_before f g) e'
-      where
-        tests : (b : Bool) → (if b then Some f else Some g) ≡ None → f ∷ fs ≡ []
-        tests true e2 = cc
-        tests false e2 = cc
+use Rattle.frame_read.proofs.Spread.{none_refused, nil_right, fewer, IsRegion, AreSpread}
 
 abbrev region_read_as : ℕ → ℕ → ℕ → Result (Region64 × ℕ) Fault
 region_read_as a l m = Ok (record { start = a; length = l }, m)
@@ -94,9 +81,6 @@ fde_region cie part at stop p x is f e = by_region (debug_region_at part stop p)
         (n, at' ∙ ap (λ (r : Region64). Ok (r, n)) same)
 
 -- what a part gives as an FDE it gives as a region
-abbrev pub IsRegion : ℕ → Option (ℕ × Region64) → Fde → Type 0
-IsRegion at o f = (o ≡ Some (at, f.region)) × (f.region.start + f.region.length < 2 ^ 64)
-
 said_region : (part : Part) (cies : List (ℕ × Result Cie Fault)) (s : Span) → IfSome (fde_in (debug_says part cies s)) (IsRegion s.at (region_of part cies s (link_at part s)))
 unfolding debug_says
 said_region part cies s = by_link (link_at part s)
@@ -130,38 +114,6 @@ said_region part cies s = by_link (link_at part s)
     by_link : (r : Result (ℕ × ℕ) Fault) → IfSome (fde_in (part_said part cies s r)) (IsRegion s.at (region_of part cies s r))
     by_link (Err f) = tt
     by_link (Ok (link, next)) = by_kind link next (is_cie link)
-
--- FDEs are apart from earlier regions and from each other, and end in the address space
-pub record AreSpread (earlier : List Region64) (fs : List Fde) : Type 0 where
-  pub own : AllByRecursion (λ f. list_any (overlap f.region) earlier ≡ false) fs
-  pub apart : AreApart fs
-  pub ends : AllByRecursion (λ f. f.region.start + f.region.length < 2 ^ 64) fs
-
-nil_left : (xs ys : List Fault) → xs ++ ys ≡ [] → xs ≡ []
-nil_left [] ys e = refl
-nil_left (x ∷ xs) ys e = cc
-
-pub nil_right : (xs ys : List Fault) → xs ++ ys ≡ [] → ys ≡ []
-nil_right [] ys e = e
-nil_right (x ∷ xs) ys e = cc
-
-left_false : (b c : Bool) → (b || c) ≡ false → b ≡ false
-left_false true c e = e
-left_false false c e = refl
-
-right_false : (b c : Bool) → (b || c) ≡ false → c ≡ false
-right_false true c e = cc
-right_false false c e = e
-
--- without the region in front
-pub fewer : (r : Region64) (earlier : List Region64) (fs : List Fde) → AllByRecursion (λ f. list_any (overlap f.region) (r ∷ earlier) ≡ false) fs →
-    AllByRecursion (λ f. list_any (overlap f.region) earlier ≡ false) fs × AllByRecursion (λ f. overlap r f.region ≡ false) fs
-fewer r earlier [] all = (tt, tt)
-fewer r earlier (f ∷ fs) all =
-    let rest = fewer r earlier fs all.1 in (
-      (right_false (overlap f.region r) (list_any (overlap f.region) earlier) all.0, rest.0),
-      (turned f.region r (left_false (overlap f.region r) (list_any (overlap f.region) earlier) all.0), rest.1),
-    )
 
 spread : (part : Part) (cies : List (ℕ × Result Cie Fault)) (spans : List Span) (earlier : List Region64) →
     overlaps part earlier (filter_map (λ s. region_of part cies s (link_at part s)) spans) ≡ [] → AreSpread earlier (filter_map fde_in (map (debug_says part cies) spans))

@@ -12,7 +12,7 @@ use Rattle.frame_read.specs.declared.lookup.FdeHere.{FdeHere}
 use Rattle.debug_frames.specs.DebugSpans.{section_part}
 use Rattle.debug_frames.specs.DebugParts.{debug_frames_in}
 use Rattle.debug_frames.specs.Gathered.{parts_seen, answered}
-use Rattle.debug_frames.specs.Laws.{IsSound}
+use Rattle.frame_read.specs.Sound.{IsSound}
 use Rattle.debug_frames.specs.Order.{regions, numbered, IsOrder}
 use Rattle.debug_frames.specs.declared.gather.PartsRead.{PartsRead}
 use Rattle.debug_frames.proofs.Ordered.{is_order}

@@ -1,20 +1,19 @@
 -- The definitions, computed at the worked image of docs/TABLES.md with a section .debug_frame, and at changed bytes of it.
 use Rattle.std.proofs.Common.{◌≡◌, ℕ, pos, negsuc, List, [], ◌∷◌, ◌++◌, Ok, refl, length, map, replicate}
 use Rattle.std.specs.Prelude.{Err, fold, slice_set}
-use Rattle.table_forms.specs.declared.reason.Reason.TheVariants.{FrameTruncated, Version, Augmentation, CieLink, UnknownInstruction, Overlap}
+use Rattle.table_forms.specs.declared.reason.Reason.{Reason}
+use Rattle.table_forms.specs.declared.reason.Reason.TheVariants.{FrameTruncated, Version, Augmentation, CieLink, UnknownInstruction, Overlap, NoDebugFrames, SectionHeader, Compressed, AddressSize}
 use Rattle.table_forms.specs.declared.found.Rule.{Rule}
 use Rattle.table_forms.specs.declared.found.Rule.TheVariants as rules
 use Rattle.table_forms.specs.declared.found.Row.{Row}
-use Rattle.debug_frames.specs.declared.reason.DebugReason.{DebugReason}
-use Rattle.debug_frames.specs.declared.reason.DebugReason.TheVariants.{NoDebugFrames, SectionHeader, Compressed, AddressSize, Frames}
 use Rattle.debug_frames.specs.Agreement.{same, differ}
-use Rattle.debug_frames.specs.Compared.{Refused, section_refused, forms_in, compared}
+use Rattle.debug_frames.specs.Compared.{forms_in, compared}
 use Rattle.debug_frames.specs.Least.{least_of}
 use Rattle.eh_bytes.specs.Encoded.{raw, encoded}
 use Rattle.eh_bytes.specs.Leb128.{spelled_within, groups, grouped, uleb, sign_extended, ranged, sleb}
 use Rattle.eh_bytes.specs.Spelling.{uleb_spelling_within, uleb_spelling, sleb_spelling_within, sleb_spelling}
 use Rattle.table_forms.specs.Cie.{personality_at, letter_at, sized_at, return_register_at, cie_at}
-use Rattle.table_forms.specs.Fault.{is_before, least}
+use Rattle.table_forms.specs.Fault.{Fault, fault, is_before, least}
 use Rattle.table_forms.specs.Fde.{region_at, fde_at}
 use Rattle.table_forms.specs.Frames.{frames_in, frames}
 use Rattle.table_forms.specs.Header.{encodings_at, rows_within, header_at}
@@ -103,24 +102,21 @@ row offset given = record { cfa_register = 2; cfa_offset = pos offset; rules = f
 saved : ℕ × Rule
 saved = (1, rules.Offset (negsuc 7))
 
-refuses : DebugReason → ℕ → Refused
-refuses reason place = section_refused (record { reason = reason; place = place })
-
 -- ---- as it is, with another offset of the CFA, without sections, and with addresses of four bytes
 agrees : compared both_forms ≡ Ok (same 36 0 0)
-unfolding worked changed names header section both_forms with_section row saved refuses raw encoded spelled_within groups grouped uleb sign_extended ranged sleb uleb_spelling_within uleb_spelling sleb_spelling_within sleb_spelling personality_at letter_at sized_at return_register_at cie_at is_before least region_at fde_at frames_in frames encodings_at rows_within header_at register_at unsigned_offset signed_offset extended operands instruction_at instructions_within table_faults table_of lsda_in lsda action_in links_within pads_start type_table head_at record_at records_within entry_at indices_within cies_of says regions_of parts_at first_row begun row_of next_location_of spans_within judged segment_faults elf header_faults program_at headers_of difference_within agreement forms_in size_at sizes_at debug_cie_at debug_region_at debug_fde_at walked_within orphan_at debug_cies debug_says debug_regions debug_frames_in debug_spans_within found_section least_of is_row section_at sections_of
+unfolding worked changed names header section both_forms with_section row saved raw encoded spelled_within groups grouped uleb sign_extended ranged sleb uleb_spelling_within uleb_spelling sleb_spelling_within sleb_spelling personality_at letter_at sized_at return_register_at cie_at is_before least region_at fde_at frames_in frames encodings_at rows_within header_at register_at unsigned_offset signed_offset extended operands instruction_at instructions_within table_faults table_of lsda_in lsda action_in links_within pads_start type_table head_at record_at records_within entry_at indices_within cies_of says regions_of parts_at first_row begun row_of next_location_of spans_within judged segment_faults elf header_faults program_at headers_of difference_within agreement forms_in size_at sizes_at debug_cie_at debug_region_at debug_fde_at walked_within orphan_at debug_cies debug_says debug_regions debug_frames_in debug_spans_within found_section least_of is_row section_at sections_of
 agrees = refl
 
 differs : compared (changed both_forms ((0x15c, 0x18) ∷ [])) ≡ Ok (differ 0x10110 (row 16 (saved ∷ [])) (row 24 (saved ∷ [])))
-unfolding worked changed names header section both_forms with_section row saved refuses raw encoded spelled_within groups grouped uleb sign_extended ranged sleb uleb_spelling_within uleb_spelling sleb_spelling_within sleb_spelling personality_at letter_at sized_at return_register_at cie_at is_before least region_at fde_at frames_in frames encodings_at rows_within header_at register_at unsigned_offset signed_offset extended operands instruction_at instructions_within table_faults table_of lsda_in lsda action_in links_within pads_start type_table head_at record_at records_within entry_at indices_within cies_of says regions_of parts_at first_row begun row_of next_location_of spans_within judged segment_faults elf header_faults program_at headers_of difference_within agreement forms_in size_at sizes_at debug_cie_at debug_region_at debug_fde_at walked_within orphan_at debug_cies debug_says debug_regions debug_frames_in debug_spans_within found_section least_of is_row section_at sections_of
+unfolding worked changed names header section both_forms with_section row saved raw encoded spelled_within groups grouped uleb sign_extended ranged sleb uleb_spelling_within uleb_spelling sleb_spelling_within sleb_spelling personality_at letter_at sized_at return_register_at cie_at is_before least region_at fde_at frames_in frames encodings_at rows_within header_at register_at unsigned_offset signed_offset extended operands instruction_at instructions_within table_faults table_of lsda_in lsda action_in links_within pads_start type_table head_at record_at records_within entry_at indices_within cies_of says regions_of parts_at first_row begun row_of next_location_of spans_within judged segment_faults elf header_faults program_at headers_of difference_within agreement forms_in size_at sizes_at debug_cie_at debug_region_at debug_fde_at walked_within orphan_at debug_cies debug_says debug_regions debug_frames_in debug_spans_within found_section least_of is_row section_at sections_of
 differs = refl
 
-has_none : compared worked ≡ Err (refuses NoDebugFrames 40)
-unfolding worked changed names header section both_forms with_section row saved refuses raw encoded spelled_within groups grouped uleb sign_extended ranged sleb uleb_spelling_within uleb_spelling sleb_spelling_within sleb_spelling personality_at letter_at sized_at return_register_at cie_at is_before least region_at fde_at frames_in frames encodings_at rows_within header_at register_at unsigned_offset signed_offset extended operands instruction_at instructions_within table_faults table_of lsda_in lsda action_in links_within pads_start type_table head_at record_at records_within entry_at indices_within cies_of says regions_of parts_at first_row begun row_of next_location_of spans_within judged segment_faults elf header_faults program_at headers_of difference_within agreement forms_in size_at sizes_at debug_cie_at debug_region_at debug_fde_at walked_within orphan_at debug_cies debug_says debug_regions debug_frames_in debug_spans_within found_section least_of is_row section_at sections_of
+has_none : compared worked ≡ Err (fault NoDebugFrames 40)
+unfolding worked changed names header section both_forms with_section row saved raw encoded spelled_within groups grouped uleb sign_extended ranged sleb uleb_spelling_within uleb_spelling sleb_spelling_within sleb_spelling personality_at letter_at sized_at return_register_at cie_at is_before least region_at fde_at frames_in frames encodings_at rows_within header_at register_at unsigned_offset signed_offset extended operands instruction_at instructions_within table_faults table_of lsda_in lsda action_in links_within pads_start type_table head_at record_at records_within entry_at indices_within cies_of says regions_of parts_at first_row begun row_of next_location_of spans_within judged segment_faults elf header_faults program_at headers_of difference_within agreement forms_in size_at sizes_at debug_cie_at debug_region_at debug_fde_at walked_within orphan_at debug_cies debug_says debug_regions debug_frames_in debug_spans_within found_section least_of is_row section_at sections_of
 has_none = refl
 
-has_small_addresses : compared (changed both_forms ((0x13a, 4) ∷ [])) ≡ Err (refuses AddressSize 314)
-unfolding worked changed names header section both_forms with_section row saved refuses raw encoded spelled_within groups grouped uleb sign_extended ranged sleb uleb_spelling_within uleb_spelling sleb_spelling_within sleb_spelling personality_at letter_at sized_at return_register_at cie_at is_before least region_at fde_at frames_in frames encodings_at rows_within header_at register_at unsigned_offset signed_offset extended operands instruction_at instructions_within table_faults table_of lsda_in lsda action_in links_within pads_start type_table head_at record_at records_within entry_at indices_within cies_of says regions_of parts_at first_row begun row_of next_location_of spans_within judged segment_faults elf header_faults program_at headers_of difference_within agreement forms_in size_at sizes_at debug_cie_at debug_region_at debug_fde_at walked_within orphan_at debug_cies debug_says debug_regions debug_frames_in debug_spans_within found_section least_of is_row section_at sections_of
+has_small_addresses : compared (changed both_forms ((0x13a, 4) ∷ [])) ≡ Err (fault AddressSize 314)
+unfolding worked changed names header section both_forms with_section row saved raw encoded spelled_within groups grouped uleb sign_extended ranged sleb uleb_spelling_within uleb_spelling sleb_spelling_within sleb_spelling personality_at letter_at sized_at return_register_at cie_at is_before least region_at fde_at frames_in frames encodings_at rows_within header_at register_at unsigned_offset signed_offset extended operands instruction_at instructions_within table_faults table_of lsda_in lsda action_in links_within pads_start type_table head_at record_at records_within entry_at indices_within cies_of says regions_of parts_at first_row begun row_of next_location_of spans_within judged segment_faults elf header_faults program_at headers_of difference_within agreement forms_in size_at sizes_at debug_cie_at debug_region_at debug_fde_at walked_within orphan_at debug_cies debug_says debug_regions debug_frames_in debug_spans_within found_section least_of is_row section_at sections_of
 has_small_addresses = refl
 
 -- ---- changed headers: their size, their place, the number of the names, the size of the names by one and by much, that of the section, its name, and its flags
@@ -130,9 +126,9 @@ headers_changed =
     ((0x1c1, 8) ∷ []) ∷ []
 
 are_refused : map (λ given. compared (changed both_forms given)) headers_changed ≡
-    Err (refuses SectionHeader 58) ∷ Err (refuses SectionHeader 40) ∷ Err (refuses SectionHeader 62) ∷ Err (refuses SectionHeader 504) ∷ Err (refuses SectionHeader 504) ∷
-    Err (refuses SectionHeader 440) ∷ Err (refuses NoDebugFrames 40) ∷ Err (refuses Compressed 440) ∷ []
-unfolding worked changed names header section both_forms with_section row saved refuses raw encoded spelled_within groups grouped uleb sign_extended ranged sleb uleb_spelling_within uleb_spelling sleb_spelling_within sleb_spelling personality_at letter_at sized_at return_register_at cie_at is_before least region_at fde_at frames_in frames encodings_at rows_within header_at register_at unsigned_offset signed_offset extended operands instruction_at instructions_within table_faults table_of lsda_in lsda action_in links_within pads_start type_table head_at record_at records_within entry_at indices_within cies_of says regions_of parts_at first_row begun row_of next_location_of spans_within judged segment_faults elf header_faults program_at headers_of difference_within agreement forms_in size_at sizes_at debug_cie_at debug_region_at debug_fde_at walked_within orphan_at debug_cies debug_says debug_regions debug_frames_in debug_spans_within found_section least_of is_row section_at sections_of headers_changed
+    Err (fault SectionHeader 58) ∷ Err (fault SectionHeader 40) ∷ Err (fault SectionHeader 62) ∷ Err (fault SectionHeader 504) ∷ Err (fault SectionHeader 504) ∷
+    Err (fault SectionHeader 440) ∷ Err (fault NoDebugFrames 40) ∷ Err (fault Compressed 440) ∷ []
+unfolding worked changed names header section both_forms with_section row saved raw encoded spelled_within groups grouped uleb sign_extended ranged sleb uleb_spelling_within uleb_spelling sleb_spelling_within sleb_spelling personality_at letter_at sized_at return_register_at cie_at is_before least region_at fde_at frames_in frames encodings_at rows_within header_at register_at unsigned_offset signed_offset extended operands instruction_at instructions_within table_faults table_of lsda_in lsda action_in links_within pads_start type_table head_at record_at records_within entry_at indices_within cies_of says regions_of parts_at first_row begun row_of next_location_of spans_within judged segment_faults elf header_faults program_at headers_of difference_within agreement forms_in size_at sizes_at debug_cie_at debug_region_at debug_fde_at walked_within orphan_at debug_cies debug_says debug_regions debug_frames_in debug_spans_within found_section least_of is_row section_at sections_of headers_changed
 are_refused = refl
 
 -- ---- other sections
@@ -260,14 +256,14 @@ are_judged : map (λ bytes. compared (with_section bytes)) sections ≡
     Ok (same 28 8 8) ∷
     Ok (differ 0x1011c (row 16 (saved ∷ [])) (row 16 (saved ∷ (2, rules.Offset (negsuc 15)) ∷ []))) ∷
     Ok (differ 0x10118 (row 16 (saved ∷ [])) (row 32 (saved ∷ (8, rules.Register 9) ∷ []))) ∷
-    Err (refuses (Frames FrameTruncated) 590) ∷
-    Err (refuses (Frames FrameTruncated) 586) ∷
-    Err (refuses (Frames FrameTruncated) 602) ∷
-    Err (refuses (Frames Augmentation) 577) ∷
-    Err (refuses (Frames CieLink) 590) ∷
-    Err (refuses (Frames Version) 601) ∷
-    Err (refuses (Frames UnknownInstruction) 592) ∷
-    Err (refuses (Frames Overlap) 615) ∷
-    Err (refuses AddressSize 579) ∷ []
-unfolding worked changed names header section both_forms with_section row saved refuses raw encoded spelled_within groups grouped uleb sign_extended ranged sleb uleb_spelling_within uleb_spelling sleb_spelling_within sleb_spelling personality_at letter_at sized_at return_register_at cie_at is_before least region_at fde_at frames_in frames encodings_at rows_within header_at register_at unsigned_offset signed_offset extended operands instruction_at instructions_within table_faults table_of lsda_in lsda action_in links_within pads_start type_table head_at record_at records_within entry_at indices_within cies_of says regions_of parts_at first_row begun row_of next_location_of spans_within judged segment_faults elf header_faults program_at headers_of difference_within agreement forms_in size_at sizes_at debug_cie_at debug_region_at debug_fde_at walked_within orphan_at debug_cies debug_says debug_regions debug_frames_in debug_spans_within found_section least_of is_row section_at sections_of sections fde_first set_location two_parts shifted late between empty_part leaves ends_above augmented no_cie refused_cie refused_both overlapping selector
+    Err (fault FrameTruncated 590) ∷
+    Err (fault FrameTruncated 586) ∷
+    Err (fault FrameTruncated 602) ∷
+    Err (fault Augmentation 577) ∷
+    Err (fault CieLink 590) ∷
+    Err (fault Version 601) ∷
+    Err (fault UnknownInstruction 592) ∷
+    Err (fault Overlap 615) ∷
+    Err (fault AddressSize 579) ∷ []
+unfolding worked changed names header section both_forms with_section row saved raw encoded spelled_within groups grouped uleb sign_extended ranged sleb uleb_spelling_within uleb_spelling sleb_spelling_within sleb_spelling personality_at letter_at sized_at return_register_at cie_at is_before least region_at fde_at frames_in frames encodings_at rows_within header_at register_at unsigned_offset signed_offset extended operands instruction_at instructions_within table_faults table_of lsda_in lsda action_in links_within pads_start type_table head_at record_at records_within entry_at indices_within cies_of says regions_of parts_at first_row begun row_of next_location_of spans_within judged segment_faults elf header_faults program_at headers_of difference_within agreement forms_in size_at sizes_at debug_cie_at debug_region_at debug_fde_at walked_within orphan_at debug_cies debug_says debug_regions debug_frames_in debug_spans_within found_section least_of is_row section_at sections_of sections fde_first set_location two_parts shifted late between empty_part leaves ends_above augmented no_cie refused_cie refused_both overlapping selector
 are_judged = refl

@@ -3,17 +3,17 @@ use Rattle.std.specs.Prelude.{ℕ, ◌+◌, ◌==◌, ◌||◌, false, [], lengt
 use Rattle.eh_bytes.specs.Memory.{Part}
 use Rattle.eh_bytes.specs.Field.{byte}
 use Rattle.eh_bytes.specs.Leb128.{uleb, sleb}
-use Rattle.table_forms.specs.declared.reason.Reason.TheVariants.{Encoding, Version, Augmentation}
+use Rattle.table_forms.specs.declared.reason.Reason.TheVariants.{AddressSize, Version, Augmentation}
 use Rattle.table_forms.specs.Fault.{Fault, ◌>>=◌, demand}
 use Rattle.table_forms.specs.Instruction.{in_frames}
 use Rattle.table_forms.specs.Instructions.{instructions_at}
 use Rattle.table_forms.specs.Cie.{Cie, text, return_register_at}
 
--- the place behind a size. Refused at the size, where it is not this one: addresses are encoded in another way
+-- the place behind a size. Refused at the size, where it is not this one
 unfoldable pub size_at : ℕ → Part → ℕ → ℕ → Result ℕ Fault
 size_at wanted part stop p = do
   size ← in_frames byte part stop p
-  fits ← demand (size.0 == wanted) Encoding (part.file_at + p)
+  fits ← demand (size.0 == wanted) AddressSize (part.file_at + p)
   Ok size.1
 
 -- in version 4 the size of addresses, 8, and that of segment selectors, 0

@@ -1,8 +1,8 @@
 -- Where .debug_frame stands in a file, or why it is not found.
 use Rattle.std.specs.Prelude.{ℕ, ◌+◌, ◌*◌, ◌==◌, nat_lt, nat_le, Bool, false, List, [], ◌∷◌, ◌++◌, length, codes, flat_map, find, slice_get, is_some, Option, Some, None, Result, Ok, Err, bytes_eq, if◌then◌else◌}
-use Rattle.debug_frames.specs.declared.reason.DebugReason.{DebugReason}
-use Rattle.debug_frames.specs.declared.reason.DebugReason.TheVariants.{NoDebugFrames, SectionHeader, Compressed}
-use Rattle.debug_frames.specs.declared.error.DebugRefusal.{DebugRefusal}
+use Rattle.table_forms.specs.declared.reason.Reason.{Reason}
+use Rattle.table_forms.specs.declared.reason.Reason.TheVariants.{NoDebugFrames, SectionHeader, Compressed}
+use Rattle.table_forms.specs.declared.refusal.Refusal.{Refusal}
 use Rattle.debug_frames.specs.declared.section.Section.{Section}
 use Rattle.debug_frames.specs.Least.{least_of}
 use Rattle.debug_frames.specs.Sections.{headers_at, header_size, count_of, names_number, sections_of, is_in_file, bytes_of, name_in, is_compressed}
@@ -41,21 +41,21 @@ unnamed_places names sections = flat_map (λ s. unless (is_some (name_in names s
 abbrev pub header_places : List ℕ → List ℕ → List Section → List ℕ
 header_places file names sections = unnamed_places names sections ++ found_places file (section_named names sections)
 
-abbrev pub refused : DebugReason → ℕ → Result (ℕ × ℕ) DebugRefusal
-refused reason place = Err (record { reason = reason; place = place })
+abbrev pub refused : Reason → ℕ → Result (ℕ × ℕ) Refusal
+refused reason place = Err (record { reason = reason; place = place; location = 0; other = 0 })
 
 -- the first place where a header is refused, or what is found where none is
-abbrev pub unless_refused : Option ℕ → Result (ℕ × ℕ) DebugRefusal → Result (ℕ × ℕ) DebugRefusal
+abbrev pub unless_refused : Option ℕ → Result (ℕ × ℕ) Refusal → Result (ℕ × ℕ) Refusal
 unless_refused None found = found
 unless_refused (Some place) found = refused SectionHeader place
 
 -- refused at the number of the headers, where none has the name, and at its header, where it is compressed
-abbrev pub section_found : Option Section → Result (ℕ × ℕ) DebugRefusal
+abbrev pub section_found : Option Section → Result (ℕ × ℕ) Refusal
 section_found None = refused NoDebugFrames 40
 section_found (Some s) = if is_compressed s then refused Compressed s.place else Ok (s.offset, s.size)
 
 -- by the section of the names, which is refused at its header, where it leaves the file
-abbrev pub found_among : List ℕ → List Section → Option Section → Result (ℕ × ℕ) DebugRefusal
+abbrev pub found_among : List ℕ → List Section → Option Section → Result (ℕ × ℕ) Refusal
 found_among file sections None = refused SectionHeader 62
 found_among file sections (Some names) =
     if is_in_file file names then
@@ -63,7 +63,7 @@ found_among file sections (Some names) =
     else refused SectionHeader names.place
 
 -- where its bytes begin, and how many they are
-unfoldable pub found_section : List ℕ → Result (ℕ × ℕ) DebugRefusal
+unfoldable pub found_section : List ℕ → Result (ℕ × ℕ) Refusal
 found_section file =
     if count_of file == 0 then refused NoDebugFrames 40
     else unless_refused (least_of (count_places file)) (found_among file (sections_of file) (slice_get (sections_of file) (names_number file)))

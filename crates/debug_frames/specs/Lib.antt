@@ -1,4 +1,3 @@
-pub mod Reports
 pub mod Least
 pub mod Sections
 pub mod FoundSection

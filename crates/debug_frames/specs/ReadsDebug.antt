@@ -2,12 +2,12 @@
 use Rattle.std.specs.Prelude.{◌≡◌, ⊤, Result, Ok, Err}
 use Rattle.table_forms.specs.Fault.{Fault}
 use Rattle.table_forms.specs.Frames.{Frames}
-use Rattle.debug_frames.specs.declared.error.DebugError.{DebugError}
-use Rattle.debug_frames.specs.declared.error.DebugError.TheVariants.{Refused, NoMemory}
-use Rattle.debug_frames.specs.Reports.{refusal_of, reported}
+use Rattle.elf_image.specs.Reports.{reported}
+use Rattle.elf_image.specs.declared.error.ImageError.{ImageError}
+use Rattle.elf_image.specs.declared.error.ImageError.TheVariants.{Refused, NoMemory}
 
 -- the frames, or the refusal, exactly; want of memory is free
-abbrev pub ReadsDebug : Result Frames DebugError → Result Frames Fault → Type 0
+abbrev pub ReadsDebug : Result Frames ImageError → Result Frames Fault → Type 0
 ReadsDebug (Ok frames) read = read ≡ Ok frames
-ReadsDebug (Err (Refused reason place)) read = (f : Fault) × (read ≡ Err f) × (reported (refusal_of f) ≡ Refused reason place)
+ReadsDebug (Err (Refused reason place location other)) read = (f : Fault) × (read ≡ Err f) × (reported f ≡ Refused reason place location other)
 ReadsDebug (Err NoMemory) read = ⊤

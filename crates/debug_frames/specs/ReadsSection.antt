@@ -1,12 +1,13 @@
 -- What a search for a section answers.
 use Rattle.std.specs.Prelude.{◌≡◌, ℕ, Result, Ok, Err}
-use Rattle.debug_frames.specs.declared.error.DebugRefusal.{DebugRefusal}
-use Rattle.debug_frames.specs.declared.error.DebugError.{DebugError}
-use Rattle.debug_frames.specs.declared.error.DebugError.TheVariants.{Refused, NoMemory}
-use Rattle.debug_frames.specs.Reports.{reported}
+use Rattle.table_forms.specs.Seen.{fault_of}
+use Rattle.table_forms.specs.declared.refusal.Refusal.{Refusal}
+use Rattle.elf_image.specs.Reports.{reported}
+use Rattle.elf_image.specs.declared.error.ImageError.{ImageError}
+use Rattle.elf_image.specs.declared.error.ImageError.TheVariants.{Refused, NoMemory}
 
 -- where it stands, or the refusal, exactly; it takes no memory
-abbrev pub ReadsSection : Result (ℕ × ℕ) DebugError → Result (ℕ × ℕ) DebugRefusal → Type 0
+abbrev pub ReadsSection : Result (ℕ × ℕ) ImageError → Result (ℕ × ℕ) Refusal → Type 0
 ReadsSection (Ok found) read = read ≡ Ok found
-ReadsSection (Err (Refused reason place)) read = (r : DebugRefusal) × (read ≡ Err r) × (reported r ≡ Refused reason place)
+ReadsSection (Err (Refused reason place location other)) read = (r : Refusal) × (read ≡ Err r) × (reported (fault_of r) ≡ Refused reason place location other)
 ReadsSection (Err NoMemory) read = ⊥

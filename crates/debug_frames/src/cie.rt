@@ -31,7 +31,7 @@ fn size_of(wanted: u8, section: &Segment, stop: usize, place: usize) -> Result<u
 {
     let (size, next) = byte_at(section, stop, place)?;
     if size != wanted {
-        return Err(refused(Reason::Encoding, section.file_at as u128 + place as u128));
+        return Err(refused(Reason::AddressSize, section.file_at as u128 + place as u128));
     }
     Ok(next)
 }

@@ -4,10 +4,10 @@ ghost use Rattle.debug_frames.specs.Compares.{ComparesFrames};
 
 use crate::agreement::Agreement;
 use crate::comparison::agree;
-use crate::error::CompareError;
 use crate::find::find_debug;
 use crate::read::read_debug;
 use crate::section::bytes_at;
+use elf_image::ImageError;
 use std::alloc::Global;
 use table_check::read_image;
 
@@ -21,7 +21,7 @@ use table_check::read_image;
 ///     Agreement::Differ(pc, ..) => println!(rt; "not at {pc:#x}")?,
 /// }
 /// ```
-pub fn compare_frames(alloc: Global, bytes: &[u8]) -> Result<Agreement, CompareError>
+pub fn compare_frames(alloc: Global, bytes: &[u8]) -> Result<Agreement, ImageError>
     requires small { length bytes.now < 2 ^ 32 }
     ensures { ComparesFrames result bytes.now }
 {

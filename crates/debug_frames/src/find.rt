@@ -5,20 +5,25 @@ ghost use Rattle.debug_frames.specs.Sections.{sections_of, bytes_of, count_of, h
 ghost use Rattle.debug_frames.specs.FoundSection.{count_places, first_named, unnamed_places, found_places, header_places, refused, section_named, section_found, found_among, found_section, unless};
 ghost use Rattle.debug_frames.specs.ReadsSection.{ReadsSection};
 
-use crate::error::{DebugError, DebugRefusal};
 use crate::names::Names;
-use crate::reason::DebugReason;
 use crate::section::{
     SECTION_SIZE, Section, count_of, header_size, headers_at, names_number, section_at,
 };
+use elf_image::ImageError;
+use table_forms::{Reason, Refusal};
 
 // Where the section stands, its first byte and its size, or why it is not found.
-type Found = Result<(u64, u64), DebugRefusal>;
+type Found = Result<(u64, u64), Refusal>;
 
-fn refused(reason: DebugReason, place: u128) -> Found
+fn refused(reason: Reason, place: u128) -> Found
     ensures { result ≡ refused reason place }
 {
-    Err(DebugRefusal { reason, place })
+    Err(Refusal {
+        reason,
+        place,
+        location: 0,
+        other: 0,
+    })
 }
 
 // The place, where a condition does not hold.
@@ -111,10 +116,10 @@ fn section_found(found: Option<Section>) -> Found
     ensures { result ≡ section_found found }
 {
     let Some(section) = found else {
-        return refused(DebugReason::NoDebugFrames, 40);
+        return refused(Reason::NoDebugFrames, 40);
     };
     if section.is_compressed() {
-        return refused(DebugReason::Compressed, section.place);
+        return refused(Reason::Compressed, section.place);
     }
     Ok((section.offset, section.size))
 }
@@ -124,11 +129,11 @@ fn found_among(file: &[u8], names: Section) -> Found
     ensures { result ≡ found_among file.now (sections_of file.now) (Some names) }
 {
     if !names.is_in_file(file) {
-        return refused(DebugReason::SectionHeader, names.place);
+        return refused(Reason::SectionHeader, names.place);
     }
     let sought = sought_in(file, &Names::new(names.bytes_of(file)));
     match lesser(sought.least, found_place(file, sought.found)) {
-        Some(place) => refused(DebugReason::SectionHeader, place),
+        Some(place) => refused(Reason::SectionHeader, place),
         None => section_found(sought.found),
     }
 }
@@ -137,10 +142,10 @@ fn found_section(file: &[u8]) -> Found
     ensures { result ≡ found_section file.now }
 {
     if count_of(file) == 0 {
-        return refused(DebugReason::NoDebugFrames, 40);
+        return refused(Reason::NoDebugFrames, 40);
     }
     if let Some(place) = count_place(file) {
-        return refused(DebugReason::SectionHeader, place);
+        return refused(Reason::SectionHeader, place);
     }
     let before = SECTION_SIZE as u128 * names_number(file) as u128;
     let names = section_at(file, headers_at(file) as u128 + before);
@@ -151,7 +156,7 @@ fn found_section(file: &[u8]) -> Found
 /// refused: there is none, a header or a name can't be read, or it is compressed (ELF-64 Object File
 /// Format, "Sections"). It is never want of memory.
 #[tactic(auto, using(crate::proofs::Inside::found_inside))]
-pub fn find_debug(bytes: &[u8]) -> Result<(u64, u64), DebugError>
+pub fn find_debug(bytes: &[u8]) -> Result<(u64, u64), ImageError>
     ensures section { ReadsSection result (found_section bytes.now) }
     ensures inside { IfOk result (λ s. s.0 + s.1 ≤ length bytes.now) }
 {

@@ -4,17 +4,13 @@ use Rattle.std.specs.FinMap.{get}
 use Rattle.std.specs.Fmt.{decimal}
 use Rattle.eh_outer.specs.Store.{Files, StoreView, Rose}
 use Rattle.eh_outer.specs.Sink.{SinkView, Gains}
+use Rattle.table_forms.specs.Fault.{Fault}
 use Rattle.table_forms.specs.declared.found.Row.{Row}
-use Rattle.elf_image.specs.Reports as images
+use Rattle.elf_image.specs.Reports.{reported}
 use Rattle.table_dump.specs.Texts.{hex, register, signed}
 use Rattle.table_dump.specs.Rows.{rules_text}
-use Rattle.debug_frames.specs.declared.error.DebugError.{DebugError}
-use Rattle.debug_frames.specs.declared.error.DebugError.TheVariants as errors
-use Rattle.debug_frames.specs.declared.error.CompareError.{CompareError}
-use Rattle.debug_frames.specs.declared.error.CompareError.TheVariants as compare_errors
-use Rattle.debug_frames.specs.Reports.{number_of, reported}
 use Rattle.debug_frames.specs.Agreement.{Agreement, same, differ}
-use Rattle.debug_frames.specs.Compared.{Forms, Refused, image_refused, section_refused, forms_in}
+use Rattle.debug_frames.specs.Compared.{Forms, forms_in}
 use Rattle.debug_frames.specs.Compares.{Compares}
 use Rattle.run_items.specs.Output.{TakesAll, FailsAmong, bytes_of}
 use Rattle.eh_commands.specs.declared.status.Status.{Status}
@@ -33,21 +29,6 @@ agreement_lines (same both first second) =
 agreement_lines (differ pc row other) =
     (codes "differ at " ++ hex pc ++ codes "\n") ∷ (codes "eh: " ++ row_text row ++ codes "\n") ∷ (codes "debug: " ++ row_text other ++ codes "\n") ∷ []
 
--- the status of a section that is not read
-abbrev pub section_status : DebugError → Status
-section_status (errors.Refused reason place) = ImageRefused (number_of reason) place 0 0
-section_status errors.NoMemory = NoMemory
-
--- the status of forms that are not compared
-abbrev pub error_status : CompareError → Status
-error_status (compare_errors.Image e) = status_of e
-error_status (compare_errors.Section e) = section_status e
-
--- the status of a refusal
-abbrev pub refused_status : Refused → Status
-refused_status (image_refused fault) = status_of (images.reported fault)
-refused_status (section_refused refusal) = section_status (reported refusal)
-
 -- the status of an agreement
 abbrev pub agreement_status : Agreement → Status
 agreement_status (same both first second) = Done
@@ -55,7 +36,7 @@ agreement_status (differ pc row other) = Differs
 
 -- this is the status of the file's first refusal
 abbrev pub RefusesForms : Status → List ℕ → Type 0
-RefusesForms status file = IsErrAnd (forms_in file) (λ r. status ≡ refused_status r)
+RefusesForms status file = IsErrAnd (forms_in file) (λ fault. status ≡ status_of (reported fault))
 
 -- the lines of an agreement go out, and the status is its own
 abbrev pub AgreementEnds : Agreement → SinkView → SinkView → Status → Type 0
@@ -79,9 +60,9 @@ FramesCause name old new out out' NoMemory = out' ≡ out
 FramesCause name old new out out' status = (a : Agreement) × Told image_limit old name (λ file. Compares file a) × AgreementEnds a out out' status
 
 -- what both forms say went out and the status is its own, or the status is the refusal and nothing was written
-abbrev pub FormsJudged : List ℕ → Result Forms Refused → SinkView → SinkView → Status → Type 0
+abbrev pub FormsJudged : List ℕ → Result Forms Fault → SinkView → SinkView → Status → Type 0
 FormsJudged file (Ok forms) out out' status = (a : Agreement) × Compares file a × (status ≡ agreement_status a) × Gains (bytes_of (agreement_lines a)) out out'
-FormsJudged file (Err r) out out' status = (status ≡ refused_status r) × (out' ≡ out)
+FormsJudged file (Err fault) out out' status = (status ≡ status_of (reported fault)) × (out' ≡ out)
 
 -- where the store tells a file of that name within the limit, and neither the store nor the sink fails, both forms are judged, or memory ran out
 abbrev pub FramesPromise : List ℕ → StoreView → StoreView → SinkView → SinkView → Status → Type 0

@@ -8,42 +8,9 @@ use crate::file::read;
 use crate::image::IMAGE_LIMIT;
 use crate::lines::put_each;
 use crate::status::Status;
-use debug_frames::{Agreement, CompareError, DebugError, compare_frames};
+use debug_frames::{Agreement, compare_frames};
 use eh_outer::{Sink, SinkError, Store};
 use std::alloc::Global;
-
-impl From<DebugError> for Status {
-    ghost use Rattle.std.specs.Prelude.{◌≡◌};
-    ghost use Rattle.eh_commands.specs.Frames.{section_status};
-
-    ghost from_gives = { λ error status. status ≡ section_status error };
-
-    fn from(error: DebugError) -> Status {
-        match error {
-            DebugError::Refused { reason, place } => Status::ImageRefused {
-                number: reason.number(),
-                place,
-                location: 0,
-                other: 0,
-            },
-            DebugError::NoMemory => Status::NoMemory,
-        }
-    }
-}
-
-impl From<CompareError> for Status {
-    ghost use Rattle.std.specs.Prelude.{◌≡◌};
-    ghost use Rattle.eh_commands.specs.Frames.{error_status};
-
-    ghost from_gives = { λ error status. status ≡ error_status error };
-
-    fn from(error: CompareError) -> Status {
-        match error {
-            CompareError::Image(error) => Status::from(error),
-            CompareError::Section(error) => Status::from(error),
-        }
-    }
-}
 
 fn status_of(agreement: &Agreement) -> Status
     ensures { result ≡ agreement_status (agreement_seen agreement.now) }

@@ -4,18 +4,20 @@ use Rattle.std.specs.Prelude.{◌⊎◌, IsErrAnd}
 use Rattle.eh_outer.specs.Store.{StoreView}
 use Rattle.eh_outer.specs.Sink.{SinkView}
 use Rattle.run_items.specs.Output.{TakesAll}
+use Rattle.table_forms.specs.Fault.{Fault}
+use Rattle.elf_image.specs.Reports.{reported}
 use Rattle.debug_frames.specs.Agreement.{Agreement}
-use Rattle.debug_frames.specs.Compared.{Forms, Refused, forms_in}
+use Rattle.debug_frames.specs.Compared.{Forms, forms_in}
 use Rattle.debug_frames.specs.Compares.{Compares}
 use Rattle.eh_commands.specs.declared.status.Status.{Status}
 use Rattle.eh_commands.specs.declared.status.Status.TheVariants.{Done, Usage, SourceRefused, ImageRefused, ReadFault, TooLong, WriteFault, NoMemory, Aborted, Budget, Stack, MachineFault, Undefined, Differs}
 use Rattle.eh_commands.specs.File.{Told}
-use Rattle.eh_commands.specs.Frames.{agreement_lines, FormsJudged, FramesCause, FramesPromise, RefusesForms, agreement_status, refused_status}
-use Rattle.eh_commands.specs.Image.{image_limit}
+use Rattle.eh_commands.specs.Frames.{agreement_lines, FormsJudged, FramesCause, FramesPromise, RefusesForms, agreement_status}
+use Rattle.eh_commands.specs.Image.{image_limit, status_of}
 use Rattle.eh_commands.proofs.Sources.{told_of}
 
 -- a refusal that was answered is the one of the file
-refused_judged : (file : List ℕ) (forms : Result Forms Refused) (out out' : SinkView) (status : Status) → IsErrAnd forms (λ r. status ≡ refused_status r) → out' ≡ out → FormsJudged file forms out out' status
+refused_judged : (file : List ℕ) (forms : Result Forms Fault) (out out' : SinkView) (status : Status) → IsErrAnd forms (λ fault. status ≡ status_of (reported fault)) → out' ≡ out → FormsJudged file forms out out' status
 refused_judged file (Ok forms) out out' status is kept = absurd is
 refused_judged file (Err r) out out' status is kept = (is, kept)
 

@@ -19,6 +19,11 @@ pub mod Overlaps
 pub mod Rises
 mod Wholes
 pub mod Orders
+pub mod Apart
+pub mod Spread
+pub mod Sound
+pub mod FdeHalves
+pub mod Ordered
 pub mod FdesRise
 mod Reading
 mod Again

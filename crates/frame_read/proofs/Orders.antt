@@ -274,3 +274,9 @@ same_order n fdes order rise moved up stable =
     (λ k. let a = rise_once n (map fde_listed fdes) rise k in let b = sum_by-IsPermutation (at_place k) (map fde_listed fdes) order moved in omega (arith, a, b))
     (λ f here. in_permutation order (map fde_listed fdes) (IsPermutation-sym (map fde_listed fdes) order moved) f (order_members fdes f here))
     (λ f here. order_back fdes f (in_permutation (map fde_listed fdes) order moved f here))
+
+pub order_is : (n : ℕ) (fs : List forms.Fde) (fdes order : List Fde) → fdes ≡ map fde_listed fs → PlacesRise n (map fde_listed fs) → IsPermutation fdes order →
+    IsNonDecreasingBy (λ (f : Fde). f.region.start) order → IsStableByKey (λ (f : Fde). f.region.start) nat_cmp fdes order → order ≡ map fde_listed (sorted fs)
+order_is n fs fdes order listed rise moved up stable =
+    sym (same_order n fs order rise (subst (λ (xs : List Fde). IsPermutation xs order) listed moved) up
+    (subst (λ (xs : List Fde). IsStableByKey (λ (f : Fde). f.region.start) nat_cmp xs order) listed stable))

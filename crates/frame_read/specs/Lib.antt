@@ -22,6 +22,8 @@ pub mod SeenSweep
 pub mod Whole
 pub mod Rises
 pub mod Order
+pub mod InOrder
+pub mod Sound
 pub mod ReadsFrames
 pub mod Given
 pub mod Search

@@ -12,6 +12,7 @@ pub mod entry;
 mod error;
 mod fde;
 pub mod fde_part;
+mod fde_search;
 pub mod field;
 mod folding;
 mod frame_list;

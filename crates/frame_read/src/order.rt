@@ -1,20 +1,19 @@
 // The FDEs in the order of the header's table, and whether they are its rows.
-ghost use Rattle.std.specs.Prelude.{◌≡◌, ◌+◌, ◌<◌, ◌^◌, IfOk, ℕ, List, length, map, option_map};
-ghost use Rattle.table_forms.specs.Fde as forms;
-ghost use Rattle.table_forms.specs.Frames.{differs, sorted, disagreement};
-ghost use Rattle.frame_read.specs.Listed.{fde_listed};
+ghost use Rattle.std.specs.Prelude.{◌≡◌, ◌<◌, ◌^◌, IfOk, length, filter, option_map};
+ghost use Rattle.table_forms.specs.Frames.{differs};
 ghost use Rattle.std.specs.List.Sorted.{IsPermutation, IsNonDecreasingBy, IsStableByKey};
 ghost use Rattle.std.specs.Ordering.{nat_cmp};
 ghost use Rattle.table_forms.specs.Seen.{fault_of};
-ghost use Rattle.frame_read.specs.Order.{disagrees, PlacesRise};
+ghost use Rattle.frame_read.specs.InOrder.{has_place};
+ghost use Rattle.frame_read.specs.Order.{disagrees};
 
 use crate::listed::Fde;
 use eh_bytes::HdrRow;
 use std::alloc::{AllocError, Global};
 use table_forms::{Reason, Refusal};
 
-// The FDEs by location; those of one location stay as they are.
-fn in_order(alloc: Global, fdes: &[Fde]) -> Result<Vec<Fde>, AllocError>
+/// The FDEs by location; those of one location stay as they are.
+pub fn in_order(alloc: Global, fdes: &[Fde]) -> Result<Vec<Fde>, AllocError>
     ensures permutation { IfOk result (λ order. IsPermutation fdes.now order.items) }
     ensures order { IfOk result (λ order. IsNonDecreasingBy (λ f. f.region.start) order.items) }
     ensures stable { IfOk result (λ order. IsStableByKey (λ f. f.region.start) nat_cmp fdes.now order.items) }
@@ -36,8 +35,8 @@ fn differs(place: u128, location: u64, other: u64) -> Refusal
     }
 }
 
-// The first row that is not that of its FDE, in a table that begins at a place.
-fn disagreement(place: u128, rows: &[HdrRow], order: &[Fde]) -> Option<Refusal>
+/// The first row that is not that of its FDE, in a table that begins at a place.
+pub fn disagreement(place: u128, rows: &[HdrRow], order: &[Fde]) -> Option<Refusal>
     requires near { place < 2 ^ 66 }
     requires few { length rows.now < 2 ^ 64 }
     ensures { option_map fault_of result ≡ disagrees place rows.now order.now }
@@ -66,17 +65,11 @@ fn disagreement(place: u128, rows: &[HdrRow], order: &[Fde]) -> Option<Refusal>
     }
 }
 
-/// Where a header's table, which begins at a place, is not the list of the FDEs by location.
-pub fn table_disagreement(
-    alloc: Global,
-    place: u128,
-    rows: &[HdrRow],
-    fdes: &[Fde],
-) -> Result<Option<Refusal>, AllocError>
-    requires near { place < 2 ^ 66 }
-    requires few { length rows.now < 2 ^ 64 }
-    ensures { (n : ℕ) (fs : List forms.Fde) → fdes.now ≡ map fde_listed fs → PlacesRise n fdes.now → IfOk result (λ r. option_map fault_of r ≡ disagreement place rows.now (sorted fs)) }
+/// Of FDEs those whose regions have places.
+pub fn with_places(fdes: Vec<Fde>) -> Vec<Fde>
+    ensures { result.items ≡ filter has_place fdes.items }
 {
-    let order = in_order(alloc, fdes)?;
-    Ok(disagreement(place, rows, &order))
+    let mut kept = fdes;
+    kept.retain(|fde| fde.region.length > 0);
+    kept
 }

@@ -5,10 +5,9 @@ ghost use Rattle.table_forms.specs.Fault.{least};
 ghost use Rattle.table_forms.specs.Fde as forms;
 ghost use Rattle.table_forms.specs.Parts.{Parts};
 ghost use Rattle.table_forms.specs.Header.{Header};
-ghost use Rattle.table_forms.specs.Frames.{parts_behind, table_disagreement, frames_in, frames};
+ghost use Rattle.table_forms.specs.Frames.{parts_behind, sorted, table_disagreement, frames_in, frames};
 ghost use Rattle.table_forms.specs.Seen.{fault_of};
 ghost use Rattle.frame_read.specs.Listed.{fde_listed};
-ghost use Rattle.frame_read.specs.Order.{PlacesRise};
 ghost use Rattle.frame_read.specs.SeenHeader.{summary, header_seen};
 ghost use Rattle.frame_read.specs.ReadsFrames.{ReadsFrames};
 ghost use Rattle.frame_read.specs.Whole.{whole, whole_seen};
@@ -20,7 +19,7 @@ use crate::gather::PartsRead;
 use crate::header::header_of;
 use crate::header_read::HeaderRead;
 use crate::listed::Fde;
-use crate::order;
+use crate::order::{disagreement, in_order, with_places};
 use eh_bytes::{HdrRow, Segment, Segments};
 use std::alloc::{AllocError, Global};
 use table_forms::{Reason, Refusal, joined, refused};
@@ -52,18 +51,13 @@ fn first_refusal(read: &HeaderRead, parts: &PartsRead) -> Option<Refusal>
 }
 
 // Where a header's table, if there is one, is not the list of the FDEs by location.
-fn table_refusal(
-    alloc: Global,
-    place: u128,
-    rows: &Option<Vec<HdrRow>>,
-    fdes: &[Fde],
-) -> Result<Option<Refusal>, AllocError>
+fn table_refusal(place: u128, rows: &Option<Vec<HdrRow>>, order: &[Fde]) -> Option<Refusal>
     requires { place < 2 ^ 66 }
-    ensures { (n : ℕ) (fs : List forms.Fde) → fdes.now ≡ map fde_listed fs → PlacesRise n fdes.now → IfOk result (λ r. option_map fault_of r ≡ table_disagreement place (option_map (λ v. v.items) rows.now) fs) }
+    ensures { (fs : List forms.Fde) → order.now ≡ map fde_listed (sorted fs) → option_map fault_of result ≡ table_disagreement place (option_map (λ v. v.items) rows.now) fs }
 {
     match rows {
-        None => Ok(None),
-        Some(rows) => order::table_disagreement(alloc, place, rows, fdes),
+        None => None,
+        Some(rows) => disagreement(place, rows, order),
     }
 }
 
@@ -86,11 +80,12 @@ fn read_in(
         return Err(refusal.into());
     }
     let table_place = segment.file_at as u128 + (place as u128 + 12);
-    if let Some(refusal) = table_refusal(alloc, table_place, &read.rows, &parts.fdes)? {
+    let order = in_order(alloc, &parts.fdes)?;
+    if let Some(refusal) = table_refusal(table_place, &read.rows, &order) {
         return Err(refusal.into());
     }
     let PartsRead { cies, fdes, .. } = parts;
-    Ok(Frames::of(cies, fdes))
+    Ok(Frames::of(cies, fdes, with_places(order)))
 }
 
 /// The frames whose header stands at an address, or the first of all their refusals: `LebRange`,

@@ -67,6 +67,18 @@ pub enum Reason {
     Runtime,
     /// To run: a table may be written.
     TableWritable,
+    /// The bytes of an exception table have another use too.
+    TableShared,
+    /// Two segments overlap in the file.
+    FileShared,
+    /// No section has the frames for debuggers.
+    NoDebugFrames,
+    /// The section headers or a section that is needed leave the file, or a name has no end.
+    SectionHeader,
+    /// The section is compressed.
+    Compressed,
+    /// Addresses of other than eight bytes, or with segment selectors.
+    AddressSize,
 }
 
 impl Reason {
@@ -106,6 +118,12 @@ impl Reason {
             Reason::NoRuntime => 67,
             Reason::Runtime => 68,
             Reason::TableWritable => 69,
+            Reason::TableShared => 83,
+            Reason::FileShared => 84,
+            Reason::NoDebugFrames => 85,
+            Reason::SectionHeader => 86,
+            Reason::Compressed => 87,
+            Reason::AddressSize => 88,
         }
     }
 }

@@ -2,7 +2,7 @@
 use crate::rows::{row_there, wanted};
 use eh_bytes::{FrameChange, FrameList, FrameMove, HdrRow, ListFde, Region64, Segment, Segments};
 use eh_write::{write_eh_frame, write_hdr};
-use frame_read::read_frames;
+use frame_read::{Fde, Frames, read_frames};
 use std::alloc::Global;
 use std::test::Fail;
 use table_forms::{Row, Rule};
@@ -156,8 +156,25 @@ fn next_of(fde: &ListFde, pc: u64) -> Option<u64> {
         .map(|moved| moved.location)
 }
 
+// The FDE of the function that has a place.
+fn wanted_at(list: &FrameList, frames: &Frames, pc: u64) -> Option<Fde> {
+    let has = |fde: &ListFde| {
+        fde.region.start <= pc && pc.wrapping_sub(fde.region.start) < fde.region.length
+    };
+    let number = list.fdes.iter().position(has)?;
+    frames.fdes().get(number).copied()
+}
+
 // How many functions, and whether some have exception tables.
-static LISTS: &[(u64, bool)] = &[(0, false), (1, true), (7, false), (50, true), (50, false)];
+static LISTS: &[(u64, bool)] = &[
+    (0, false),
+    (1, true),
+    (2, true),
+    (3, false),
+    (7, false),
+    (50, true),
+    (50, false),
+];
 
 #[test]
 fn what_was_listed_is_read(rt: HostRuntime) -> Result<(), Fail> {
@@ -179,6 +196,14 @@ fn what_was_listed_is_read(rt: HostRuntime) -> Result<(), Fail> {
                 assert_eq!(rt;
                     row_there(&frames, &memory, pc),
                     Some((row_of(function, pc), next_of(function, pc))),
+                    "at {pc}"
+                );
+            }
+            let end = function.region.start.wrapping_add(function.region.length);
+            for pc in [function.region.start.wrapping_sub(1), end] {
+                assert_eq!(rt;
+                    frames.fde_for(pc),
+                    wanted_at(&list, &frames, pc),
                     "at {pc}"
                 );
             }

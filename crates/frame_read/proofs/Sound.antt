@@ -18,8 +18,8 @@ use Rattle.table_forms.specs.Instructions.{Instructions, instructions_at}
 use Rattle.table_forms.specs.Parts.{Parts, cie_said, fde_said, said_behind, said_of, says, cie_behind, region_behind, region_of, regions_of, cies_of, fde_in, overlaps, refusal_said, parts_at}
 use Rattle.table_forms.specs.Spans.{Span, spans_within, distance_at}
 use Rattle.table_forms.proofs.Least.{none_second}
-use Rattle.debug_frames.specs.Laws.{IsSound}
-use Rattle.debug_frames.proofs.Sound.{none_refused, nil_right, fewer, IsRegion, AreSpread}
+use Rattle.frame_read.specs.Sound.{IsSound}
+use Rattle.frame_read.proofs.Spread.{none_refused, nil_right, fewer, IsRegion, AreSpread}
 
 abbrev region_as : ℕ → ℕ → ℕ → Result (Region64 × ℕ) Fault
 region_as a l m = Ok (record { start = a; length = l }, m)
@@ -81,7 +81,6 @@ fde_region cie part at stop p f e = by_region (region_at cie part stop p) refl e
         let same = by_lsda region (lsda_at cie.augmentation cie part stop n) e' in
         (n, at' ∙ ap (λ (r : Region64). Ok (r, n)) same)
 
--- what a part gives as an FDE it gives as a region
 said_region : (part : Part) (cies : List (ℕ × Result Cie Fault)) (s : Span) → IfSome (fde_in (says part cies s)) (IsRegion s.at (region_of part cies s (distance_at part s)))
 unfolding says
 said_region part cies s = by_distance (distance_at part s)
@@ -155,7 +154,7 @@ parts_sound part p none =
     let whole = spread part cies spans.list [] (none_refused behind (none_second (spans.cut ++ flat_map refusal_said said) behind none)) in
     record { apart = whole.apart; ends = whole.ends }
 
-behind_sound : (memory : Memory) (place : ℕ) (o : Option ℕ) → least (parts_behind memory place o).faults ≡ None → IsSound (parts_behind memory place o).fdes
+pub behind_sound : (memory : Memory) (place : ℕ) (o : Option ℕ) → least (parts_behind memory place o).faults ≡ None → IsSound (parts_behind memory place o).fdes
 behind_sound memory place None none = record { apart = tt; ends = tt }
 behind_sound memory place (Some a) none = by (part_with memory a) none
   where
@@ -190,6 +189,7 @@ in_sound memory p part read e = by_first (least (header.faults ++ parts.faults))
     by_first (Some f) is e' = cc
     by_first None is e' = by_table table is e'
 
+-- the FDEs of a reading are sound
 pub frames_sound : (memory : Memory) (header : ℕ) (read : Frames) → frames memory header ≡ Ok read → IsSound read.fdes
 unfolding frames
 frames_sound memory header read e = by (part_with memory header) e
