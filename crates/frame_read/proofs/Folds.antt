@@ -41,11 +41,11 @@ counted c part stop states p n k i next inside read whole =
     by (Some x) w = refl
     by None w = absurd cc
 
-and_states : (i : Instruction) (rest : Result Instructions Fault) → states_of (and_instructions i rest) ≡ states_of rest
+pub and_states : (i : Instruction) (rest : Result Instructions Fault) → states_of (and_instructions i rest) ≡ states_of rest
 and_states i (Ok rest) = refl
 and_states i (Err f) = refl
 
-and_list : (i : Instruction) (rest : Result Instructions Fault) (k : ℕ) → states_of rest ≡ Ok k → list_of (and_instructions i rest) ≡ i ∷ list_of rest
+pub and_list : (i : Instruction) (rest : Result Instructions Fault) (k : ℕ) → states_of rest ≡ Ok k → list_of (and_instructions i rest) ≡ i ∷ list_of rest
 and_list i (Ok rest) k e = refl
 and_list i (Err f) k e = absurd cc
 

@@ -30,3 +30,4 @@ mod Again
 mod FoundAgain
 mod Searches
 mod Searched
+pub mod RowWalks

@@ -27,3 +27,4 @@ pub mod Sound
 pub mod ReadsFrames
 pub mod Given
 pub mod Search
+pub mod RowWalk

@@ -5,10 +5,12 @@ ghost use Rattle.table_forms.specs.Fde as forms;
 ghost use Rattle.table_forms.specs.Frames.{frames};
 ghost use Rattle.frame_read.specs.ReadsFrames.{ReadsFrames};
 ghost use Rattle.frame_read.specs.Given.{IsFrameOf};
+ghost use Rattle.frame_read.specs.RowWalk.{IsWalk};
 
 use crate::frame_list::Frames;
 use crate::listed::Fde;
 use crate::lookup::{next_in, row_in};
+use crate::row_walk::{RowWalk, walk_in};
 use eh_bytes::Segments;
 use table_forms::Row;
 
@@ -38,5 +40,19 @@ impl Frames {
         ensures { (f : forms.Fde) → IsFrameOf (memory_of memory.now) self.now fde.now pc f → result ≡ forms.next_location f pc }
     {
         next_in(memory, fde.address, pc)
+    }
+
+    /// The rows of an FDE of this list at rising places, from the first of its region on, read from a
+    /// memory from which `read_frames` gives this list. No memory is taken.
+    pub fn walk<'m>(&self, memory: &'m Segments, fde: &Fde) -> RowWalk<'m>
+        requires read { (header : ℕ) × ReadsFrames (Ok self.now) (frames (memory_of memory.now) header) }
+        requires listed { Contains self.now.fdes fde.now }
+        requires inside { (pc : ℕ) × (forms.is_in fde.now.region pc ≡ true) }
+        ensures { (f : forms.Fde) (pc : ℕ) → IsFrameOf (memory_of memory.now) self.now fde.now pc f → IsWalk result f f.region.start }
+    {
+        match walk_in(memory, fde.address) {
+            Some(walk) => walk,
+            None => unreachable!(),
+        }
     }
 }

@@ -35,6 +35,7 @@ mod read;
 pub mod refusal;
 mod row;
 pub mod row_fold;
+pub mod row_walk;
 mod rule;
 mod search;
 pub mod search_fold;

@@ -171,7 +171,7 @@ fn fde_here(segment: &Segment, at: usize) -> Option<FdeHere<'_>>
 }
 
 // The FDE whose length stands at a place, if it was read before, without its instructions.
-fn known_fde(segment: &Segment, at: usize) -> Option<FdeHere<'_>>
+pub(crate) fn known_fde(segment: &Segment, at: usize) -> Option<FdeHere<'_>>
     requires { at ≤ length segment.now.bytes.items }
     ensures fde { (f : Fde) → fde_here (part_of segment.now) at ≡ Some f → IsSomeAnd result (λ h. IsKnown (part_of segment.now) h f) }
     ensures places { IfSome result (λ h. HasPlaces segment.now.bytes.items h) }

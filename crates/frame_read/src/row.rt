@@ -75,7 +75,7 @@ impl Folding {
     }
 
     // Takes an instruction that does not stop it.
-    fn takes(&mut self, instruction: Instruction)
+    pub(crate) fn takes(&mut self, instruction: Instruction)
         requires fits { Fits instruction }
         requires low { location_after (instruction_seen instruction) (folding_seen self.old).location < 2 ^ 64 }
         requires room { HasRoom instruction (array_vec_len self.old.states) }

@@ -1,0 +1,18 @@
+use Rattle.std.proofs.Common.{◌≡◌, ◌≤◌, ◌-◌, ℕ, false, List}
+use Rattle.arrayvec.specs.ArrayVec.{array_vec_len}
+use Rattle.eh_bytes.specs.Memory.{part_of}
+use Rattle.table_forms.specs.Instruction.{Instruction}
+use Rattle.frame_read.specs.RowWalk.{Comes, IsLeft}
+use Rattle.frame_read.specs.Seen.{coding_seen}
+use Rattle.frame_read.specs.SeenRow.{folding_seen}
+use Rattle.frame_read.proofs.row_walk.goes_over.Given as goal
+
+abbrev pub invariant-instructions : goal.invariant-instructions
+invariant-instructions l =
+    let c = coding_seen l.coding in let part = part_of l.segment in
+    (l.place ≤ l.stop) × (l.folding.stopped ≡ false) × (l.folding.location ≤ l.pc) ×
+    ((left : List Instruction) (after : ℕ) → IsLeft c part l.stop (array_vec_len l.initial.folding.states) l.first left after →
+    Comes c part l.stop l.pc (folding_seen l.initial.folding) left after (folding_seen l.folding) (array_vec_len l.folding.states) l.place)
+
+abbrev pub decreases-instructions : goal.decreases-instructions
+decreases-instructions l = l.stop - l.place
