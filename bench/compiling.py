@@ -43,15 +43,15 @@ def chain(length):
     return f"{OBJECT}void f0() {{ A a(0); throw 0; }}\n{links}int main() {{ try {{ f{length}(); }} catch (int e) {{ write_int(e); }} return 0; }}\n"
 
 
-def measured(command):
+def measured(command, status=0):
     """The least processor time of some runs, in milliseconds, the greatest resident memory, in MiB, and what the last one printed."""
     times, most = [], 0
     for _ in range(RUNS):
         with tempfile.TemporaryFile() as out:
             child = subprocess.Popen([str(word) for word in command], stdout=out, stderr=subprocess.DEVNULL)
-            _, status, used = os.wait4(child.pid, 0)
-            child.returncode = os.waitstatus_to_exitcode(status)
-            assert child.returncode == 0, command
+            _, ended, used = os.wait4(child.pid, 0)
+            child.returncode = os.waitstatus_to_exitcode(ended)
+            assert child.returncode == status, command
             out.seek(0)
             printed = out.read().decode()
         times.append((used.ru_utime + used.ru_stime) * 1e3)

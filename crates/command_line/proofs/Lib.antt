@@ -1,6 +1,5 @@
 pub mod Texts
 pub mod Lists
-pub mod Numbers
 pub mod Runs
 pub mod Rules
 pub mod Rows
@@ -11,3 +10,4 @@ pub mod Parses
 pub mod Under
 pub mod Turns
 pub mod Sizes
+pub mod Inputs

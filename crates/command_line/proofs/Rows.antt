@@ -9,7 +9,8 @@ use Rattle.clap.specs.declared.builder.value_parser.Reading.{Reading}
 use Rattle.clap.specs.declared.parser.matches.ValueSource.{ValueSource}
 use Rattle.command_line.specs.Matches.{Shows, name_in, text_in, text_under, texts_under, values_under}
 use Rattle.command_line.specs.Pieces.{Piece}
-use Rattle.command_line.proofs.Texts.{same_text, text_itself}
+use Rattle.plain_text.proofs.Texts.{same_text}
+use Rattle.command_line.proofs.Texts.{text_itself}
 
 -- the values, where the names are the same
 abbrev when_same : Bool → List (List ℕ) → List (List ℕ)

@@ -14,7 +14,7 @@ use Rattle.command_line.specs.declared.setting.Setting.TheVariants.{Input, Max, 
 use Rattle.command_line.specs.Matches.{app_of_settings, operand_name, operand_rule, rule_of_setting}
 use Rattle.command_line.specs.Pieces.{setting_of}
 use Rattle.command_line.specs.Setting.{name_of}
-use Rattle.command_line.proofs.Texts.{same_text}
+use Rattle.plain_text.proofs.Texts.{same_text}
 
 abbrev pub option_built : Setting → Rule
 option_built s = with_index 1 (filled (rule_of_setting s))

@@ -1,14 +1,14 @@
 -- The command that words are.
-use Rattle.std.specs.Prelude.{ℕ, Bool, true, false, ◌==◌, ◌&&◌, not, nat_le, List, [], ◌∷◌, length, map, flat_map, Option, Some, None, option_map, is_some, codes, bytes_eq, if◌then◌else◌, string_bytes}
+use Rattle.std.specs.Prelude.{◌≤◌, ⊤, ℕ, Bool, true, false, ◌==◌, ◌&&◌, not, nat_le, List, [], ◌∷◌, length, map, flat_map, Option, Some, None, option_map, is_some, codes, bytes_eq, if◌then◌else◌, string_bytes}
 use Rattle.std.specs.List.{list_all}
 use Rattle.std.specs.Option.{option_and_then}
 use Rattle.eh_outer.specs.declared.module.Reply.{Reply}
 use Rattle.command_line.specs.declared.command.Command.{Command}
 use Rattle.command_line.specs.declared.command.Verb.{Verb}
-use Rattle.command_line.specs.declared.command.Verb.TheVariants.{Compile, Run, Exec, Mean, Check, Dump, Frames, Gen}
+use Rattle.command_line.specs.declared.command.Verb.TheVariants.{Compile, Run, Exec, Harts, Mean, Check, Dump, Frames, Gen}
 use Rattle.command_line.specs.declared.setting.Setting.{Setting}
 use Rattle.command_line.specs.declared.setting.Setting.TheVariants.{Input, Max, Trace, Count, Foreign}
-use Rattle.command_line.specs.Number.{count_up_to}
+use Rattle.plain_text.specs.Decimal.{count_up_to}
 use Rattle.command_line.specs.Pieces.{Piece, Operand, Given, pieces_of}
 use Rattle.command_line.specs.Script.{all_some, script_of}
 use Rattle.command_line.specs.Setting.{name_of}
@@ -77,6 +77,20 @@ operands_for verb count names = exactly count names
 abbrev pub at_most_one : List (List ℕ) → Option (List (List ℕ))
 at_most_one names = if nat_le (length names) 1 && are_named names then Some names else None
 
+-- one to eight names, none empty
+abbrev pub one_to_eight : List (List ℕ) → Option (List (List ℕ))
+one_to_eight names = if nat_le 1 (length names) && nat_le (length names) 8 && are_named names then Some names else None
+
+-- the names of inputs: one for each hart where there are several, and else one at most
+abbrev pub inputs_for : Verb → List (List ℕ) → Option (List (List ℕ))
+inputs_for Harts names = one_to_eight names
+inputs_for verb names = at_most_one names
+
+-- so many inputs as there are harts
+abbrev pub AreHarts : Verb → List (List ℕ) → Type 0
+AreHarts Harts inputs = (1 ≤ length inputs) × (length inputs ≤ 8)
+AreHarts verb inputs = ⊤
+
 -- the most turns or steps, 1 to 2^40
 abbrev pub max_in : List ℕ → Option ℕ
 max_in text = count_up_to 1099511627776 text
@@ -135,7 +149,7 @@ command_from verb most found =
     (switch_of found.count))
     (switch_of found.trace))
     (max_of found.max))
-    (at_most_one found.inputs))
+    (inputs_for verb found.inputs))
     (operands_for verb most found.operands)
 
 -- the command of a verb that takes these options and so many operands, by the words behind it
@@ -148,6 +162,7 @@ verb_of word =
     if bytes_eq word (codes "compile") then Some Compile
     else if bytes_eq word (codes "run") then Some Run
     else if bytes_eq word (codes "exec") then Some Exec
+    else if bytes_eq word (codes "harts") then Some Harts
     else if bytes_eq word (codes "mean") then Some Mean
     else if bytes_eq word (codes "check") then Some Check
     else if bytes_eq word (codes "dump") then Some Dump
@@ -159,12 +174,14 @@ verb_of word =
 abbrev pub settings_of : Verb → List Setting
 settings_of Run = Input ∷ Max ∷ Trace ∷ Count ∷ Foreign ∷ []
 settings_of Exec = Input ∷ Max ∷ Trace ∷ Count ∷ Foreign ∷ []
+settings_of Harts = Input ∷ Trace ∷ []
 settings_of Mean = Input ∷ Max ∷ Trace ∷ Foreign ∷ []
 settings_of Gen = Max ∷ []
 settings_of verb = []
 
 abbrev pub operand_count : Verb → ℕ
 operand_count Compile = 2
+operand_count Harts = 2
 operand_count verb = 1
 
 -- the command that words are, if they are one

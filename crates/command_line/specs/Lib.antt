@@ -1,5 +1,4 @@
 pub mod Parted
-pub mod Number
 pub mod Script
 pub mod Setting
 pub mod Pieces

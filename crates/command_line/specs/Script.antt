@@ -4,7 +4,7 @@ use Rattle.std.specs.List.{slice_split}
 use Rattle.std.specs.Option.{option_and_then}
 use Rattle.eh_outer.specs.declared.module.Reply.{Reply}
 use Rattle.eh_outer.specs.declared.module.Reply.TheVariants.{Value, Raise}
-use Rattle.command_line.specs.Number.{count_up_to, int_of, number_of}
+use Rattle.plain_text.specs.Decimal.{count_up_to, int_of, number_of}
 use Rattle.command_line.specs.Parted.{parted}
 
 -- a reply: `v` and an int, or `r` and the token that is raised

@@ -12,6 +12,8 @@ pub enum Verb {
     Run,
     /// Run an image.
     Exec,
+    /// Run an image by several harts under a schedule.
+    Harts,
     /// Print what a source means.
     Mean,
     /// Judge an image, and count what it has.
@@ -30,7 +32,7 @@ pub struct Command {
     pub verb: Verb,
     /// The names that it is given, in order, or the number that is the size of a source.
     pub operands: Vec<String>,
-    /// The names of the files that are its input, in order; at most one.
+    /// The names of the files that are its input, in order: one for each hart, 1 to 8, where there are several, and else at most one.
     pub inputs: Vec<String>,
     /// The most turns or steps, 1 to 2^40.
     pub max: u64,

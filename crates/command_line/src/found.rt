@@ -9,7 +9,7 @@ ghost use Rattle.command_line.specs.Gives.{Gives};
 use crate::command::{Command, Verb};
 use crate::error::WordsError;
 use crate::matches::{OPERAND, texts_of};
-use crate::operands::{at_most_one, operands_for};
+use crate::operands::{inputs_for, operands_for};
 use crate::options::{max_of, scripts_of, switch_of};
 use crate::setting::Setting;
 use clap::ArgMatches;
@@ -49,7 +49,7 @@ impl Found {
         Ok(Command {
             verb,
             operands: operands_for(verb, operands, self.operands)?,
-            inputs: at_most_one(self.inputs)?,
+            inputs: inputs_for(verb, self.inputs)?,
             max: max_of(self.max.as_slice())?,
             trace: switch_of(self.trace.as_slice())?,
             count: switch_of(self.count.as_slice())?,

@@ -5,7 +5,6 @@ mod command;
 mod error;
 mod found;
 mod matches;
-mod number;
 mod operands;
 mod options;
 mod parted;

@@ -2,14 +2,17 @@
 ghost use Rattle.std.specs.Prelude.{◌≡◌, ◌≤◌, IfSome, map, string_bytes};
 ghost use Rattle.std.specs.List.{list_all};
 ghost use Rattle.command_line.specs.Gives.{Gives};
-ghost use Rattle.command_line.specs.Command.{are_named, at_most_one, exactly, greatest_size, is_size, operands_for, source_size};
+ghost use Rattle.command_line.specs.Command.{are_named, at_most_one, exactly, greatest_size, inputs_for, is_size, one_to_eight, operands_for, source_size};
 
 use crate::command::Verb;
 use crate::error::WordsError;
-use crate::number::number_of;
+use plain_text::number_of;
 
 /// The greatest size of a source that is generated.
 const GREATEST_SIZE: u64 = 2000;
+
+/// The most harts.
+const MOST_HARTS: usize = 8;
 
 fn are_named(texts: &[String]) -> bool
     ensures { result ≡ are_named (map string_bytes texts.now) }
@@ -28,14 +31,35 @@ pub fn exactly(count: usize, names: Vec<String>) -> Result<Vec<String>, WordsErr
     }
 }
 
-/// A name or none, and none empty.
-pub fn at_most_one(names: Vec<String>) -> Result<Vec<String>, WordsError>
+// A name or none, and none empty.
+fn at_most_one(names: Vec<String>) -> Result<Vec<String>, WordsError>
     ensures { Gives (λ found. map string_bytes found.items) result (at_most_one (map string_bytes names.items)) }
 {
     if names.len() <= 1 && are_named(names.as_slice()) {
         Ok(names)
     } else {
         Err(WordsError::Usage)
+    }
+}
+
+// One to eight names, none empty.
+fn one_to_eight(names: Vec<String>) -> Result<Vec<String>, WordsError>
+    ensures { Gives (λ found. map string_bytes found.items) result (one_to_eight (map string_bytes names.items)) }
+{
+    if 1 <= names.len() && names.len() <= MOST_HARTS && are_named(names.as_slice()) {
+        Ok(names)
+    } else {
+        Err(WordsError::Usage)
+    }
+}
+
+/// The names of inputs: one for each hart where there are several, and else one at most.
+pub fn inputs_for(verb: Verb, names: Vec<String>) -> Result<Vec<String>, WordsError>
+    ensures { Gives (λ found. map string_bytes found.items) result (inputs_for verb (map string_bytes names.items)) }
+{
+    match verb {
+        Verb::Harts => one_to_eight(names),
+        _ => at_most_one(names),
     }
 }
 

@@ -5,9 +5,9 @@ ghost use Rattle.command_line.specs.Script.{all_some, script_of};
 ghost use Rattle.command_line.specs.Command.{max_in, max_of, scripts_of, switch_of};
 
 use crate::error::WordsError;
-use crate::number::number_of;
 use crate::script::script_of;
 use eh_outer::Reply;
+use plain_text::number_of;
 use std::alloc::Global;
 
 /// The most turns, where no option says so.

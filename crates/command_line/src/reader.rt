@@ -44,6 +44,10 @@ impl Verb {
                 ],
                 operands: 1,
             },
+            Verb::Harts => Takes {
+                settings: &[Setting::Input, Setting::Trace],
+                operands: 2,
+            },
             Verb::Compile => Takes {
                 settings: &[],
                 operands: 2,
@@ -68,6 +72,7 @@ fn verb_of(word: &str) -> Option<Verb>
         "compile" => Some(Verb::Compile),
         "run" => Some(Verb::Run),
         "exec" => Some(Verb::Exec),
+        "harts" => Some(Verb::Harts),
         "mean" => Some(Verb::Mean),
         "check" => Some(Verb::Check),
         "dump" => Some(Verb::Dump),

@@ -5,9 +5,9 @@ ghost use Rattle.command_line.specs.Gives.{Gives};
 ghost use Rattle.command_line.specs.Script.{count_of, reply_of, run_of, runs_within, script_of};
 
 use crate::error::WordsError;
-use crate::number::{int_of, number_of};
 use crate::parted::parted;
 use eh_outer::Reply;
+use plain_text::{int_of, number_of};
 use std::alloc::{AllocError, Global};
 
 /// The most replies of a script.

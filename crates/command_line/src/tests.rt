@@ -218,6 +218,41 @@ static WORDS: &[(&[&str], &str)] = &[
     (&["exec", "f", "--count", "--count"], USAGE),
     (&["exec", "f", "--foreign"], USAGE),
     (&["exec"], USAGE),
+    (
+        &["harts", "f", "g", "--in=a"],
+        "Harts [\"f\", \"g\"] [\"a\"] 10000000 false false []",
+    ),
+    (
+        &[
+            "harts", "--in=a", "f", "--in", "b", "--trace", "g", "--in=a",
+        ],
+        "Harts [\"f\", \"g\"] [\"a\", \"b\", \"a\"] 10000000 true false []",
+    ),
+    (
+        &[
+            "harts", "f", "g", "--in=1", "--in=2", "--in=3", "--in=4", "--in=5", "--in=6",
+            "--in=7", "--in=8",
+        ],
+        "Harts [\"f\", \"g\"] [\"1\", \"2\", \"3\", \"4\", \"5\", \"6\", \"7\", \"8\"] 10000000 false false []",
+    ),
+    (
+        &[
+            "harts", "f", "g", "--in=1", "--in=2", "--in=3", "--in=4", "--in=5", "--in=6",
+            "--in=7", "--in=8", "--in=9",
+        ],
+        USAGE,
+    ),
+    (&["harts", "f", "g"], USAGE),
+    (&["harts", "f", "--in=a"], USAGE),
+    (&["harts", "f", "g", "h", "--in=a"], USAGE),
+    (&["harts", "f", "g", "--in="], USAGE),
+    (&["harts", "f", "g", "--in=a", "--in"], USAGE),
+    (&["harts", "f", "", "--in=a"], USAGE),
+    (&["harts", "f", "g", "--in=a", "--trace", "--trace"], USAGE),
+    (&["harts", "f", "g", "--in=a", "--max=5"], USAGE),
+    (&["harts", "f", "g", "--in=a", "--count"], USAGE),
+    (&["harts", "f", "g", "--in=a", "--foreign=v1"], USAGE),
+    (&["exec", "f", "--in=a", "--in=b"], USAGE),
     (&["mean", "f"], "Mean [\"f\"] [] 10000000 false false []"),
     (
         &["mean", "--max=5", "f", "--trace", "--in=g"],

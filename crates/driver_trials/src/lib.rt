@@ -9,6 +9,8 @@ mod frames;
 #[cfg(test)]
 mod generated;
 #[cfg(test)]
+mod harts;
+#[cfg(test)]
 mod images;
 #[cfg(test)]
 mod limits;

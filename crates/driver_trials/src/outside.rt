@@ -283,6 +283,7 @@ fn numbers(rt: HostRuntime) {
         (Status::ReadFault, 4),
         (Status::WriteFault, 5),
         (Status::NoMemory, 6),
+        (Status::ScheduleRefused(80, 0), 7),
         (Status::TooLong, 8),
         (Status::Aborted, 10),
         (Status::Budget, 11),

@@ -5,7 +5,7 @@ use Rattle.std.specs.FinMap.{get}
 use Rattle.eh_outer.specs.Store.{Files, StoreView, Refuses}
 use Rattle.eh_outer.specs.declared.store.RefusalKind.{RefusalKind}
 use Rattle.eh_commands.specs.declared.status.Status.{Status}
-use Rattle.eh_commands.specs.declared.status.Status.TheVariants.{Done, Usage, SourceRefused, ImageRefused, ReadFault, TooLong, WriteFault, NoMemory, Aborted, Budget, Stack, MachineFault, Undefined, Differs}
+use Rattle.eh_commands.specs.declared.status.Status.TheVariants.{Done, Usage, SourceRefused, ImageRefused, ScheduleRefused, ReadFault, TooLong, WriteFault, NoMemory, Aborted, Budget, Stack, MachineFault, Undefined, Differs}
 use Rattle.eh_commands.specs.File.{Asked, ToldInput, ToldBoth, Unread, UnreadInput, UnreadEither, IsFile, IsInput, input_limit}
 
 pub told_from : (limit : ℕ) (files : Option Files) (name file : List ℕ) (P : List ℕ → Type 0) → length file ≤ limit → IfSome files (λ m. get m name ≡ Some file) → P file →
@@ -32,7 +32,7 @@ input_since (Some name) old mid input same is = (is.0, subst (λ f. IfSome f (λ
 pub refused_since : (kind : RefusalKind) (name : List ℕ) (old mid new : StoreView) → old.faults ≤ mid.faults → Refuses mid new kind name → Refuses old new kind name
 refused_since kind name old mid new later why = record { rose = (let rose = why.rose in omega (arith, later, rose)); last = why.last }
 
-unread_since : (limit : ℕ) (name : List ℕ) (old mid new : StoreView) → old.faults ≤ mid.faults → mid.files ≡ old.files → (status : Status) → Unread limit name mid new status → Unread limit name old new status
+pub unread_since : (limit : ℕ) (name : List ℕ) (old mid new : StoreView) → old.faults ≤ mid.faults → mid.files ≡ old.files → (status : Status) → Unread limit name mid new status → Unread limit name old new status
 unread_since limit name old mid new later same ReadFault why = refused_since _ name old mid new later why
 unread_since limit name old mid new later same TooLong (n, above, why, long) =
     (n, above, refused_since _ name old mid new later why, subst (λ f. IfSome f (λ files. IsSomeAnd (get files name) (λ file. limit < length file))) same long)
@@ -46,6 +46,7 @@ unread_since limit name old mid new later same Aborted why = absurd why
 unread_since limit name old mid new later same Budget why = absurd why
 unread_since limit name old mid new later same Stack why = absurd why
 unread_since limit name old mid new later same (MachineFault kind place) why = absurd why
+unread_since limit name old mid new later same (ScheduleRefused number place) why = absurd why
 unread_since limit name old mid new later same Undefined why = absurd why
 unread_since limit name old mid new later same Differs why = absurd why
 
@@ -60,7 +61,7 @@ input_unread limit a file old mid new is later same status why =
     inr (told_from limit old.files a.source file (λ f. ⊤) is.0 is.1 tt, input_unread_since a.input old mid new later same status why)
 
 -- a file that is not read has one of three statuses
-unread_one : (P : Status → Type 0) → P ReadFault → P TooLong → P NoMemory → (limit : ℕ) (name : List ℕ) (old new : StoreView) (status : Status) → Unread limit name old new status → P status
+pub unread_one : (P : Status → Type 0) → P ReadFault → P TooLong → P NoMemory → (limit : ℕ) (name : List ℕ) (old new : StoreView) (status : Status) → Unread limit name old new status → P status
 unread_one P fault long memory limit name old new ReadFault why = fault
 unread_one P fault long memory limit name old new TooLong why = long
 unread_one P fault long memory limit name old new NoMemory why = memory
@@ -73,6 +74,7 @@ unread_one P fault long memory limit name old new Aborted why = absurd why
 unread_one P fault long memory limit name old new Budget why = absurd why
 unread_one P fault long memory limit name old new Stack why = absurd why
 unread_one P fault long memory limit name old new (MachineFault kind place) why = absurd why
+unread_one P fault long memory limit name old new (ScheduleRefused number place) why = absurd why
 unread_one P fault long memory limit name old new Undefined why = absurd why
 unread_one P fault long memory limit name old new Differs why = absurd why
 

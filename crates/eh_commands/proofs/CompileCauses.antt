@@ -13,7 +13,7 @@ use Rattle.source_bounds.specs.Compiled.{emitted_for}
 use Rattle.image_link.specs.Runs.{RunsUnit}
 use Rattle.eh_outer.specs.Store.{Files, StoreView}
 use Rattle.eh_commands.specs.declared.status.Status.{Status}
-use Rattle.eh_commands.specs.declared.status.Status.TheVariants.{Done, Usage, SourceRefused, ImageRefused, ReadFault, TooLong, WriteFault, NoMemory, Aborted, Budget, Stack, MachineFault, Undefined, Differs}
+use Rattle.eh_commands.specs.declared.status.Status.TheVariants.{Done, Usage, SourceRefused, ImageRefused, ScheduleRefused, ReadFault, TooLong, WriteFault, NoMemory, Aborted, Budget, Stack, MachineFault, Undefined, Differs}
 use Rattle.eh_commands.specs.Answer.{status_of_refusal}
 use Rattle.eh_commands.specs.File.{Asked, NamesRefusal, Unread, source_limit}
 use Rattle.eh_commands.specs.Compile.{CompilesTo, ImageStored, SourceCompiles, CompileCause}
@@ -55,6 +55,7 @@ module _ (name source : List ℕ) (c : CheckedValue) (a : FrontAnswers source (O
   stored_compiles old new Budget h = absurd h
   stored_compiles old new Stack h = absurd h
   stored_compiles old new (MachineFault kind place) h = absurd h
+  stored_compiles old new (ScheduleRefused number place) h = absurd h
   stored_compiles old new Undefined h = absurd h
   stored_compiles old new Differs h = absurd h
 
@@ -72,6 +73,7 @@ source_compiles_named name source file old new store Aborted h = tt
 source_compiles_named name source file old new store Budget h = tt
 source_compiles_named name source file old new store Stack h = tt
 source_compiles_named name source file old new store (MachineFault kind place) h = tt
+source_compiles_named name source file old new store (ScheduleRefused number place) h = tt
 source_compiles_named name source file old new store Undefined h = tt
 source_compiles_named name source file old new store Differs h = tt
 
@@ -88,6 +90,7 @@ unread_compiles a old new Aborted why same = absurd why
 unread_compiles a old new Budget why same = absurd why
 unread_compiles a old new Stack why same = absurd why
 unread_compiles a old new (MachineFault kind place) why same = absurd why
+unread_compiles a old new (ScheduleRefused number place) why same = absurd why
 unread_compiles a old new Undefined why same = absurd why
 unread_compiles a old new Differs why same = absurd why
 
@@ -113,5 +116,6 @@ module _ (a : Asked) (source : List ℕ) (old mid new : StoreView) (short : leng
   source_compiled Budget h = absurd h
   source_compiled Stack h = absurd h
   source_compiled (MachineFault kind place) h = absurd h
+  source_compiled (ScheduleRefused number place) h = absurd h
   source_compiled Undefined h = absurd h
   source_compiled Differs h = absurd h

@@ -27,7 +27,7 @@ use Rattle.eh_run.specs.Program.{Program, program_of}
 use Rattle.eh_run.specs.Loads.{Loads}
 use Rattle.eh_run.specs.Runs.{IsRun, RunsToEnd, RunsToFault, RunsBy}
 use Rattle.eh_commands.specs.declared.status.Status.{Status}
-use Rattle.eh_commands.specs.declared.status.Status.TheVariants.{Done, Usage, SourceRefused, ImageRefused, ReadFault, TooLong, WriteFault, NoMemory, Aborted, Budget, Stack, MachineFault, Undefined, Differs}
+use Rattle.eh_commands.specs.declared.status.Status.TheVariants.{Done, Usage, SourceRefused, ImageRefused, ScheduleRefused, ReadFault, TooLong, WriteFault, NoMemory, Aborted, Budget, Stack, MachineFault, Undefined, Differs}
 use Rattle.eh_commands.specs.File.{Asked, ToldBoth, UnreadEither, IsFile, IsInput}
 use Rattle.eh_commands.specs.Image.{image_limit, status_of}
 use Rattle.eh_commands.specs.RunEnd.{LastEnds, Ends, last_lines, run_lines, status_of_run}
@@ -89,6 +89,7 @@ module _ (a : Asked) (program : Program) (input : List ℕ) (after : List Module
     whole_runs Budget h = (r.whole, r.runs, all_taken Budget h)
     whole_runs Stack h = (r.whole, r.runs, all_taken Stack h)
     whole_runs (MachineFault kind place) h = (r.whole, r.runs, all_taken (MachineFault kind place) h)
+    whole_runs (ScheduleRefused number place) h = (r.whole, r.runs, all_taken (ScheduleRefused number place) h)
     whole_runs Undefined h = (r.whole, r.runs, all_taken Undefined h)
     whole_runs Differs h = (r.whole, r.runs, all_taken Differs h)
 
@@ -173,11 +174,12 @@ module _ (a : Asked) (file input : List ℕ) (program : Program) (old new : Sink
   image_runs Budget (r, is, h) = (r, runs_this r is, h)
   image_runs Stack (r, is, h) = (r, runs_this r is, h)
   image_runs (MachineFault kind place) (r, is, h) = (r, runs_this r is, h)
+  image_runs (ScheduleRefused number place) (r, is, h) = (r, runs_this r is, h)
   image_runs Undefined (r, is, h) = (r, runs_this r is, h)
   image_runs Differs (r, is, h) = (r, runs_this r is, h)
 
 -- a refusal
-refuses : (read : Result CleanImage Fault) (e : ImageError) → IsErrAnd read (λ f. e ≡ reported f) → IsErrAnd read (λ fault. status_of e ≡ status_of (reported fault))
+pub refuses : (read : Result CleanImage Fault) (e : ImageError) → IsErrAnd read (λ f. e ≡ reported f) → IsErrAnd read (λ fault. status_of e ≡ status_of (reported fault))
 refuses (Ok i) e h = absurd h
 refuses (Err fault) e h = ap status_of h
 
@@ -207,5 +209,6 @@ module _ (a : Asked) (file input : List ℕ) (old new : StoreView) (out out' : S
   image_executes Budget (r, this, h) = (r, told (RunsThis a r) this, h)
   image_executes Stack (r, this, h) = (r, told (RunsThis a r) this, h)
   image_executes (MachineFault kind place) (r, this, h) = (r, told (RunsThis a r) this, h)
+  image_executes (ScheduleRefused number place) (r, this, h) = (r, told (RunsThis a r) this, h)
   image_executes Undefined (r, this, h) = (r, told (RunsThis a r) this, h)
   image_executes Differs (r, this, h) = (r, told (RunsThis a r) this, h)

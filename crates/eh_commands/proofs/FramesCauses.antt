@@ -6,7 +6,7 @@ use Rattle.eh_outer.specs.Sink.{SinkView}
 use Rattle.debug_frames.specs.Agreement.{Agreement, same, differ}
 use Rattle.debug_frames.specs.Compares.{Compares}
 use Rattle.eh_commands.specs.declared.status.Status.{Status}
-use Rattle.eh_commands.specs.declared.status.Status.TheVariants.{Done, Usage, SourceRefused, ImageRefused, ReadFault, TooLong, WriteFault, NoMemory, Aborted, Budget, Stack, MachineFault, Undefined, Differs}
+use Rattle.eh_commands.specs.declared.status.Status.TheVariants.{Done, Usage, SourceRefused, ImageRefused, ScheduleRefused, ReadFault, TooLong, WriteFault, NoMemory, Aborted, Budget, Stack, MachineFault, Undefined, Differs}
 use Rattle.eh_commands.specs.File.{Unread, NamesRefusal}
 use Rattle.eh_commands.specs.Frames.{AgreementEnds, FramesEnds, FramesCause, RefusesForms, agreement_status}
 use Rattle.eh_commands.specs.Image.{image_limit}
@@ -40,6 +40,7 @@ agreement_ends file a old new Aborted is h = (a, is, h)
 agreement_ends file a old new Budget is h = (a, is, h)
 agreement_ends file a old new Stack is h = (a, is, h)
 agreement_ends file a old new (MachineFault kind place) is h = (a, is, h)
+agreement_ends file a old new (ScheduleRefused number place) is h = (a, is, h)
 agreement_ends file a old new Undefined is h = (a, is, h)
 agreement_ends file a old new Differs is h = (a, is, h)
 
@@ -61,6 +62,7 @@ module _ (name file : List ℕ) (old new : StoreView) (out out' : SinkView) (sho
   frames_caused Budget (a, is, h) = (a, told (λ f. Compares f a) is, h)
   frames_caused Stack (a, is, h) = (a, told (λ f. Compares f a) is, h)
   frames_caused (MachineFault kind place) (a, is, h) = (a, told (λ f. Compares f a) is, h)
+  frames_caused (ScheduleRefused number place) (a, is, h) = (a, told (λ f. Compares f a) is, h)
   frames_caused Undefined (a, is, h) = (a, told (λ f. Compares f a) is, h)
   frames_caused Differs (a, is, h) = (a, told (λ f. Compares f a) is, h)
 
@@ -77,6 +79,7 @@ unread_frames name old new out out' Aborted why kept = absurd why
 unread_frames name old new out out' Budget why kept = absurd why
 unread_frames name old new out out' Stack why kept = absurd why
 unread_frames name old new out out' (MachineFault kind place) why kept = absurd why
+unread_frames name old new out out' (ScheduleRefused number place) why kept = absurd why
 unread_frames name old new out out' Undefined why kept = absurd why
 unread_frames name old new out out' Differs why kept = absurd why
 
@@ -93,5 +96,6 @@ frames_named name old new out out' Aborted h = tt
 frames_named name old new out out' Budget h = tt
 frames_named name old new out out' Stack h = tt
 frames_named name old new out out' (MachineFault kind place) h = tt
+frames_named name old new out out' (ScheduleRefused number place) h = tt
 frames_named name old new out out' Undefined h = tt
 frames_named name old new out out' Differs h = tt

@@ -33,11 +33,11 @@ use Rattle.eh_run.specs.Loads.{Loads}
 use Rattle.eh_run.specs.Program.{Program as ReadyProgram}
 use Rattle.eh_run.specs.Runs.{IsRun}
 use Rattle.command_line.specs.declared.command.Verb.{Verb}
-use Rattle.command_line.specs.declared.command.Verb.TheVariants.{Compile, Run, Exec, Mean, Check, Dump, Frames, Gen}
+use Rattle.command_line.specs.declared.command.Verb.TheVariants.{Compile, Run, Exec, Harts, Mean, Check, Dump, Frames, Gen}
 use Rattle.command_line.specs.Command.{CommandView, is_size, source_size}
 use Rattle.command_line.proofs.Sizes.{AreSized}
 use Rattle.eh_commands.specs.declared.status.Status.{Status}
-use Rattle.eh_commands.specs.declared.status.Status.TheVariants.{Done, Usage, SourceRefused, ImageRefused, ReadFault, TooLong, WriteFault, NoMemory, Aborted, Budget, Stack, MachineFault, Undefined, Differs}
+use Rattle.eh_commands.specs.declared.status.Status.TheVariants.{Done, Usage, SourceRefused, ImageRefused, ScheduleRefused, ReadFault, TooLong, WriteFault, NoMemory, Aborted, Budget, Stack, MachineFault, Undefined, Differs}
 use Rattle.eh_commands.specs.File.{Asked, NamesRefusal}
 use Rattle.eh_commands.specs.Generate.{counted_lines, gen_lines, CountEnds, GenEnds, ReadyRuns, RunsAlone, CheckedRuns, SizeRuns, GeneratedRuns, IsSized}
 use Rattle.eh_commands.specs.RunEnd.{status_of_run}
@@ -84,7 +84,7 @@ no_write_fault image pick (suc n) w e = go (turn image (pick (w.last_number + 1)
 
 -- ---- what was counted
 module _ (turns : ℕ) (program : ReadyProgram) (counted : Counted) (counts : CountsTo program [] [] turns counted) where
-  pub not_failed : counted.ran.end ≡ ends.WriteFault → ⊥
+  not_failed : counted.ran.end ≡ ends.WriteFault → ⊥
   not_failed e = let (pick, is) = counts.runs in no_write_fault program.image pick turns (begins program.hart [] (replies_of [])) (ap (λ (r : Ran). r.end) is ∙ counts.end ∙ e)
 
   -- the printed lines are those of the run
@@ -120,6 +120,7 @@ gen_more P Q says old new Aborted (tokens, r, holds, is, took) = (tokens, r, say
 gen_more P Q says old new Budget (tokens, r, holds, is, took) = (tokens, r, says tokens r holds, is, took)
 gen_more P Q says old new Stack (tokens, r, holds, is, took) = (tokens, r, says tokens r holds, is, took)
 gen_more P Q says old new (MachineFault kind place) (tokens, r, holds, is, took) = (tokens, r, says tokens r holds, is, took)
+gen_more P Q says old new (ScheduleRefused number place) (tokens, r, holds, is, took) = (tokens, r, says tokens r holds, is, took)
 gen_more P Q says old new Undefined (tokens, r, holds, is, took) = (tokens, r, says tokens r holds, is, took)
 gen_more P Q says old new Differs (tokens, r, holds, is, took) = (tokens, r, says tokens r holds, is, took)
 
@@ -145,6 +146,7 @@ counts_gen P Q says old new Aborted (tokens, r, holds, is, took) = (tokens, r, s
 counts_gen P Q says old new Budget (tokens, r, holds, is, took) = (tokens, r, says tokens r holds, is, took)
 counts_gen P Q says old new Stack (tokens, r, holds, is, took) = (tokens, r, says tokens r holds, is, took)
 counts_gen P Q says old new (MachineFault kind place) (tokens, r, holds, is, took) = (tokens, r, says tokens r holds, is, took)
+counts_gen P Q says old new (ScheduleRefused number place) (tokens, r, holds, is, took) = (tokens, r, says tokens r holds, is, took)
 counts_gen P Q says old new Undefined (tokens, r, holds, is, took) = (tokens, r, says tokens r holds, is, took)
 counts_gen P Q says old new Differs (tokens, r, holds, is, took) = (tokens, r, says tokens r holds, is, took)
 
@@ -184,6 +186,7 @@ gen_named P old new name store Aborted h = tt
 gen_named P old new name store Budget h = tt
 gen_named P old new name store Stack h = tt
 gen_named P old new name store (MachineFault kind place) h = tt
+gen_named P old new name store (ScheduleRefused number place) h = tt
 gen_named P old new name store Undefined h = tt
 gen_named P old new name store Differs h = tt
 
@@ -196,6 +199,7 @@ is_sized c are = by c.verb are
     by Compile are = tt
     by Run are = tt
     by Exec are = tt
+    by Harts are = tt
     by Mean are = tt
     by Check are = tt
     by Dump are = tt

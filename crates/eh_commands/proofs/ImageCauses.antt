@@ -11,7 +11,7 @@ use Rattle.table_check.specs.declared.summary.Summary.{Summary}
 use Rattle.elf_image.specs.Clean.{CleanImage, clean}
 use Rattle.elf_image.specs.Reports.{reported}
 use Rattle.eh_commands.specs.declared.status.Status.{Status}
-use Rattle.eh_commands.specs.declared.status.Status.TheVariants.{Done, Usage, SourceRefused, ImageRefused, ReadFault, TooLong, WriteFault, NoMemory, Aborted, Budget, Stack, MachineFault, Undefined, Differs}
+use Rattle.eh_commands.specs.declared.status.Status.TheVariants.{Done, Usage, SourceRefused, ImageRefused, ScheduleRefused, ReadFault, TooLong, WriteFault, NoMemory, Aborted, Budget, Stack, MachineFault, Undefined, Differs}
 use Rattle.eh_commands.specs.File.{Unread}
 use Rattle.eh_commands.specs.Image.{ImageEnds, ImageCause, check_lines, image_limit, status_of, summary_line}
 use Rattle.run_items.specs.Output.{FailsAmong}
@@ -37,6 +37,7 @@ image_caused lines name file old new out out' Aborted short there h = absurd h
 image_caused lines name file old new out out' Budget short there h = absurd h
 image_caused lines name file old new out out' Stack short there h = absurd h
 image_caused lines name file old new out out' (MachineFault kind place) short there h = absurd h
+image_caused lines name file old new out out' (ScheduleRefused number place) short there h = absurd h
 image_caused lines name file old new out out' Undefined short there h = absurd h
 image_caused lines name file old new out out' Differs short there h = absurd h
 
@@ -54,6 +55,7 @@ unread_image lines name old new out out' Aborted why same = absurd why
 unread_image lines name old new out out' Budget why same = absurd why
 unread_image lines name old new out out' Stack why same = absurd why
 unread_image lines name old new out out' (MachineFault kind place) why same = absurd why
+unread_image lines name old new out out' (ScheduleRefused number place) why same = absurd why
 unread_image lines name old new out out' Undefined why same = absurd why
 unread_image lines name old new out out' Differs why same = absurd why
 

@@ -1,5 +1,5 @@
 pub mod Words
-pub mod FirstLine
+pub mod TextLines
 pub mod EachLine
 pub mod Hexadecimal
 pub mod Causes
@@ -15,3 +15,5 @@ pub mod ExecCauses
 pub mod CompileCauses
 pub mod RunCauses
 pub mod GenCauses
+pub mod HartReading
+pub mod HartsCauses

@@ -12,7 +12,7 @@ use Rattle.meaning_forms.specs.declared.ending.MeanEnd.{MeanEnd}
 use Rattle.meaning_forms.specs.declared.ending.MeanEnd.TheVariants as ends
 use Rattle.scope_meaning.specs.Mean.{meant}
 use Rattle.eh_commands.specs.declared.status.Status.{Status}
-use Rattle.eh_commands.specs.declared.status.Status.TheVariants.{Done, Usage, SourceRefused, ImageRefused, ReadFault, TooLong, WriteFault, NoMemory, Aborted, Budget, Stack, MachineFault, Undefined, Differs}
+use Rattle.eh_commands.specs.declared.status.Status.TheVariants.{Done, Usage, SourceRefused, ImageRefused, ScheduleRefused, ReadFault, TooLong, WriteFault, NoMemory, Aborted, Budget, Stack, MachineFault, Undefined, Differs}
 use Rattle.eh_commands.specs.Answer.{status_of_refusal}
 use Rattle.eh_commands.specs.File.{Asked, ToldBoth, UnreadEither, IsFile, IsInput, source_limit}
 use Rattle.eh_commands.specs.Mean.{MeanCause, MeansThis, MeaningEnds, SourceMeans, status_of_end}
@@ -60,6 +60,7 @@ program_means a source input p c old new Aborted only is h = (meant c input a.mo
 program_means a source input p c old new Budget only is h = (meant c input a.modules a.turns, (p, only, ap (λ x. meant x input a.modules a.turns) is), h)
 program_means a source input p c old new Stack only is h = (meant c input a.modules a.turns, (p, only, ap (λ x. meant x input a.modules a.turns) is), h)
 program_means a source input p c old new (MachineFault kind place) only is h = (meant c input a.modules a.turns, (p, only, ap (λ x. meant x input a.modules a.turns) is), h)
+program_means a source input p c old new (ScheduleRefused number place) only is h = (meant c input a.modules a.turns, (p, only, ap (λ x. meant x input a.modules a.turns) is), h)
 program_means a source input p c old new Undefined only is h = (meant c input a.modules a.turns, (p, only, ap (λ x. meant x input a.modules a.turns) is), h)
 program_means a source input p c old new Differs only is h = (meant c input a.modules a.turns, (p, only, ap (λ x. meant x input a.modules a.turns) is), h)
 
@@ -85,5 +86,6 @@ module _ (a : Asked) (source input : List ℕ) (old new : StoreView) (out out' :
   source_means Budget (m, means, h) = (m, told (MeansThis a m) means, h)
   source_means Stack (m, means, h) = (m, told (MeansThis a m) means, h)
   source_means (MachineFault kind place) (m, means, h) = (m, told (MeansThis a m) means, h)
+  source_means (ScheduleRefused number place) (m, means, h) = (m, told (MeansThis a m) means, h)
   source_means Undefined (m, means, h) = (m, told (MeansThis a m) means, h)
   source_means Differs (m, means, h) = (m, told (MeansThis a m) means, h)

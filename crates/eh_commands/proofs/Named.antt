@@ -5,7 +5,7 @@ use Rattle.eh_outer.specs.declared.store.RefusalKind.{RefusalKind}
 use Rattle.eh_outer.specs.Sink.{SinkView}
 use Rattle.elf_image.specs.Clean.{CleanImage}
 use Rattle.eh_commands.specs.declared.status.Status.{Status}
-use Rattle.eh_commands.specs.declared.status.Status.TheVariants.{Done, Usage, SourceRefused, ImageRefused, ReadFault, TooLong, WriteFault, NoMemory, Aborted, Budget, Stack, MachineFault, Undefined, Differs}
+use Rattle.eh_commands.specs.declared.status.Status.TheVariants.{Done, Usage, SourceRefused, ImageRefused, ScheduleRefused, ReadFault, TooLong, WriteFault, NoMemory, Aborted, Budget, Stack, MachineFault, Undefined, Differs}
 use Rattle.eh_commands.specs.File.{Asked, NamesRefusal, Unread, refused_name}
 use Rattle.eh_commands.specs.Image.{ImageCause}
 use Rattle.eh_commands.specs.Mean.{SourceMeans}
@@ -28,6 +28,7 @@ text_named Aborted name store is = refl
 text_named Budget name store is = refl
 text_named Stack name store is = refl
 text_named (MachineFault kind place) name store is = refl
+text_named (ScheduleRefused number place) name store is = refl
 text_named Undefined name store is = refl
 text_named Differs name store is = refl
 
@@ -47,6 +48,7 @@ unread_named limit name old new Aborted why = tt
 unread_named limit name old new Budget why = tt
 unread_named limit name old new Stack why = tt
 unread_named limit name old new (MachineFault kind place) why = tt
+unread_named limit name old new (ScheduleRefused number place) why = tt
 unread_named limit name old new Undefined why = tt
 unread_named limit name old new Differs why = tt
 
@@ -63,6 +65,7 @@ image_named lines name old new out out' Aborted h = tt
 image_named lines name old new out out' Budget h = tt
 image_named lines name old new out out' Stack h = tt
 image_named lines name old new out out' (MachineFault kind place) h = tt
+image_named lines name old new out out' (ScheduleRefused number place) h = tt
 image_named lines name old new out out' Undefined h = tt
 image_named lines name old new out out' Differs h = tt
 
@@ -80,6 +83,7 @@ source_named a source input name store old new Aborted h = tt
 source_named a source input name store old new Budget h = tt
 source_named a source input name store old new Stack h = tt
 source_named a source input name store old new (MachineFault kind place) h = tt
+source_named a source input name store old new (ScheduleRefused number place) h = tt
 source_named a source input name store old new Undefined h = tt
 source_named a source input name store old new Differs h = tt
 
@@ -97,5 +101,6 @@ image_runs_named a file input name store old new Aborted h = tt
 image_runs_named a file input name store old new Budget h = tt
 image_runs_named a file input name store old new Stack h = tt
 image_runs_named a file input name store old new (MachineFault kind place) h = tt
+image_runs_named a file input name store old new (ScheduleRefused number place) h = tt
 image_runs_named a file input name store old new Undefined h = tt
 image_runs_named a file input name store old new Differs h = tt

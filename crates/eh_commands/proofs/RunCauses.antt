@@ -25,7 +25,7 @@ use Rattle.cxa_runtime.specs.Run.{Ran}
 use Rattle.eh_run.specs.Program.{Program as ReadyProgram}
 use Rattle.eh_run.specs.Runs.{IsRun}
 use Rattle.eh_commands.specs.declared.status.Status.{Status}
-use Rattle.eh_commands.specs.declared.status.Status.TheVariants.{Done, Usage, SourceRefused, ImageRefused, ReadFault, TooLong, WriteFault, NoMemory, Aborted, Budget, Stack, MachineFault, Undefined, Differs}
+use Rattle.eh_commands.specs.declared.status.Status.TheVariants.{Done, Usage, SourceRefused, ImageRefused, ScheduleRefused, ReadFault, TooLong, WriteFault, NoMemory, Aborted, Budget, Stack, MachineFault, Undefined, Differs}
 use Rattle.eh_commands.specs.Answer.{status_of_refusal}
 use Rattle.eh_commands.specs.Exec.{ProgramRuns}
 use Rattle.eh_commands.specs.File.{Asked, NamesRefusal, ToldBoth, UnreadEither, IsFile, IsInput, source_limit}
@@ -68,6 +68,7 @@ module _ (a : Asked) (p : Checked) (input : List ℕ) (program : ReadyProgram) (
   compiled_runs Budget (r, is, h) = (r, runs r is, h)
   compiled_runs Stack (r, is, h) = (r, runs r is, h)
   compiled_runs (MachineFault kind place) (r, is, h) = (r, runs r is, h)
+  compiled_runs (ScheduleRefused number place) (r, is, h) = (r, runs r is, h)
   compiled_runs Undefined (r, is, h) = (r, runs r is, h)
   compiled_runs Differs (r, is, h) = (r, runs r is, h)
 
@@ -90,6 +91,7 @@ source_runs a source input p only old new Aborted (r, this, h) = (r, (p, only, t
 source_runs a source input p only old new Budget (r, this, h) = (r, (p, only, this), h)
 source_runs a source input p only old new Stack (r, this, h) = (r, (p, only, this), h)
 source_runs a source input p only old new (MachineFault kind place) (r, this, h) = (r, (p, only, this), h)
+source_runs a source input p only old new (ScheduleRefused number place) (r, this, h) = (r, (p, only, this), h)
 source_runs a source input p only old new Undefined (r, this, h) = (r, (p, only, this), h)
 source_runs a source input p only old new Differs (r, this, h) = (r, (p, only, this), h)
 
@@ -115,6 +117,7 @@ module _ (a : Asked) (source input : List ℕ) (old new : StoreView) (out out' :
   source_run Budget (r, this, h) = (r, told (SourceRunsThis a r) this, h)
   source_run Stack (r, this, h) = (r, told (SourceRunsThis a r) this, h)
   source_run (MachineFault kind place) (r, this, h) = (r, told (SourceRunsThis a r) this, h)
+  source_run (ScheduleRefused number place) (r, this, h) = (r, told (SourceRunsThis a r) this, h)
   source_run Undefined (r, this, h) = (r, told (SourceRunsThis a r) this, h)
   source_run Differs (r, this, h) = (r, told (SourceRunsThis a r) this, h)
 
@@ -132,5 +135,6 @@ source_runs_named a source input name store old new Aborted h = tt
 source_runs_named a source input name store old new Budget h = tt
 source_runs_named a source input name store old new Stack h = tt
 source_runs_named a source input name store old new (MachineFault kind place) h = tt
+source_runs_named a source input name store old new (ScheduleRefused number place) h = tt
 source_runs_named a source input name store old new Undefined h = tt
 source_runs_named a source input name store old new Differs h = tt

@@ -5,7 +5,7 @@ use Rattle.eh_outer.specs.Sink.{SinkView, Gains}
 use Rattle.eh_commands.specs.declared.status.Status.{Status}
 use Rattle.eh_commands.specs.declared.status.Status.TheVariants.{Done, Usage, SourceRefused, NoMemory}
 use Rattle.command_line.specs.declared.command.Verb.{Verb}
-use Rattle.command_line.specs.declared.command.Verb.TheVariants.{Compile, Run, Exec, Mean, Check, Dump, Frames, Gen}
+use Rattle.command_line.specs.declared.command.Verb.TheVariants.{Compile, Run, Exec, Harts, Mean, Check, Dump, Frames, Gen}
 use Rattle.command_line.specs.declared.error.WordsError.{WordsError}
 use Rattle.command_line.specs.declared.error.WordsError.TheVariants as words
 use Rattle.command_line.specs.Command.{CommandView}
@@ -17,6 +17,8 @@ use Rattle.eh_commands.specs.Exec.{ExecCause}
 use Rattle.eh_commands.specs.Compile.{CompileCause}
 use Rattle.eh_commands.specs.RunSource.{RunCause}
 use Rattle.eh_commands.specs.Generate.{GenCause}
+use Rattle.eh_commands.specs.HartFiles.{harts_asked}
+use Rattle.eh_commands.specs.Harts.{HartsCause}
 use Rattle.cxx_front.specs.declared.error.SourceError.{SourceError}
 use Rattle.cxx_front.specs.declared.error.SourceError.TheVariants as errors
 use Rattle.eh_commands.specs.Image.{ImageCause, check_lines, dump_lines}
@@ -32,6 +34,7 @@ abbrev pub CommandCause : Verb → Asked → StoreView → StoreView → SinkVie
 CommandCause Compile a old new out out' status = CompileCause a old new status × (out' ≡ out)
 CommandCause Run a old new out out' status = RunCause a old new out out' status
 CommandCause Exec a old new out out' status = ExecCause a old new out out' status
+CommandCause Harts a old new out out' status = HartsCause (harts_asked a) old new out out' status
 CommandCause Mean a old new out out' status = MeanCause a old new out out' status
 CommandCause Check a old new out out' status = ImageCause check_lines a.source old new out out' status
 CommandCause Dump a old new out out' status = ImageCause dump_lines a.source old new out out' status

@@ -17,12 +17,13 @@ source_limit = 2 ^ 20
 abbrev pub input_limit : ℕ
 input_limit = 2 ^ 20
 
--- what a command asks of a file: its name, that of the image to be stored, that of its input if it has one, the most turns or steps, whether events are printed, whether
--- steps are counted, and the modules
+-- what a command asks of a file: its name, that of the image to be stored or of the schedule, that of its input if it has one, those of all inputs, the most turns or steps,
+-- whether events are printed, whether steps are counted, and the modules
 pub record Asked : Type 0 where
   pub source : List ℕ
   pub image : List ℕ
   pub input : Option (List ℕ)
+  pub inputs : List (List ℕ)
   pub turns : ℕ
   pub trace : Bool
   pub count : Bool

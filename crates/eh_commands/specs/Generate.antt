@@ -24,12 +24,13 @@ use Rattle.eh_commands.specs.declared.status.Status.{Status}
 use Rattle.eh_commands.specs.declared.status.Status.TheVariants.{SourceRefused, ImageRefused, WriteFault, NoMemory}
 use Rattle.eh_commands.specs.File.{Asked}
 use Rattle.eh_commands.specs.Output.{number_line}
-use Rattle.eh_commands.specs.RunEnd.{run_end_line, status_of_run}
+use Rattle.run_ends.specs.EndLine.{end_line}
+use Rattle.eh_commands.specs.RunEnd.{status_of_run}
 
 -- what is printed: how many tokens a source has, how many ints a run of it wrote, how many exception objects it made, and how it ended
 abbrev pub counted_lines : (tokens lines makes : ℕ) → End → List (List ℕ)
 counted_lines tokens lines makes end =
-    number_line (codes "tokens ") tokens ∷ number_line (codes "lines ") lines ∷ number_line (codes "makes ") makes ∷ run_end_line end ∷ []
+    number_line (codes "tokens ") tokens ∷ number_line (codes "lines ") lines ∷ number_line (codes "makes ") makes ∷ end_line end ∷ []
 
 -- so of a run
 abbrev pub gen_lines : ℕ → Ran → List (List ℕ)

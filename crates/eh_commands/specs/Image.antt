@@ -13,7 +13,7 @@ use Rattle.elf_image.specs.Clean.{CleanImage, clean}
 use Rattle.table_check.specs.Counts.{counts}
 use Rattle.table_check.specs.declared.summary.Summary.{Summary}
 use Rattle.table_dump.specs.Dump.{dump}
-use Rattle.eh_commands.specs.Lines.{lines_of}
+use Rattle.plain_text.specs.Lines.{lines_of}
 use Rattle.eh_commands.specs.declared.status.Status.{Status}
 use Rattle.eh_commands.specs.declared.status.Status.TheVariants.{Done, ImageRefused, ReadFault, TooLong, WriteFault, NoMemory}
 use Rattle.eh_commands.specs.File.{Told, Unread}

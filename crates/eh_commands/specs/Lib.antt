@@ -1,6 +1,5 @@
 pub mod Output
 pub mod Status
-pub mod Lines
 pub mod File
 pub mod Image
 pub mod Frames
@@ -10,6 +9,8 @@ pub mod Exec
 pub mod Compile
 pub mod RunSource
 pub mod Generate
+pub mod HartFiles
+pub mod Harts
 pub mod Question
 pub mod Words
 pub mod Answer

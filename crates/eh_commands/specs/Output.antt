@@ -1,5 +1,5 @@
 -- The lines of a run.
-use Rattle.std.specs.Prelude.{ℕ, ℤ, pos, List, [], ◌∷◌, ◌++◌, map, codes}
+use Rattle.std.specs.Prelude.{ℕ, ℤ, List, [], ◌∷◌, ◌++◌, codes}
 use Rattle.std.specs.Fmt.{decimal, signed_decimal}
 
 -- the line of an int: in decimal, `-` before a negative one, and a line feed
@@ -13,7 +13,3 @@ number_line name n = name ++ (decimal n ++ codes "\n")
 -- the last line of a run that exits
 abbrev pub exit_line : ℤ → List ℕ
 exit_line n = codes "= exit " ++ line_of n
-
--- the pieces of a run that writes these ints and exits
-abbrev pub exit_pieces : List ℕ → ℕ → List (List ℕ)
-exit_pieces lines answer = map line_of (map pos lines) ++ exit_line (pos answer) ∷ []

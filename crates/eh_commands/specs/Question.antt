@@ -1,5 +1,5 @@
 -- What is asked of a file.
-use Rattle.std.specs.Prelude.{List, option_map}
+use Rattle.std.specs.Prelude.{List, map, option_map, string_bytes}
 use Rattle.eh_outer.specs.Module.{ModuleView}
 use Rattle.eh_commands.specs.declared.file.Question.{Question}
 use Rattle.eh_commands.specs.File.{Asked}
@@ -10,6 +10,7 @@ asked_by q modules = record {
   source = q.source.now;
   image = q.image.now;
   input = option_map (λ name. name.now) q.input;
+  inputs = map string_bytes q.inputs.now;
   turns = q.turns;
   trace = q.trace;
   count = q.count;

@@ -1,41 +1,15 @@
 -- What is printed of a run and of its end.
 use Rattle.std.specs.Prelude.{◌≡◌, ℕ, Bool, true, false, List, [], ◌∷◌, ◌++◌, codes}
-use Rattle.std.specs.Int.{w64, to_be_bytes}
-use Rattle.hex.specs.Hex.{encode_lower}
-use Rattle.rv64_isa.specs.declared.step.FaultKind.{FaultKind}
-use Rattle.rv64_isa.specs.declared.step.FaultKind.TheVariants.{Illegal, Misaligned, Unmapped, ReadOnly, Break, Call, Walk}
 use Rattle.run_items.specs.Line.{lines_of}
 use Rattle.cxa_runtime.specs.declared.effect.End.{End}
 use Rattle.cxa_runtime.specs.declared.effect.End.TheVariants as ends
 use Rattle.cxa_runtime.specs.Run.{Ran}
+use Rattle.run_ends.specs.EndLine.{end_line}
 use Rattle.eh_outer.specs.Sink.{SinkView}
 use Rattle.run_items.specs.Output.{TakesAll, FailsAmong}
 use Rattle.eh_commands.specs.declared.status.Status.{Status}
 use Rattle.eh_commands.specs.declared.status.Status.TheVariants.{Done, WriteFault, Aborted, Budget, Stack, MachineFault}
-use Rattle.eh_commands.specs.Output.{exit_line, number_line}
-
--- the name of a fault
-abbrev pub fault_name : FaultKind → List ℕ
-fault_name Illegal = codes "illegal"
-fault_name Misaligned = codes "misaligned"
-fault_name Unmapped = codes "unmapped"
-fault_name ReadOnly = codes "readonly"
-fault_name Break = codes "break"
-fault_name Call = codes "call"
-fault_name Walk = codes "walk"
-
--- an address with all of its sixteen hexadecimal digits
-abbrev pub whole_address : ℕ → List ℕ
-whole_address place = codes "0x" ++ encode_lower (to_be_bytes w64 place)
-
--- the line of an end
-abbrev pub run_end_line : End → List ℕ
-run_end_line (ends.Exit n) = exit_line n
-run_end_line ends.Aborted = codes "= aborted\n"
-run_end_line ends.Budget = codes "= budget\n"
-run_end_line ends.Stack = codes "= stack\n"
-run_end_line (ends.Fault kind place) = codes "= fault " ++ (fault_name kind ++ (codes " " ++ (whole_address place ++ codes "\n")))
-run_end_line ends.WriteFault = []
+use Rattle.eh_commands.specs.Output.{number_line}
 
 -- the line of how many steps were counted
 abbrev pub count_line : ℕ → List ℕ
@@ -48,7 +22,7 @@ count_lines false n = []
 
 -- the last lines: that of the end, and that of the count
 abbrev pub last_lines : Bool → End → ℕ → List (List ℕ)
-last_lines count end n = run_end_line end ∷ count_lines count n
+last_lines count end n = end_line end ∷ count_lines count n
 
 -- the lines of a run: those of its items, and the last ones
 abbrev pub run_lines : (trace count : Bool) → Ran → List (List ℕ)

@@ -3,7 +3,7 @@ use Rattle.std.specs.Prelude.{ℕ, ◌==◌, List, [], ◌++◌, codes, if◌the
 use Rattle.std.specs.Fmt.{decimal}
 use Rattle.table_dump.specs.Texts.{hex}
 use Rattle.eh_commands.specs.declared.status.Status.{Status}
-use Rattle.eh_commands.specs.declared.status.Status.TheVariants.{Done, Usage, SourceRefused, ImageRefused, ReadFault, TooLong, WriteFault, NoMemory, Aborted, Budget, Stack, MachineFault, Undefined, Differs}
+use Rattle.eh_commands.specs.declared.status.Status.TheVariants.{Done, Usage, SourceRefused, ImageRefused, ScheduleRefused, ReadFault, TooLong, WriteFault, NoMemory, Aborted, Budget, Stack, MachineFault, Undefined, Differs}
 
 -- the exit status of the program
 abbrev pub number_of : Status → ℕ
@@ -14,6 +14,7 @@ number_of (ImageRefused number place location other) = 3
 number_of ReadFault = 4
 number_of WriteFault = 5
 number_of NoMemory = 6
+number_of (ScheduleRefused number place) = 7
 number_of TooLong = 8
 number_of Aborted = 10
 number_of Budget = 11
@@ -36,6 +37,7 @@ text_of_status name Usage = codes "ehc: usage\n"
 text_of_status name (SourceRefused number place) = at_place (codes "ehc: source refused: ") number place ++ codes "\n"
 text_of_status name (ImageRefused number place location other) =
     at_place (codes "ehc: image refused: ") number place ++ (differing number location other ++ codes "\n")
+text_of_status name (ScheduleRefused number place) = at_place (codes "ehc: schedule refused: ") number place ++ codes "\n"
 text_of_status name ReadFault = codes "ehc: read fault: " ++ name ++ codes "\n"
 text_of_status name TooLong = codes "ehc: too long: " ++ name ++ codes "\n"
 text_of_status name WriteFault = codes "ehc: write fault\n"

@@ -29,6 +29,7 @@ asked modules command = record {
   source = file_of command;
   image = second_of command.operands;
   input = slice_get command.inputs 0;
+  inputs = command.inputs;
   turns = command.max;
   trace = command.trace;
   count = command.count;

@@ -1,6 +1,6 @@
 // What the words of a command ask for, done and reported.
 ghost use Rattle.std.specs.Prelude.{◌≡◌, ◌≤◌, ◌^◌, List, map, option_map, slice_get, string_bytes};
-ghost use Rattle.command_line.specs.Command.{command_of, command_seen};
+ghost use Rattle.command_line.specs.Command.{AreHarts, command_of, command_seen};
 ghost use Rattle.eh_outer.specs.Module.{ModuleView};
 ghost use Rattle.eh_commands.specs.File.{NamesRefusal, refused_name};
 ghost use Rattle.eh_commands.specs.Generate.{IsSized};
@@ -14,6 +14,7 @@ use crate::exec::exec_file;
 use crate::file::{Ended, Question};
 use crate::frames::frames_file;
 use crate::generate::generate_and_count;
+use crate::harts::harts_file;
 use crate::image::{check_file, dump_file};
 use crate::mean::mean_file;
 use crate::report::report;
@@ -51,6 +52,7 @@ fn question_of(command: &Command) -> Question<'_>
         source: first_of(command.operands.as_slice()).unwrap_or(""),
         image: second_of(command.operands.as_slice()).unwrap_or(""),
         input: first_of(command.inputs.as_slice()),
+        inputs: command.inputs.as_slice(),
         turns: command.max,
         trace: command.trace,
         count: command.count,
@@ -68,6 +70,7 @@ fn execute<'a, St: Store, Out: Sink, M: Module>(
 ) -> Ended<'a>
     requires turns { question.turns ≤ 2 ^ 40 }
     requires size { IsSized verb question.source.now }
+    requires harts { AreHarts verb (map string_bytes question.inputs.now) }
     ensures cause { CommandCause verb (asked_by question.entry (map M.view modules.items)) (St.view store.old) (St.view store.new) (Out.view out.old) (Out.view out.new) result.status }
     ensures files { KeptBy verb result.status (St.view store.old) (St.view store.new) }
     ensures name { NamesRefusal result.status result.file.now (St.view store.new) }
@@ -77,6 +80,7 @@ fn execute<'a, St: Store, Out: Sink, M: Module>(
         Verb::Compile => compile_file(alloc, question, store),
         Verb::Run => run_file(alloc, question, store, out, modules),
         Verb::Exec => exec_file(alloc, question, store, out, modules),
+        Verb::Harts => harts_file(alloc, question, store, out),
         Verb::Mean => {
             let mut modules = modules;
             mean_file(alloc, question, store, out, &mut modules)

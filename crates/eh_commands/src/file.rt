@@ -11,15 +11,16 @@ use std::alloc::Global;
 pub const SOURCE_LIMIT: u64 = 0x10_0000;
 
 /// The longest input, in bytes.
-const INPUT_LIMIT: u64 = 0x10_0000;
+pub const INPUT_LIMIT: u64 = 0x10_0000;
 
-/// What is asked of a file: its name, or the size of a source that is generated, that of the image to be stored, that of its input if it
-/// has one, the most turns or steps, whether events are printed, and whether steps are counted.
+/// What is asked of a file: its name, or the size of a source that is generated; that of the image to be stored, or of the schedule; that of
+/// its input if it has one, and those of all inputs; the most turns or steps, whether events are printed, and whether steps are counted.
 #[derive(Clone, Copy, Debug)]
 pub struct Question<'a> {
     pub source: &'a str,
     pub image: &'a str,
     pub input: Option<&'a str>,
+    pub inputs: &'a [String],
     pub turns: u64,
     pub trace: bool,
     pub count: bool,

@@ -4,7 +4,6 @@ ghost use Rattle.cxx_ast.specs.Checked.{IsChecked};
 ghost use Rattle.cxx_ast.specs.View.{checked_of};
 ghost use Rattle.gen_source.specs.Laws.{most};
 ghost use Rattle.run_items.specs.Output.{PutsAll};
-ghost use Rattle.cxa_runtime.specs.declared.effect.End.TheVariants as ends;
 ghost use Rattle.command_line.specs.Command.{is_size};
 ghost use Rattle.eh_commands.specs.Generate.{CheckedRuns, CountEnds, GenCause, GenEnds, ReadyRuns, SizeRuns, counted_lines};
 ghost use Rattle.eh_commands.specs.Question.{asked_by};
@@ -26,7 +25,6 @@ use std::alloc::Global;
 // Puts what was counted of a source with so many tokens, and how its run ended.
 #[tactic(auto, using(crate::proofs::RunLines::put_before, crate::proofs::RunLines::end_failed))]
 fn put_counted<Out: Sink>(out: &mut Out, tokens: u32, counted: Counted) -> Result<(), SinkError>
-    requires { counted.ran.end ≡ ends.WriteFault → ⊥ }
     ensures { PutsAll (counted_lines tokens counted.lines counted.makes counted.ran.end) (Out.view out.old) (Out.view out.new) result }
 {
     put_number(out, "tokens ", u64::from(tokens))?;

@@ -1,15 +1,15 @@
 // Texts of several lines, and the line of a summary.
 ghost use Rattle.eh_outer.specs.Sink.{Puts};
 ghost use Rattle.eh_commands.specs.Image.{summary_line};
-ghost use Rattle.eh_commands.specs.Lines.{lines_of, IsParted};
+ghost use Rattle.plain_text.specs.Lines.{lines_of};
 ghost use Rattle.run_items.specs.Output.{PutsAll};
-ghost use Rattle.std.specs.Prelude.{◌<◌, length, map};
+ghost use Rattle.std.specs.Prelude.{map};
 
 use crate::line::push;
 use arrayvec::ArrayString;
 use eh_outer::{Sink, SinkError};
 use itoa::Buffer;
-use memchr::memchr;
+use plain_text::line_length;
 use table_check::Summary;
 
 /// Puts how much a clean image has, in one line.
@@ -28,17 +28,6 @@ pub fn put_summary<Out: Sink>(out: &mut Out, summary: &Summary) -> Result<(), Si
     push(&mut line, buffer.format(summary.sites));
     push(&mut line, " sites\n");
     out.put(line.as_bytes())
-}
-
-// How long the first line is, with its line feed.
-fn line_length(text: &[u8]) -> usize
-    requires { 0 < length text.now }
-    ensures { IsParted text.now result }
-{
-    match memchr(b'\n', text) {
-        Some(end) => end + 1,
-        None => text.len(),
-    }
 }
 
 /// Puts each line of a text.

@@ -43,8 +43,8 @@ fn say_place<Er: Sink>(err: &mut Er, front: &str, number: u8, place: u64) -> boo
         && say(err, places.format(place))
 }
 
-// Puts the refusal of a source.
-fn say_source<Er: Sink>(err: &mut Er, front: &str, number: u8, place: u32) -> bool
+// Puts the refusal of a source or of a schedule.
+fn say_refusal<Er: Sink>(err: &mut Er, front: &str, number: u8, place: u32) -> bool
     ensures { Says (at_place front.now number place ++ codes "\n") (Er.view err.old) (Er.view err.new) result }
 {
     say_place(err, front, number, u64::from(place)) && say(err, "\n")
@@ -113,7 +113,7 @@ pub fn report<Er: Sink>(err: &mut Er, name: &str, status: Status)
     let _said = match status {
         Status::Usage => say(err, "ehc: usage\n"),
         Status::SourceRefused(number, place) => {
-            say_source(err, "ehc: source refused: ", number, place)
+            say_refusal(err, "ehc: source refused: ", number, place)
         }
         Status::ImageRefused {
             number,
@@ -121,6 +121,9 @@ pub fn report<Er: Sink>(err: &mut Er, name: &str, status: Status)
             location,
             other,
         } => say_image(err, "ehc: image refused: ", number, place, location, other),
+        Status::ScheduleRefused(number, place) => {
+            say_refusal(err, "ehc: schedule refused: ", number, place)
+        }
         Status::ReadFault => say_name(err, "ehc: read fault: ", name),
         Status::TooLong => say_name(err, "ehc: too long: ", name),
         Status::WriteFault => say(err, "ehc: write fault\n"),

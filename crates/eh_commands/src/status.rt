@@ -23,6 +23,8 @@ pub enum Status {
         location: u64,
         other: u64,
     },
+    /// The number of what is wrong with the schedule, and the byte at which it is.
+    ScheduleRefused(u8, u32),
     ReadFault,
     TooLong,
     WriteFault,
@@ -51,6 +53,7 @@ impl Status {
             Status::ReadFault => 4,
             Status::WriteFault => 5,
             Status::NoMemory => 6,
+            Status::ScheduleRefused(_, _) => 7,
             Status::TooLong => 8,
             Status::Aborted => 10,
             Status::Budget => 11,

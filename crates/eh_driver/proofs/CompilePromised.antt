@@ -12,7 +12,7 @@ use Rattle.cxx_image.specs.Image.{image_for}
 use Rattle.source_bounds.specs.Compiled.{emitted_for}
 use Rattle.image_link.specs.Runs.{RunsUnit}
 use Rattle.eh_commands.specs.declared.status.Status.{Status}
-use Rattle.eh_commands.specs.declared.status.Status.TheVariants.{Done, Usage, SourceRefused, ImageRefused, ReadFault, TooLong, WriteFault, NoMemory, Aborted, Budget, Stack, MachineFault, Undefined, Differs}
+use Rattle.eh_commands.specs.declared.status.Status.TheVariants.{Done, Usage, SourceRefused, ImageRefused, ScheduleRefused, ReadFault, TooLong, WriteFault, NoMemory, Aborted, Budget, Stack, MachineFault, Undefined, Differs}
 use Rattle.eh_commands.specs.File.{Asked, Told, source_limit}
 use Rattle.eh_commands.specs.Compile.{CompilesTo, CompileCause}
 use Rattle.eh_driver.specs.Promise.{Undisturbed, AreCompiled, CompilePromise}
@@ -56,6 +56,7 @@ module _ (laws : CompilerLaws) (a : Asked) (source : List ℕ) (old new : StoreV
     stores_so Budget h = absurd h
     stores_so Stack h = absurd h
     stores_so (MachineFault kind place) h = absurd h
+    stores_so (ScheduleRefused number place) h = absurd h
     stores_so Undefined h = absurd h
     stores_so Differs h = absurd h
 
@@ -76,6 +77,7 @@ module _ (laws : CompilerLaws) (a : Asked) (source : List ℕ) (old new : StoreV
     refuses_so Budget h = absurd h
     refuses_so Stack h = absurd h
     refuses_so (MachineFault kind at) h = absurd h
+    refuses_so (ScheduleRefused number place) h = absurd h
     refuses_so Undefined h = absurd h
     refuses_so Differs h = absurd h
 

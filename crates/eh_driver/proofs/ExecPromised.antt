@@ -12,7 +12,7 @@ use Rattle.cxa_runtime.specs.Run.{Ran}
 use Rattle.eh_run.specs.Program.{program_of}
 use Rattle.eh_run.specs.Runs.{IsRun}
 use Rattle.eh_commands.specs.declared.status.Status.{Status}
-use Rattle.eh_commands.specs.declared.status.Status.TheVariants.{Done, Usage, SourceRefused, ImageRefused, ReadFault, TooLong, WriteFault, NoMemory, Aborted, Budget, Stack, MachineFault, Undefined, Differs}
+use Rattle.eh_commands.specs.declared.status.Status.TheVariants.{Done, Usage, SourceRefused, ImageRefused, ScheduleRefused, ReadFault, TooLong, WriteFault, NoMemory, Aborted, Budget, Stack, MachineFault, Undefined, Differs}
 use Rattle.eh_commands.specs.Image.{image_limit, status_of}
 use Rattle.eh_commands.specs.File.{Asked, ToldBoth}
 use Rattle.eh_commands.specs.RunEnd.{run_lines, status_of_run}
@@ -21,18 +21,18 @@ use Rattle.eh_driver.specs.Promise.{ExecUndisturbed, ShowsRun, ExecPromise}
 use Rattle.eh_driver.proofs.MeanPromised.{both_of, both_read, both_short}
 
 -- an image that was read is one image
-ok_same : {i j : CleanImage} → ◌≡◌ {A = Result CleanImage Fault} (Ok i) (Ok j) → i ≡ j
+pub ok_same : {i j : CleanImage} → ◌≡◌ {A = Result CleanImage Fault} (Ok i) (Ok j) → i ≡ j
 ok_same e = cc
 
-not_both : {i : CleanImage} {f : Fault} → ◌≡◌ {A = Result CleanImage Fault} (Ok i) (Err f) → ⊥
+pub not_both : {i : CleanImage} {f : Fault} → ◌≡◌ {A = Result CleanImage Fault} (Ok i) (Err f) → ⊥
 not_both e = cc
 
 -- a refusal is not that of a runnable image, and that of any other is its first
-refused_not : (read : Result CleanImage Fault) (i : CleanImage) (status : Status) → read ≡ Ok i → IsErrAnd read (λ fault. status ≡ status_of (reported fault)) → ⊥
+pub refused_not : (read : Result CleanImage Fault) (i : CleanImage) (status : Status) → read ≡ Ok i → IsErrAnd read (λ fault. status ≡ status_of (reported fault)) → ⊥
 refused_not (Ok j) i status e h = h
 refused_not (Err f) i status e h = not_both (sym e)
 
-refused_is : (read : Result CleanImage Fault) (f : Fault) (status : Status) → read ≡ Err f → IsErrAnd read (λ fault. status ≡ status_of (reported fault)) → status ≡ status_of (reported f)
+pub refused_is : (read : Result CleanImage Fault) (f : Fault) (status : Status) → read ≡ Err f → IsErrAnd read (λ fault. status ≡ status_of (reported fault)) → status ≡ status_of (reported f)
 refused_is (Ok j) f status e h = absurd h
 refused_is (Err k) f status e h = let same : k ≡ f = cc e in subst (λ x. status ≡ status_of (reported x)) same h
 
@@ -65,6 +65,7 @@ module _ (a : Asked) (file input : List ℕ) (old new : StoreView) (out out' : S
     shows_so Budget (r, told, h) = shown Budget r told h
     shows_so Stack (r, told, h) = shown Stack r told h
     shows_so (MachineFault kind place) (r, told, h) = shown (MachineFault kind place) r told h
+    shows_so (ScheduleRefused number place) (r, told, h) = shown (ScheduleRefused number place) r told h
     shows_so Undefined (r, told, h) = shown Undefined r told h
     shows_so Differs (r, told, h) = shown Differs r told h
 
@@ -85,6 +86,7 @@ module _ (a : Asked) (file input : List ℕ) (old new : StoreView) (out out' : S
     refuses_so Budget (r, told, h) = absurd (no_run r told)
     refuses_so Stack (r, told, h) = absurd (no_run r told)
     refuses_so (MachineFault kind place) (r, told, h) = absurd (no_run r told)
+    refuses_so (ScheduleRefused number place) (r, told, h) = absurd (no_run r told)
     refuses_so Undefined (r, told, h) = absurd (no_run r told)
     refuses_so Differs (r, told, h) = absurd (no_run r told)
 

@@ -10,7 +10,7 @@ use Rattle.debug_frames.specs.Agreement.{Agreement}
 use Rattle.debug_frames.specs.Compared.{Forms, forms_in}
 use Rattle.debug_frames.specs.Compares.{Compares}
 use Rattle.eh_commands.specs.declared.status.Status.{Status}
-use Rattle.eh_commands.specs.declared.status.Status.TheVariants.{Done, Usage, SourceRefused, ImageRefused, ReadFault, TooLong, WriteFault, NoMemory, Aborted, Budget, Stack, MachineFault, Undefined, Differs}
+use Rattle.eh_commands.specs.declared.status.Status.TheVariants.{Done, Usage, SourceRefused, ImageRefused, ScheduleRefused, ReadFault, TooLong, WriteFault, NoMemory, Aborted, Budget, Stack, MachineFault, Undefined, Differs}
 use Rattle.eh_commands.specs.File.{Told}
 use Rattle.eh_commands.specs.Frames.{agreement_lines, FormsJudged, FramesCause, FramesPromise, RefusesForms, agreement_status}
 use Rattle.eh_commands.specs.Image.{image_limit, status_of}
@@ -46,5 +46,6 @@ frames_promised name old new out out' status cause files file is there short sto
     by Budget (a, told, (one, puts)) = inr (compared_judged file a out out' Budget (compares a told) one puts)
     by Stack (a, told, (one, puts)) = inr (compared_judged file a out out' Stack (compares a told) one puts)
     by (MachineFault kind place) (a, told, (one, puts)) = inr (compared_judged file a out out' (MachineFault kind place) (compares a told) one puts)
+    by (ScheduleRefused number place) (a, told, (one, puts)) = inr (compared_judged file a out out' (ScheduleRefused number place) (compares a told) one puts)
     by Undefined (a, told, (one, puts)) = inr (compared_judged file a out out' Undefined (compares a told) one puts)
     by Differs (a, told, (one, puts)) = inr (compared_judged file a out out' Differs (compares a told) one puts)

@@ -10,7 +10,7 @@ use Rattle.gen_source.specs.Source.{generated}
 use Rattle.command_line.specs.Command.{source_size}
 use Rattle.command_line.proofs.Sizes.{size_bounded}
 use Rattle.eh_commands.specs.declared.status.Status.{Status}
-use Rattle.eh_commands.specs.declared.status.Status.TheVariants.{Done, Usage, SourceRefused, ImageRefused, ReadFault, TooLong, WriteFault, NoMemory, Aborted, Budget, Stack, MachineFault, Undefined, Differs}
+use Rattle.eh_commands.specs.declared.status.Status.TheVariants.{Done, Usage, SourceRefused, ImageRefused, ScheduleRefused, ReadFault, TooLong, WriteFault, NoMemory, Aborted, Budget, Stack, MachineFault, Undefined, Differs}
 use Rattle.eh_commands.specs.File.{Asked}
 use Rattle.eh_commands.specs.Generate.{gen_lines, SizeRuns, GeneratedRuns, GenCause}
 use Rattle.eh_commands.specs.RunEnd.{status_of_run}
@@ -55,6 +55,7 @@ module _ (laws : CompilerLaws) (a : Asked) (n : ℕ) (size : source_size a.sourc
     shows_so Budget (tokens, r, runs, ended, took) = inr (shown Budget r tokens ended took runs)
     shows_so Stack (tokens, r, runs, ended, took) = inr (shown Stack r tokens ended took runs)
     shows_so (MachineFault kind place) (tokens, r, runs, ended, took) = inr (shown (MachineFault kind place) r tokens ended took runs)
+    shows_so (ScheduleRefused number place) (tokens, r, runs, ended, took) = inr (shown (ScheduleRefused number place) r tokens ended took runs)
     shows_so Undefined (tokens, r, runs, ended, took) = inr (shown Undefined r tokens ended took runs)
     shows_so Differs (tokens, r, runs, ended, took) = inr (shown Differs r tokens ended took runs)
 

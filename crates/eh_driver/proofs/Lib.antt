@@ -6,4 +6,5 @@ pub mod CompilePromised
 pub mod RunPromised
 pub mod FramesPromised
 pub mod GenPromised
+pub mod HartsPromised
 pub mod Promised

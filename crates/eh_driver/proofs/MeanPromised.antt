@@ -13,7 +13,7 @@ use Rattle.scope_meaning.specs.Modules.{rests_of}
 use Rattle.meaning_forms.specs.Meaning.{Meaning}
 use Rattle.scope_meaning.specs.Mean.{meant}
 use Rattle.eh_commands.specs.declared.status.Status.{Status}
-use Rattle.eh_commands.specs.declared.status.Status.TheVariants.{Done, Usage, SourceRefused, ImageRefused, ReadFault, TooLong, WriteFault, NoMemory, Aborted, Budget, Stack, MachineFault, Undefined, Differs}
+use Rattle.eh_commands.specs.declared.status.Status.TheVariants.{Done, Usage, SourceRefused, ImageRefused, ScheduleRefused, ReadFault, TooLong, WriteFault, NoMemory, Aborted, Budget, Stack, MachineFault, Undefined, Differs}
 use Rattle.eh_commands.specs.File.{Asked, ToldInput, ToldBoth, UnreadInput, UnreadEither, input_limit, source_limit}
 use Rattle.eh_commands.specs.Mean.{MeanCause, MeansThis, mean_lines, status_of_end}
 use Rattle.eh_driver.proofs.EventsHeld.{LawsOfEvents, meaning_holds}
@@ -84,6 +84,7 @@ module _ (laws : LawsOfEvents) (a : Asked) (source input : List ℕ) (old new : 
   shows_so p Budget program holds (m, told, (is, puts)) = shown m p Budget told program holds is puts
   shows_so p Stack program holds (m, told, (is, puts)) = shown m p Stack told program holds is puts
   shows_so p (MachineFault kind place) program holds (m, told, (is, puts)) = shown m p (MachineFault kind place) told program holds is puts
+  shows_so p (ScheduleRefused number place) program holds (m, told, (is, puts)) = shown m p (ScheduleRefused number place) told program holds is puts
   shows_so p Undefined program holds (m, told, (is, puts)) = shown m p Undefined told program holds is puts
   shows_so p Differs program holds (m, told, (is, puts)) = shown m p Differs told program holds is puts
 
@@ -107,6 +108,7 @@ module _ (laws : LawsOfEvents) (a : Asked) (source input : List ℕ) (old new : 
   refuses_so number place Budget is (m, told, h) = absurd (means_valid m number place told is)
   refuses_so number place Stack is (m, told, h) = absurd (means_valid m number place told is)
   refuses_so number place (MachineFault kind at) is (m, told, h) = absurd (means_valid m number place told is)
+  refuses_so number place (ScheduleRefused n at) is (m, told, h) = absurd (means_valid m number place told is)
   refuses_so number place Undefined is (m, told, h) = absurd (means_valid m number place told is)
   refuses_so number place Differs is (m, told, h) = absurd (means_valid m number place told is)
 

@@ -26,6 +26,7 @@ use Rattle.compiled_runs.specs.Enough.{HasEnd, HasEnough, enough_for}
 use Rattle.compiled_runs.specs.Given.{IsGiven}
 use Rattle.step_law.specs.Complete.{CheckedImagesAreCompiled, CheckedImagesHaveEnough}
 use Rattle.gen_source.specs.Laws.{SourcesAreValid}
+use Rattle.hart_sched.specs.Laws.{EachRunsAlone}
 use Rattle.eh_commands.specs.declared.status.Status.{Status}
 use Rattle.eh_commands.specs.File.{Asked}
 use Rattle.eh_commands.specs.RunEnd.{run_lines, status_of_run}
@@ -33,7 +34,7 @@ use Rattle.eh_commands.specs.RunSource.{CompiledRunsThis}
 use Rattle.eh_driver.proofs.EventsHeld.{LawsOfEvents, run_holds}
 use Rattle.eh_driver.specs.Promise.{AreBytes, AreCompiled, ShowsMeant, ShowsEnd, ShowsAll, meaning_for, shorter_meaning}
 
--- the laws of what is compiled, and of what is generated to be compiled
+-- the laws of what is compiled, of what is generated to be compiled, and of several harts
 pub record CompilerLaws : Type 0 where
   pub compiled : CheckedImagesAreCompiled
   pub enough : CheckedImagesHaveEnough
@@ -41,6 +42,7 @@ pub record CompilerLaws : Type 0 where
   pub small : ImagesAreSmall
   pub events : LawsOfEvents
   pub generated : SourcesAreValid
+  pub apart : EachRunsAlone
 
 -- what is so of all that is asked: so many turns, and modules that answer with ints
 pub record IsAsked (a : Asked) : Type 0 where

@@ -4,18 +4,19 @@ use Rattle.std.specs.Prelude.{IsErrAnd}
 use Rattle.eh_outer.specs.Store.{StoreView}
 use Rattle.eh_outer.specs.Sink.{SinkView}
 use Rattle.eh_commands.specs.declared.status.Status.{Status}
-use Rattle.eh_commands.specs.declared.status.Status.TheVariants.{Done, Usage, SourceRefused, ImageRefused, ReadFault, TooLong, WriteFault, NoMemory, Aborted, Budget, Stack, MachineFault, Undefined, Differs}
+use Rattle.eh_commands.specs.declared.status.Status.TheVariants.{Done, Usage, SourceRefused, ImageRefused, ScheduleRefused, ReadFault, TooLong, WriteFault, NoMemory, Aborted, Budget, Stack, MachineFault, Undefined, Differs}
 use Rattle.table_forms.specs.Fault.{Fault}
 use Rattle.elf_image.specs.Clean.{CleanImage, clean}
 use Rattle.elf_image.specs.Reports.{reported}
 use Rattle.command_line.specs.declared.command.Verb.{Verb}
-use Rattle.command_line.specs.declared.command.Verb.TheVariants.{Compile, Run, Exec, Mean, Check, Dump, Frames, Gen}
+use Rattle.command_line.specs.declared.command.Verb.TheVariants.{Compile, Run, Exec, Harts, Mean, Check, Dump, Frames, Gen}
 use Rattle.command_line.specs.Command.{CommandView, command_of}
 use Rattle.command_line.proofs.Turns.{turns_are_bounded}
 use Rattle.eh_outer.specs.Module.{ModuleView}
 use Rattle.foreign_host.specs.Host.{GuestsAreInts}
 use Rattle.eh_commands.specs.Words.{asked}
 use Rattle.eh_commands.specs.File.{Asked}
+use Rattle.eh_commands.specs.HartFiles.{harts_asked}
 use Rattle.eh_commands.proofs.Sources.{told_of}
 use Rattle.eh_driver.proofs.MeanPromised.{mean_promised}
 use Rattle.eh_driver.proofs.ExecPromised.{exec_promised}
@@ -23,6 +24,7 @@ use Rattle.eh_driver.proofs.CompilePromised.{compile_promised}
 use Rattle.eh_driver.proofs.RunPromised.{run_promised}
 use Rattle.eh_driver.proofs.FramesPromised.{frames_promised}
 use Rattle.eh_driver.proofs.GenPromised.{gen_promised}
+use Rattle.eh_driver.proofs.HartsPromised.{harts_promised}
 use Rattle.eh_commands.specs.Image.{ImageCause, ImagePromise, Judged, check_lines, dump_lines, image_limit, status_of}
 use Rattle.eh_commands.specs.Answer.{CommandCause, Cause}
 use Rattle.eh_driver.specs.Promise.{CommandPromise, Promise}
@@ -50,6 +52,7 @@ image_kept lines name old new out out' Aborted h files file is there short store
 image_kept lines name old new out out' Budget h files file is there short store sink = absurd h
 image_kept lines name old new out out' Stack h files file is there short store sink = absurd h
 image_kept lines name old new out out' (MachineFault kind place) h files file is there short store sink = absurd h
+image_kept lines name old new out out' (ScheduleRefused number place) h files file is there short store sink = absurd h
 image_kept lines name old new out out' Undefined h files file is there short store sink = absurd h
 image_kept lines name old new out out' Differs h files file is there short store sink = absurd h
 
@@ -58,6 +61,7 @@ module _ (laws : CompilerLaws) where
   command_promised Compile a is old new out out' status cause = compile_promised laws a old new out out' status cause.0
   command_promised Run a is old new out out' status cause = run_promised laws a is old new out out' status cause
   command_promised Exec a is old new out out' status cause = exec_promised a old new out out' status cause
+  command_promised Harts a is old new out out' status cause = harts_promised laws.apart (harts_asked a) old new out out' status cause
   command_promised Mean a is old new out out' status cause = mean_promised laws.events a old new out out' status cause
   command_promised Check a is old new out out' status cause = image_kept check_lines a.source old new out out' status cause
   command_promised Dump a is old new out out' status cause = image_kept dump_lines a.source old new out out' status cause

@@ -10,7 +10,7 @@ use Rattle.cxx_front.specs.Fate.{HasOnly, refused, valid}
 use Rattle.cxa_runtime.specs.Run.{Ran}
 use Rattle.run_items.specs.Output.{TakesAll}
 use Rattle.eh_commands.specs.declared.status.Status.{Status}
-use Rattle.eh_commands.specs.declared.status.Status.TheVariants.{Done, Usage, SourceRefused, ImageRefused, ReadFault, TooLong, WriteFault, NoMemory, Aborted, Budget, Stack, MachineFault, Undefined, Differs}
+use Rattle.eh_commands.specs.declared.status.Status.TheVariants.{Done, Usage, SourceRefused, ImageRefused, ScheduleRefused, ReadFault, TooLong, WriteFault, NoMemory, Aborted, Budget, Stack, MachineFault, Undefined, Differs}
 use Rattle.eh_commands.specs.File.{Asked, ToldBoth, source_limit}
 use Rattle.eh_commands.specs.RunEnd.{run_lines, status_of_run}
 use Rattle.eh_commands.specs.RunSource.{CompiledRunsThis, SourceRunsThis, RunCause}
@@ -57,6 +57,7 @@ module _ (a : Asked) (source input : List ℕ) (old new : StoreView) (out out' :
       printed_so Budget (r, told, h) = taken Budget r told h
       printed_so Stack (r, told, h) = taken Stack r told h
       printed_so (MachineFault kind place) (r, told, h) = taken (MachineFault kind place) r told h
+      printed_so (ScheduleRefused number place) (r, told, h) = taken (ScheduleRefused number place) r told h
       printed_so Undefined (r, told, h) = taken Undefined r told h
       printed_so Differs (r, told, h) = taken Differs r told h
 
@@ -81,6 +82,7 @@ module _ (a : Asked) (source input : List ℕ) (old new : StoreView) (out out' :
     refuses_so Budget (r, told, h) = absurd (valid_not number place r told is)
     refuses_so Stack (r, told, h) = absurd (valid_not number place r told is)
     refuses_so (MachineFault kind at) (r, told, h) = absurd (valid_not number place r told is)
+    refuses_so (ScheduleRefused n at) (r, told, h) = absurd (valid_not number place r told is)
     refuses_so Undefined (r, told, h) = absurd (valid_not number place r told is)
     refuses_so Differs (r, told, h) = absurd (valid_not number place r told is)
 

@@ -7,7 +7,7 @@ use Rattle.eh_outer.specs.Sink.{SinkView, Gains}
 use Rattle.eh_commands.specs.declared.status.Status.{Status}
 use Rattle.eh_commands.specs.declared.status.Status.TheVariants.{Done, SourceRefused, NoMemory}
 use Rattle.command_line.specs.declared.command.Verb.{Verb}
-use Rattle.command_line.specs.declared.command.Verb.TheVariants.{Compile, Run, Exec, Mean, Check, Dump, Frames, Gen}
+use Rattle.command_line.specs.declared.command.Verb.TheVariants.{Compile, Run, Exec, Harts, Mean, Check, Dump, Frames, Gen}
 use Rattle.command_line.specs.Command.{CommandView, source_size}
 use Rattle.eh_outer.specs.Module.{ModuleView}
 use Rattle.meaning_forms.specs.declared.ending.MeanEnd.TheVariants.{Undefined, OutOfTurns}
@@ -42,8 +42,10 @@ use Rattle.eh_run.specs.Program.{program_of}
 use Rattle.eh_run.specs.Runs.{IsRun}
 use Rattle.eh_commands.specs.Image.{ImagePromise, check_lines, dump_lines, image_limit, status_of}
 use Rattle.eh_commands.specs.Frames.{FramesPromise}
+use Rattle.eh_commands.specs.HartFiles.{harts_asked}
 use Rattle.eh_commands.specs.RunEnd.{run_lines, status_of_run}
 use Rattle.eh_driver.specs.Events.{EventsHold}
+use Rattle.eh_driver.specs.Harts.{HartsPromise}
 
 -- a told file of a name within a limit, where neither the store nor the sink fails
 pub record Undisturbed (limit : ℕ) (name source : List ℕ) (old new : StoreView) (out out' : SinkView) : Type 0 where
@@ -183,6 +185,7 @@ abbrev pub CommandPromise : Verb → Asked → StoreView → StoreView → SinkV
 CommandPromise Compile a old new out out' status = CompilePromise a old new out out' status
 CommandPromise Run a old new out out' status = RunPromise a old new out out' status
 CommandPromise Exec a old new out out' status = ExecPromise a old new out out' status
+CommandPromise Harts a old new out out' status = HartsPromise (harts_asked a) old new out out' status
 CommandPromise Mean a old new out out' status = MeanPromise a old new out out' status
 CommandPromise Check a old new out out' status = ImagePromise check_lines a.source old new out out' status
 CommandPromise Dump a old new out out' status = ImagePromise dump_lines a.source old new out out' status

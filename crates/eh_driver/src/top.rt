@@ -10,6 +10,7 @@ ghost use Rattle.eh_driver.specs.Promise.{Promise};
 use eh_commands::{Status, answer};
 use eh_outer::{Module, Sink, Store};
 use gen_source::generated_sources_are_valid;
+use hart_sched::harts_run_apart;
 use image_link::laws::images_are_small;
 use meaning_events::laws::{allowed_events_are_counted, events_are_right, fronts_are_allowed};
 use source_bounds::laws::checked_is_linkable;
@@ -21,6 +22,8 @@ use step_law::laws::{checked_images_are_compiled, checked_images_have_enough};
 /// `compile FILE IMAGE` reads a source of at most 1 MiB, refuses it by the number and the place of what it breaks, or stores its
 /// image. `exec FILE` reads an image of at most 64 MiB and runs it with its input and the modules: it puts each line that it writes
 /// on `out`, under `--trace` each event, its end, and under `--count` how many steps it took. `run FILE` does both with a source.
+/// `harts FILE SCHEDULE` runs an image by one to eight harts, each with an input of its own, under a schedule of at most 1 MiB, which is
+/// refused by a number and a place: it puts each line of a hart behind the hart's number, and last a line for each hart that goes on.
 /// `mean FILE` puts what the source means with the same: lines, events and end. `check FILE` and
 /// `dump FILE` read an image of at most 64 MiB, and put how much it has, or its tables, on `out` where it is clean; `frames FILE` puts
 /// whether both forms of its frames say the same. `gen N` generates a source of size N, 1 to 2,000, compiles it and runs it without
@@ -52,5 +55,6 @@ pub fn ehc<St: Store, Out: Sink, Er: Sink>(
     allowed_events_are_counted();
     fronts_are_allowed();
     generated_sources_are_valid();
+    harts_run_apart();
     answer(alloc, words, store, out, err, modules)
 }

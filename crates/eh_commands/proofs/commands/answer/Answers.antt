@@ -1,8 +1,9 @@
 use Rattle.std.proofs.Common.{◌≤◌, ◌^◌, [], subst, sym, map}
-use Rattle.command_line.specs.Command.{command_of, command_seen}
+use Rattle.command_line.specs.Command.{AreHarts, command_of, command_seen}
 use Rattle.eh_commands.specs.Answer.{Reports}
 use Rattle.eh_commands.specs.File.{Asked, refused_name}
 use Rattle.eh_commands.specs.Words.{texts}
+use Rattle.command_line.proofs.Inputs.{harts_are_few}
 use Rattle.command_line.proofs.Sizes.{operands_are_sized}
 use Rattle.command_line.proofs.Turns.{turns_are_bounded}
 use Rattle.eh_commands.specs.Generate.{IsSized}
@@ -38,5 +39,6 @@ execute-ended-requires g c =
     let command = command_seen c.in-Ok.command in
     let few = (turns_are_bounded (texts c.args.words.now.items) command c.in-Ok.ensures).most in
     let sized = is_sized command (operands_are_sized (texts c.args.words.now.items) command c.in-Ok.ensures) in
+    let few_harts = harts_are_few (texts c.args.words.now.items) command c.in-Ok.ensures in
     let is = sym (c.question_of-question.ensures []) in
-    record { turns = subst (λ (a : Asked). a.turns ≤ 2 ^ 40) is few; size = subst (λ (a : Asked). IsSized command.verb a.source) is sized }
+    record { turns = subst (λ (a : Asked). a.turns ≤ 2 ^ 40) is few; size = subst (λ (a : Asked). IsSized command.verb a.source) is sized; harts = subst (λ (a : Asked). AreHarts command.verb a.inputs) is few_harts }

@@ -1,11 +1,5 @@
-use Rattle.eh_commands.proofs.GenCauses.{not_failed, counts_end, counts_fail}
+use Rattle.eh_commands.proofs.GenCauses.{counts_end, counts_fail}
 use Rattle.eh_commands.proofs.generate.count_loaded.Goals as goal
-
-pub put_counted-requires : goal.put_counted-requires
-put_counted-requires g c =
-    let none = c.new-modules.ensures.items in
-    let counts = rw (c.new-host.ensures, none) at c.run_counted-counted.ensures in
-    not_failed c.args.turns c.args.loaded c.run_counted-counted.result counts
 
 pub returns-in-Ok : goal.returns-in-Ok
 returns-in-Ok g c =

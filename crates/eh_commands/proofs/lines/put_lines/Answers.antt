@@ -1,5 +1,6 @@
 use Rattle.std.proofs.Common.{◌≡◌, length, rules, arith}
-use Rattle.eh_commands.proofs.FirstLine.{all_lines, one_more, empty}
+use Rattle.plain_text.proofs.Texts.{empty}
+use Rattle.eh_commands.proofs.TextLines.{all_lines, one_more}
 use Rattle.eh_commands.proofs.lines.put_lines.Goals as goal
 
 pub loop-rest-smaller : goal.loop-rest-smaller

@@ -1,5 +1,5 @@
 use Rattle.std.proofs.Common.{length}
-use Rattle.eh_commands.proofs.FirstLine.{LinesSoFar}
+use Rattle.eh_commands.proofs.TextLines.{LinesSoFar}
 use Rattle.eh_commands.proofs.lines.put_lines.Given as goal
 
 abbrev pub invariant-loop-rest : goal.invariant-loop-rest

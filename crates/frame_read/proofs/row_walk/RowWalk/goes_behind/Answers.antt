@@ -16,5 +16,5 @@ returns-in-Some c = λ f e.
     let t = c.goes_over-place.new.folding in
     let next = subst (λ o. AtEnd co part size o w.stop states w.place s f c.args.pc) c.in-Some.is e.gives in
     let r = walks_behind co part size c.in-Some.own f c.args.pc s (folding_seen c.keeps_initial.new.self) (folding_seen t) states (array_vec_len c.keeps_initial.new.self.states) (array_vec_len t.states)
-        c.goes_over-place.result.0 c.goes_over-place.result.1 c.goes_over-place.ensures.goes c.keeps_initial.ensures.seen c.keeps_initial.ensures.states next c.goes_over-place.ensures.left in
+    c.goes_over-place.result.0 c.goes_over-place.result.1 c.goes_over-place.ensures.goes c.keeps_initial.ensures.seen c.keeps_initial.ensures.states next c.goes_over-place.ensures.left in
     (record { goes = c.goes_over-place.ensures.goes; below = c.goes_over-place.ensures.below; place = c.goes_over-place.ensures.place; stop = next.own_stop; gives = r.0 }, r.1)

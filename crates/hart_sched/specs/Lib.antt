@@ -1,0 +1,13 @@
+pub mod Decimal
+pub mod Schedule
+pub mod Hart
+pub mod Turn
+pub mod Run
+pub mod Text
+pub mod Harts
+pub mod Laws
+pub mod Reads
+pub mod Seats
+pub mod Turns
+pub mod Whole
+pub mod Starts
