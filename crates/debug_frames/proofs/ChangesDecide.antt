@@ -47,7 +47,7 @@ lesser_over b None p first second = second
 lesser_over b (Some n) None first second = first
 lesser_over b (Some n) (Some m) first second = omega (arith, first, second)
 
-under_both : (q : ℕ) (o p : Option ℕ) → IfSome (lesser o p) (λ l. q < l) → IfSome o (λ l. q < l) × IfSome p (λ l. q < l)
+pub under_both : (q : ℕ) (o p : Option ℕ) → IfSome (lesser o p) (λ l. q < l) → IfSome o (λ l. q < l) × IfSome p (λ l. q < l)
 under_both q None p over = (tt, over)
 under_both q (Some n) None over = (over, tt)
 under_both q (Some n) (Some m) over = (omega (arith, over), omega (arith, over))

@@ -21,9 +21,11 @@ mod Halved
 mod Ordered
 mod Soundly
 mod Pairs
+mod OnWays
 mod Meetings
 mod Merges
 mod Carried
 mod Sides
 mod Compared
 mod Worked
+mod Readily

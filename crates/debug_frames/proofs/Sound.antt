@@ -20,7 +20,7 @@ use Rattle.debug_frames.specs.DebugFde.{debug_region_at, debug_fde_at, orphan_at
 use Rattle.debug_frames.specs.DebugCie.{debug_cie_at}
 use Rattle.debug_frames.specs.DebugParts.{is_cie, debug_cies, cie_at_link, orphan_said, fde_linked, part_said, debug_says, region_read, region_linked, region_of, debug_regions, debug_frames_in}
 use Rattle.debug_frames.specs.DebugSpans.{section_part, debug_spans, link_at}
-use Rattle.frame_read.specs.Sound.{AreApart, IsSound}
+use Rattle.frame_read.specs.Sound.{IsSound}
 use Rattle.debug_frames.specs.Laws.{ReadingIsSound}
 use Rattle.table_forms.proofs.Least.{none_second}
 use Rattle.frame_read.proofs.Spread.{none_refused, nil_right, fewer, IsRegion, AreSpread}

@@ -1,7 +1,6 @@
 -- The definitions, computed at the worked image of docs/TABLES.md with a section .debug_frame, and at changed bytes of it.
 use Rattle.std.proofs.Common.{◌≡◌, ℕ, pos, negsuc, List, [], ◌∷◌, ◌++◌, Ok, refl, length, map, replicate}
 use Rattle.std.specs.Prelude.{Err, fold, slice_set}
-use Rattle.table_forms.specs.declared.reason.Reason.{Reason}
 use Rattle.table_forms.specs.declared.reason.Reason.TheVariants.{FrameTruncated, Version, Augmentation, CieLink, UnknownInstruction, Overlap, NoDebugFrames, SectionHeader, Compressed, AddressSize}
 use Rattle.table_forms.specs.declared.found.Rule.{Rule}
 use Rattle.table_forms.specs.declared.found.Rule.TheVariants as rules
@@ -13,7 +12,7 @@ use Rattle.eh_bytes.specs.Encoded.{raw, encoded}
 use Rattle.eh_bytes.specs.Leb128.{spelled_within, groups, grouped, uleb, sign_extended, ranged, sleb}
 use Rattle.eh_bytes.specs.Spelling.{uleb_spelling_within, uleb_spelling, sleb_spelling_within, sleb_spelling}
 use Rattle.table_forms.specs.Cie.{personality_at, letter_at, sized_at, return_register_at, cie_at}
-use Rattle.table_forms.specs.Fault.{Fault, fault, is_before, least}
+use Rattle.table_forms.specs.Fault.{fault, is_before, least}
 use Rattle.table_forms.specs.Fde.{region_at, fde_at}
 use Rattle.table_forms.specs.Frames.{frames_in, frames}
 use Rattle.table_forms.specs.Header.{encodings_at, rows_within, header_at}

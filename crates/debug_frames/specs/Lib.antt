@@ -18,6 +18,7 @@ pub mod SameRow
 pub mod Agreement
 pub mod Changes
 pub mod Decided
+pub mod OnWay
 pub mod Pair
 pub mod Compared
 pub mod Compares

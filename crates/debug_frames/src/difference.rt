@@ -1,7 +1,6 @@
 // Where two FDEs differ.
-ghost use Rattle.std.specs.Prelude.{◌≡◌, ◌+◌, ◌<◌, ◌≤◌};
+ghost use Rattle.std.specs.Prelude.{◌≡◌, ◌<◌};
 ghost use Rattle.eh_bytes.specs.Memory.{memory_of};
-ghost use Rattle.debug_frames.specs.Changes.{next_change};
 ghost use Rattle.debug_frames.specs.Least.{lesser};
 ghost use Rattle.debug_frames.specs.Pair.{IsPair, differing};
 
@@ -12,7 +11,7 @@ use frame_read::{Fde, Frames};
 use table_forms::Row;
 
 // The lesser of two locations.
-fn lesser(first: Option<u64>, second: Option<u64>) -> Option<u64>
+fn lesser(first: Option<u128>, second: Option<u128>) -> Option<u128>
     ensures { result ≡ lesser first second }
 {
     match first {
@@ -24,30 +23,8 @@ fn lesser(first: Option<u64>, second: Option<u64>) -> Option<u64>
     }
 }
 
-// The next location at which one of two rows may change.
-fn next_change(
-    memory: &Segments,
-    frames: &Frames,
-    debug: &DebugFrames,
-    first: &Fde,
-    second: u32,
-    start: u64,
-    end: u128,
-    pc: u64,
-) -> Option<u64>
-    requires pair { IsPair (memory_of memory.now) frames.now debug.now first.now second start end }
-    requires start { start ≤ pc }
-    requires end { pc < end }
-    ensures { (p : IsPair (memory_of memory.now) frames.now debug.now first.now second start end) → result ≡ next_change p.first p.second pc }
-{
-    lesser(
-        frames.next_location(memory, first, pc),
-        debug.next_location(second, pc),
-    )
-}
-
 /// The first location from a start on and before an end at which two FDEs, whose regions have them
-/// all, give rows that differ, with these rows.
+/// all, give rows that differ, with these rows. It goes over the instructions of both once.
 pub fn difference_in(
     memory: &Segments,
     frames: &Frames,
@@ -61,17 +38,23 @@ pub fn difference_in(
     requires some { start < end }
     ensures { (p : IsPair (memory_of memory.now) frames.now debug.now first.now second start end) → result ≡ differing p.first p.second start end }
 {
+    let mut walk = frames.walk(memory, first);
+    let mut second_walk = debug.walk(second);
     let mut pc = start;
     'changes: while (pc as u128) < end {
-        let row = frames.row_at(memory, first, pc);
-        let other = debug.row_at(second, pc);
+        let until = lesser(walk.goes_to(pc), second_walk.goes_to(pc));
+        let row = walk.row();
+        let other = second_walk.row();
         if !is_row(&row, &other) {
             return Some((pc, row, other));
         }
-        match next_change(memory, frames, debug, first, second, start, end, pc) {
-            None => return None,
-            Some(next) => pc = next,
+        let Some(next) = until else {
+            return None;
+        };
+        if next >= end {
+            return None;
         }
+        pc = next as u64;
     }
     None
 }
