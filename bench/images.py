@@ -2,8 +2,9 @@
 """Times `ehc check`, `ehc dump` and `ehc frames` on a large static RISC-V program beside readelf and llvm-dwarfdump.
 
 The program is C++ with many functions that throw and catch, built here by a cross-compiler with a table of frames
-(`-Wl,--eh-frame-hdr`), and its frames for debuggers, which a second image keeps. Each command runs several times, its
-output to a pipe that is read whole; the least time counts. Where there is no cross-compiler, nothing is measured.
+(`--eh-frame-hdr`), and its frames for debuggers, which a second image keeps. Where there is no g++ for RISC-V, clang and lld
+build it without any library, by stand-ins for what it needs of one. Each command runs several times, its
+output to a pipe that is read whole; the least time counts. Where there is neither, nothing is measured.
 What is built lies in a folder of its own.
 """
 import pathlib
@@ -19,15 +20,54 @@ TOP = pathlib.Path(__file__).resolve().parent.parent
 CROSS, RUNS, SIZES = "riscv64-linux-gnu-", 7, [500, 4_000]
 
 
-def program(functions):
-    """C++ with so many functions, each with an object, a throw and two handlers."""
-    parts = ["asm(\".cfi_sections .eh_frame, .debug_frame\");\n#include <stdexcept>\n#include <string>\nstruct Guard { int n; explicit Guard(int k) : n(k) {} ~Guard(); };\n"
-             "volatile int calls;\nGuard::~Guard() { calls = calls + n; }\nint f0(int n) { if (n < 0) throw n; return n; }\n"]
+BOTH_FORMS = 'asm(".cfi_sections .eh_frame, .debug_frame");\n'
+GUARD = """struct Guard { int n; explicit Guard(int k) : n(k) {} ~Guard(); };
+volatile int calls;
+Guard::~Guard() { calls = calls + n; }
+void (*volatile work)(int);
+int f0(int n) { work(n); return n; }
+"""
+# What the program needs of a library; weak, so that the compiler does not conclude that nothing throws.
+STAND_INS = """asm(".globl _ZTIi\\n.section .rodata\\n_ZTIi: .quad 0, 0\\n.text");
+#define WEAK __attribute__((weak))
+extern "C" {
+WEAK int __gxx_personality_v0(...) { return 0; }
+WEAK void _Unwind_Resume(void *) { __builtin_trap(); }
+WEAK void *__cxa_begin_catch(void *object) { return object; }
+WEAK void __cxa_end_catch() { }
+WEAK void __cxa_rethrow() { __builtin_trap(); }
+}
+namespace std { void terminate() { __builtin_trap(); } }
+int main(int, char**);
+extern "C" int _start() { return main(0, nullptr); }
+"""
+CLANG = ["clang++", "--target=riscv64-unknown-elf", "-march=rv64im", "-mno-relax", "-O1", "-fexceptions", "-fPIE", "-fno-rtti", "-fno-inline"]
+
+
+def program(functions, before):
+    """C++ with so many functions, each with two objects and two handlers, of which one may throw on."""
+    parts = [BOTH_FORMS, before, GUARD]
     for i in range(1, functions + 1):
         parts.append(f"int f{i}(int n) {{ Guard g({i}); try {{ Guard h(n); return f{i - 1}(n - 1); }} catch (int e) "
-                     f"{{ if (e > {i}) throw; return e; }} catch (const std::exception& e) {{ return {i}; }} }}\n")
+                     f"{{ if (e > {i}) throw; return e; }} catch (...) {{ return {i}; }} }}\n")
     parts.append(f"int main(int c, char**) {{ return f{functions}(c); }}\n")
     return "".join(parts)
+
+
+def build(folder, functions):
+    """The program without and with its frames for debuggers, all else stripped off."""
+    source, image, both = folder / "large.cc", folder / "large", folder / "both"
+    if shutil.which(CROSS + "g++"):
+        source.write_text(program(functions, ""))
+        run([CROSS + "g++", "-O1", "-static", "-Wl,--eh-frame-hdr", "-o", both, source])
+    else:
+        source.write_text(program(functions, STAND_INS))
+        run([*CLANG, "-nostdlib", "-c", "-o", folder / "large.o", source])
+        run(["ld.lld", "-static", "--eh-frame-hdr", "-e", "_start", "-o", both, folder / "large.o"])
+    strip = CROSS + "strip" if shutil.which(CROSS + "strip") else "llvm-strip"
+    run([strip, "-o", image, both])
+    run([strip, "--strip-all", "--keep-section=.debug_frame", both])
+    return image, both
 
 
 def least_seconds(command):
@@ -42,30 +82,25 @@ def least_seconds(command):
 
 
 def main():
-    if not shutil.which(CROSS + "g++"):
-        sys.exit(f"no {CROSS}g++ here: nothing is measured")
+    if not shutil.which(CROSS + "g++") and not (shutil.which("clang++") and shutil.which("ld.lld")):
+        sys.exit(f"neither {CROSS}g++ nor clang++ with ld.lld is here: nothing is measured")
     built = subprocess.run([TOP / "ehc", "run", TOP / "examples/smallest.cc"], stdout=subprocess.DEVNULL)
     if built.returncode:
         sys.exit("ehc could not be built")
     ehc = TOP / "crates/eh_cli/out/eh_cli"
     print(f"{'image':>9}{'frames':>9}  {'command':34}{'least ms':>10}{'MB/s':>9}")
     with tempfile.TemporaryDirectory() as folder:
-        folder = pathlib.Path(folder)
         for functions in SIZES:
-            source, image, both = folder / "large.cc", folder / "large", folder / "both"
-            source.write_text(program(functions))
-            run([CROSS + "g++", "-O1", "-static", "-Wl,--eh-frame-hdr", "-o", both, source])
-            run([CROSS + "strip", "-o", image, both])
-            run([CROSS + "strip", "--keep-section=.debug_frame", both])
+            image, both = build(pathlib.Path(folder), functions)
             size = image.stat().st_size / 1e6
             frames = least_seconds([ehc, "check", image])[1].decode().split()[3]
             for name, command in [
                 ("ehc check", [ehc, "check", image]),
                 ("ehc dump", [ehc, "dump", image]),
-                ("readelf --debug-dump=frames", [CROSS + "readelf", "--debug-dump=frames", image]),
+                ("readelf --debug-dump=frames", ["readelf", "--debug-dump=frames", image]),
                 ("llvm-dwarfdump --eh-frame", ["llvm-dwarfdump", "--eh-frame", image]),
                 ("ehc frames", [ehc, "frames", both]),
-                ("readelf, both forms", [CROSS + "readelf", "--debug-dump=frames", both]),
+                ("readelf, both forms", ["readelf", "--debug-dump=frames", both]),
             ]:
                 if shutil.which(str(command[0])):
                     seconds = least_seconds(command)[0]

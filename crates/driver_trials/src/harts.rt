@@ -5,15 +5,15 @@ use eh_outer::{MemSink, MemStore};
 use std::alloc::{AllocError, Global};
 use std::test::Fail;
 
-// A source, the schedule and the inputs of its harts, whether events are printed, and which numbers of calls of the store and of puts fail.
+// A source, the schedule and the inputs of its harts, whether events are printed, and which call of the store and which put fails, 0 for none.
 #[derive(Drop)]
 struct Case<'a> {
     source: &'a str,
     schedule: &'a [u8],
     inputs: &'a [&'a str],
     trace: bool,
-    store_fails: &'a [u64],
-    out_fails: &'a [u64],
+    store_fails: u64,
+    out_fails: u64,
 }
 
 fn given<'a>(source: &'a str, schedule: &'a [u8], inputs: &'a [&'a str]) -> Case<'a> {
@@ -22,16 +22,27 @@ fn given<'a>(source: &'a str, schedule: &'a [u8], inputs: &'a [&'a str]) -> Case
         schedule,
         inputs,
         trace: false,
-        store_fails: &[],
-        out_fails: &[],
+        store_fails: 0,
+        out_fails: 0,
     }
 }
 
-fn owned(alloc: Global, words: &[&str]) -> Result<Vec<String>, AllocError> {
+fn numbers(alloc: Global, number: u64) -> Result<Vec<u64>, AllocError> {
     let mut all = Vec::new(alloc);
-    for word in words {
-        all.push(String::from_str(alloc, word)?)?;
-    }
+    all.push(number)?;
+    Ok(all)
+}
+
+fn words(
+    alloc: Global,
+    command: &str,
+    first: &str,
+    second: &str,
+) -> Result<Vec<String>, AllocError> {
+    let mut all = Vec::new(alloc);
+    all.push(String::from_str(alloc, command)?)?;
+    all.push(String::from_str(alloc, first)?)?;
+    all.push(String::from_str(alloc, second)?)?;
     Ok(all)
 }
 
@@ -55,10 +66,10 @@ fn store_of(alloc: Global, case: &Case<'_>) -> Result<MemStore, Fail> {
             input.as_bytes().to_vec(alloc)?,
         ))?;
     }
-    let mut store = MemStore::new(files, case.store_fails.to_vec(alloc)?);
+    let mut store = MemStore::new(files, numbers(alloc, case.store_fails)?);
     let mut out = MemSink::new(alloc, 0, Vec::new(alloc))?;
     let mut err = MemSink::new(alloc, 0x100, Vec::new(alloc))?;
-    let words = owned(alloc, &["compile", "SRC", "IMG"])?;
+    let words = words(alloc, "compile", "SRC", "IMG")?;
     match ehc(
         alloc,
         &words,
@@ -75,14 +86,14 @@ fn store_of(alloc: Global, case: &Case<'_>) -> Result<MemStore, Fail> {
 // What `harts` answers of a case, with an image of this name.
 fn answer(alloc: Global, image: &str, case: &Case<'_>) -> Result<Seen, Fail> {
     let mut store = store_of(alloc, case)?;
-    let mut words = owned(alloc, &["harts", image, "SCHED"])?;
+    let mut words = words(alloc, "harts", image, "SCHED")?;
     for (name, _) in NAMES.iter().zip(case.inputs.iter()) {
         words.push(format!(in alloc; "--in={name}")?)?;
     }
     if case.trace {
         words.push(String::from_str(alloc, "--trace")?)?;
     }
-    let mut out = MemSink::new(alloc, 0x4000, case.out_fails.to_vec(alloc)?)?;
+    let mut out = MemSink::new(alloc, 0x4000, numbers(alloc, case.out_fails)?)?;
     let mut err = MemSink::new(alloc, 0x100, Vec::new(alloc))?;
     let status = ehc(
         alloc,
@@ -257,30 +268,30 @@ fn repeated(alloc: Global, text: &[u8], times: usize) -> Result<Vec<u8>, AllocEr
     Ok(all)
 }
 
+// Whether a schedule for as many harts gives these lines and this status.
+fn shows<'a>(
+    alloc: Global,
+    schedule: &'a [u8],
+    inputs: &'a [&'a str],
+    lines: &str,
+    status: Status,
+) -> Result<bool, Fail> {
+    let seen = answer(alloc, "IMG", &given(FIVE, schedule, inputs))?;
+    Ok(seen.out.bytes() == lines.as_bytes() && seen.status == status)
+}
+
 // Two harts step by step, hart 0 always first; and schedules of 1 MiB, and of a byte more.
 #[test]
 fn long_schedules(rt: HostRuntime) -> Result<(), Fail> {
     let alloc = rt.alloc();
-    let longest = repeated(alloc, b"0 1\n", 0x4_0000)?;
-    let longer = joined(alloc, &[longest.as_slice(), b"0"])?;
     let by_turns = repeated(alloc, b"0 1\n1 1\n", 20_000)?;
-    let cases = [
-        (
-            by_turns.as_slice(),
-            2,
-            "0: 5\n1: 5\n0: = exit 3\n1: = exit 3\n",
-            Status::Done,
-        ),
-        (longest.as_slice(), 1, "0: 5\n0: = exit 3\n", Status::Done),
-        (longer.as_slice(), 1, "", Status::TooLong),
-    ];
-    for (schedule, harts, lines, status) in cases {
-        let inputs = ["", ""];
-        let asked = given(FIVE, schedule, &inputs[..harts]);
-        let seen = answer(alloc, "IMG", &asked)?;
-        assert_eq!(rt; seen.out.bytes(), lines.as_bytes());
-        assert_eq!(rt; seen.status, status);
-    }
+    let both = "0: 5\n1: 5\n0: = exit 3\n1: = exit 3\n";
+    assert!(rt; shows(alloc, by_turns.as_slice(), &["", ""], both, Status::Done)?);
+    let mut text = repeated(alloc, b"0 1\n", 0x4_0000)?;
+    let one = "0: 5\n0: = exit 3\n";
+    assert!(rt; shows(alloc, text.as_slice(), &[""], one, Status::Done)?);
+    text.push(b'0')?;
+    assert!(rt; shows(alloc, text.as_slice(), &[""], "", Status::TooLong)?);
     Ok(())
 }
 
@@ -300,9 +311,8 @@ static FAULTS: &[(&str, &str, u64, u8, &str)] = &[
 #[test]
 fn refusals(rt: HostRuntime) -> Result<(), Fail> {
     for (image, schedule, fails, number, text) in FAULTS.iter() {
-        let store_fails = [*fails];
         let asked = Case {
-            store_fails: &store_fails,
+            store_fails: *fails,
             ..given(FIVE, schedule.as_bytes(), &["", ""])
         };
         let seen = answer(rt.alloc(), image, &asked)?;
@@ -323,9 +333,8 @@ fn lines_that_fail(rt: HostRuntime) -> Result<(), Fail> {
         (4, "1: 5\n1: = exit 3\n0: = budget\n"),
     ];
     for (put, lines) in fronts {
-        let fails = [put];
         let asked = Case {
-            out_fails: &fails,
+            out_fails: put,
             ..given(FIVE, b"1 20000\n", &["", "", ""])
         };
         let seen = answer(rt.alloc(), "IMG", &asked)?;

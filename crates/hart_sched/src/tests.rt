@@ -72,6 +72,7 @@ fn schedules_that_are_refused(rt: HostRuntime) -> Result<(), Fail> {
     }
     for (behind, refusal) in BEHIND {
         let text = long(rt.alloc(), behind)?;
+        assert!(rt; text.len() <= 0x10_0000);
         let read = read_schedule(rt.alloc(), text.as_slice(), 1);
         let refused = refusal.map(|(number, place)| ScheduleError::Refused(number, place));
         assert_eq!(rt; read.err(), refused, "{behind}");
