@@ -1,0 +1,100 @@
+// The numbers that a table names.
+ghost use Rattle.std.specs.Prelude.{◌≡◌, ◌++◌, IfOk, OnOk, Contains, flat_map};
+ghost use Rattle.std.specs.List.{AllByRecursion};
+ghost use Rattle.table_forms.specs.Lsda.{entries_named};
+ghost use Rattle.table_forms.specs.Lsda as forms;
+ghost use Rattle.lsda_read.specs.Names.{actions_named, lists_named};
+ghost use Rattle.lsda_pack.specs.WholeTable.{filters_at, indices_at};
+
+use crate::NoMemory;
+use lsda_read::{Chain, Lsda, SpecList};
+use std::alloc::Global;
+
+/// The actions that sites name.
+pub fn actions_of(alloc: Global, table: &Lsda<'_>) -> Result<Vec<u64>, NoMemory>
+    ensures { IfOk result (λ actions. actions.items ≡ actions_named table.now) }
+{
+    let mut actions = Vec::new(alloc);
+    let mut sites = table.sites();
+    'sites: while let Some(site) = sites.next() {
+        if site.action != 0 {
+            actions.push(site.action)?;
+        }
+    }
+    Ok(actions)
+}
+
+fn push_filters(filters: &mut Vec<i64>, mut chain: Chain<'_>) -> Result<(), NoMemory>
+    ensures { OnOk result (filters.new.items ≡ filters.old.items ++ chain.entry) }
+{
+    'chain: while let Some(filter) = chain.next() {
+        filters.push(filter)?;
+    }
+    Ok(())
+}
+
+/// The filters of actions that sites name.
+pub fn filters_of(alloc: Global, table: &Lsda<'_>, actions: &[u64]) -> Result<Vec<i64>, NoMemory>
+    requires { AllByRecursion (Contains (actions_named table.now)) actions.now }
+    ensures { IfOk result (λ filters. filters.items ≡ flat_map (filters_at table.now) actions.now) }
+{
+    let mut filters = Vec::new(alloc);
+    let mut rest = actions;
+    'actions: while let Some((action, others)) = rest.split_first() {
+        push_filters(&mut filters, table.chain(*action))?;
+        rest = others;
+    }
+    Ok(filters)
+}
+
+/// The type entries that filters name.
+pub fn entries_of(alloc: Global, filters: &[i64]) -> Result<Vec<u64>, NoMemory>
+    ensures { IfOk result (λ entries. entries.items ≡ flat_map entries_named filters.now) }
+{
+    let mut entries = Vec::new(alloc);
+    let mut rest = filters;
+    'filters: while let Some((filter, others)) = rest.split_first() {
+        if *filter > 0 {
+            entries.push(*filter as u64)?;
+        }
+        rest = others;
+    }
+    Ok(entries)
+}
+
+/// The lists that filters name.
+pub fn lists_of(alloc: Global, filters: &[i64]) -> Result<Vec<u64>, NoMemory>
+    ensures { IfOk result (λ lists. lists.items ≡ flat_map forms.lists_named filters.now) }
+{
+    let mut lists = Vec::new(alloc);
+    let mut rest = filters;
+    'filters: while let Some((filter, others)) = rest.split_first() {
+        if *filter < 0 {
+            lists.push(filter.unsigned_abs())?;
+        }
+        rest = others;
+    }
+    Ok(lists)
+}
+
+fn push_list(indices: &mut Vec<u64>, mut list: SpecList<'_>) -> Result<(), NoMemory>
+    ensures { OnOk result (indices.new.items ≡ indices.old.items ++ list.entry) }
+{
+    'list: while let Some(index) = list.next() {
+        indices.push(index)?;
+    }
+    Ok(())
+}
+
+/// Appends the type indices of lists that chains name.
+pub fn push_indices(indices: &mut Vec<u64>, table: &Lsda<'_>, lists: &[u64]) -> Result<(), NoMemory>
+    requires { AllByRecursion (Contains (lists_named table.now)) lists.now }
+    ensures { OnOk result (indices.new.items ≡ indices.old.items ++ flat_map (indices_at table.now) lists.now) }
+{
+    let mut rest = lists;
+    'lists: while let Some((list, others)) = rest.split_first() {
+        push_list(indices, table.spec_list(*list))?;
+        rest = others;
+    }
+    Ok(())
+}
