@@ -9,10 +9,10 @@ use std::test::Fail;
 
 /// What a command answered, and what it left.
 #[derive(Drop)]
-struct Answer {
-    status: Status,
-    out: MemSink,
-    err: MemSink,
+pub struct Answer {
+    pub status: Status,
+    pub out: MemSink,
+    pub err: MemSink,
 }
 
 fn owned(alloc: Global, words: &[&str]) -> Result<Vec<String>, AllocError> {
@@ -23,8 +23,8 @@ fn owned(alloc: Global, words: &[&str]) -> Result<Vec<String>, AllocError> {
     Ok(list)
 }
 
-// What a command answers over a store, with the modules that its words ask for.
-fn answered(alloc: Global, words: &[&str], store: &mut MemStore) -> Result<Answer, Fail> {
+/// What a command answers over a store, with the modules that its words ask for.
+pub fn answered(alloc: Global, words: &[&str], store: &mut MemStore) -> Result<Answer, Fail> {
     let words = owned(alloc, words)?;
     let mut guests: Vec<Box<dyn Module>> = Vec::new(alloc);
     for script in scripts(alloc, &words)? {
@@ -39,8 +39,8 @@ fn answered(alloc: Global, words: &[&str], store: &mut MemStore) -> Result<Answe
     Ok(Answer { status, out, err })
 }
 
-// A store with a source and an input, whose calls of these numbers fail.
-fn holding(
+/// A store with a source and an input, whose calls of these numbers fail.
+pub fn holding(
     alloc: Global,
     source: &str,
     input: &[u8],

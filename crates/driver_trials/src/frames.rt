@@ -267,11 +267,8 @@ fn a_failing_line(rt: HostRuntime) -> Result<(), Fail> {
     changed(&mut image, &[(0x15c, 0x18)]);
     for (fails, taken) in [(1, 0), (2, "differ at 0x10110\n".len())] {
         let outside = Outside {
-            input: &[],
-            source: image.as_slice(),
-            store_fails: &[],
             out_fails: &[fails],
-            room: 4096,
+            ..holding(image.as_slice())
         };
         let seen = answer(rt.alloc(), &["frames", "SRC"], &outside)?;
         assert_eq!(rt; seen.status, Status::WriteFault, "{fails}");

@@ -48,6 +48,7 @@ static CASES: &[(&str, (usize, &[u8], usize), (u8, u64, u64, u64), &str)] = &[
     ("dump", (0, b"", 304), (0, 0, 0, 0), ""),
     ("check", (0, b"", 303), (64, 64, 0, 0), "64 at 64"),
     ("dump", (0, b"", 303), (64, 64, 0, 0), "64 at 64"),
+    ("check", (0, b"", 100), (63, 32, 0, 0), "63 at 32"),
     ("check", (0, b"", 0), (60, 0, 0, 0), "60 at 0"),
     (
         "check",
@@ -128,6 +129,40 @@ fn images(rt: HostRuntime) -> Result<(), Fail> {
     Ok(())
 }
 
+// A place, the bytes that are put there, and the number and the place of the refusal.
+static CHANGES: &[(usize, &[u8], u8, u64)] = &[
+    (0x04, b"\x01", 61, 4),
+    (0x12, b"\x3e", 62, 18),
+    (0x78, b"\x51", 66, 0),
+    (0xb0, b"\x02", 51, 176),
+    (0xcc, b"\x02", 51, 204),
+    (0xce, b"\x58", 52, 206),
+    (0xe0, b"\x18", 53, 224),
+    (0xf2, b"\x3f", 54, 242),
+    (0xf2, b"\x0f", 55, 242),
+    (0xf2, b"\x0b", 56, 242),
+    (0xf2, b"\x07\x40", 58, 243),
+    (0xfd, b"\x50", 3, 253),
+    (0x102, b"\x30", 5, 257),
+    (0x103, b"\x7f", 6, 257),
+    (0x104, b"\x10", 7, 257),
+    (0x105, b"\x03", 9, 261),
+];
+
+#[test]
+fn changed_bytes(rt: HostRuntime) -> Result<(), Fail> {
+    let alloc = rt.alloc();
+    for (at, bytes, number, place) in CHANGES.iter() {
+        let image = image(alloc, *at, bytes, WORKED.len())?;
+        let seen = answer(alloc, &["check", "SRC"], &holding(image.as_slice()))?;
+        let text = format!(in alloc; "ehc: image refused: {number} at {place}\n")?;
+        assert_eq!(rt; seen.err.bytes(), text.as_bytes(), "{at}");
+        assert_eq!(rt; seen.out.bytes(), b"".as_slice(), "{at}");
+        assert_eq!(rt; seen.status.number(), 3, "{at}");
+    }
+    Ok(())
+}
+
 // Each line is one put: where one fails, those before it went out.
 #[test]
 fn a_failing_line(rt: HostRuntime) -> Result<(), Fail> {
@@ -142,11 +177,8 @@ fn a_failing_line(rt: HostRuntime) -> Result<(), Fail> {
     ];
     for (command, fails, taken) in cases {
         let outside = Outside {
-            input: &[],
-            source: WORKED,
-            store_fails: &[],
             out_fails: &[fails],
-            room: 4096,
+            ..holding(WORKED)
         };
         let seen = answer(rt.alloc(), &[command, "SRC"], &outside)?;
         assert_eq!(rt; seen.status, Status::WriteFault, "{command} {fails}");

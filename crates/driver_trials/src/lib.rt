@@ -3,7 +3,11 @@
 #![tactic(auto)]
 
 #[cfg(test)]
+mod boxes;
+#[cfg(test)]
 mod compiled;
+#[cfg(test)]
+mod failing;
 #[cfg(test)]
 mod frames;
 #[cfg(test)]

@@ -6,10 +6,8 @@ use crate::mean_rows::{
 use crate::outside::{Outside, Seen, answer, answer_with, holding};
 use command_line::scripts;
 use eh_driver::Status;
-use eh_outer::{Module, Once, Reply, Runs};
+use eh_outer::{Module, Runs};
 use std::alloc::Global;
-use std::cell::Cell;
-use std::rc::Rc;
 use std::test::Fail;
 
 // The lines that are no events.
@@ -181,60 +179,6 @@ fn both_limits(rt: HostRuntime) -> Result<(), Fail> {
         let is_too_deep = matches!(seen.status, Status::SourceRefused(21, _));
         assert!(rt; is_too_deep, "{}", nest.open);
     }
-    Ok(())
-}
-
-// A module that raises the token 7 once. It notes a digit for each call, cleanup and drop: 1, 2 and 3.
-struct Noted {
-    script: Once,
-    notes: Rc<Cell<u32>>,
-}
-
-fn note(notes: &Cell<u32>, digit: u32) {
-    notes.set(notes.get().wrapping_mul(10).wrapping_add(digit));
-}
-
-impl Drop for Noted {
-    fn drop(self) {
-        let Noted { script, notes } = self;
-        drop(script);
-        note(&notes, 3);
-    }
-}
-
-impl Module for Noted {
-    ghost view = { λ it. it.script.seen };
-
-    ghost ints = { λ it. it.script.ints };
-
-    fn call(&mut self, arg: i32) -> Reply {
-        note(&self.notes, 1);
-        self.script.call(arg)
-    }
-
-    fn cleanup(&mut self, token: u32) {
-        note(&self.notes, 2);
-        self.script.cleanup(token);
-    }
-}
-
-// The cleanup comes where the exception is left, before the call behind it.
-#[test]
-fn cleanups(rt: HostRuntime) -> Result<(), Fail> {
-    let alloc = rt.alloc();
-    let notes = Rc::new(alloc, Cell::new(0))?;
-    let noted = Noted {
-        script: Once::new(alloc, vec![in alloc; Reply::Raise(7)]?)?,
-        notes: notes.clone()?,
-    };
-    let mut modules: Vec<Box<dyn Module>> = Vec::new(alloc);
-    modules.push(Box::new(alloc, noted)?)?;
-    let source = "int main() { try { __module(0, 0); } catch (...) { } __module(0, 1); return 0; }";
-    let outside = holding(source.as_bytes());
-    let seen = answer_with(alloc, &["mean", "SRC", "--trace"], &outside, modules)?;
-    let lines = "! foreign 1 0 7\n! enter 1\n! leave 1\n! clean 0 7\n= exit 0\n";
-    assert_eq!(rt; seen.out.bytes(), lines.as_bytes());
-    assert_eq!(rt; notes.get(), 1213);
     Ok(())
 }
 

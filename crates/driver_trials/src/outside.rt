@@ -19,6 +19,7 @@ pub struct Outside<'a> {
     pub input: &'a [u8],
     pub store_fails: &'a [u64],
     pub out_fails: &'a [u64],
+    pub err_fails: &'a [u64],
     pub room: usize,
 }
 
@@ -28,6 +29,7 @@ pub fn holding(source: &[u8]) -> Outside<'_> {
         input: &[],
         store_fails: &[],
         out_fails: &[],
+        err_fails: &[],
         room: 4096,
     }
 }
@@ -53,7 +55,7 @@ pub fn answer_with(
     let files = files_of(alloc, outside)?;
     let mut store = MemStore::new(files, outside.store_fails.to_vec(alloc)?);
     let mut out = MemSink::new(alloc, outside.room, outside.out_fails.to_vec(alloc)?)?;
-    let mut err = MemSink::new(alloc, 4096, Vec::new(alloc))?;
+    let mut err = MemSink::new(alloc, 4096, outside.err_fails.to_vec(alloc)?)?;
     let mut owned = Vec::new(alloc);
     for word in words {
         owned.push(String::from_str(alloc, word)?)?;
@@ -224,11 +226,10 @@ fn faults(rt: HostRuntime) -> Result<(), Fail> {
     ];
     for (store_fails, out_fails, room, out, (status, err)) in cases {
         let outside = Outside {
-            source,
-            input: b"",
             store_fails,
             out_fails,
             room,
+            ..holding(source)
         };
         let seen = answer(rt.alloc(), &["run", "SRC"], &outside)?;
         assert_eq!(rt; seen.status, status, "{out_fails:?} {room}");

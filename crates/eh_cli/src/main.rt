@@ -2,6 +2,8 @@
 #![tactic(auto)]
 
 mod files;
+#[cfg(test)]
+mod given;
 mod modules;
 mod replace;
 mod streams;
@@ -14,14 +16,17 @@ use eh_outer::{Module, Once, Runs, Sink};
 use files::FileStore;
 use modules::{Script, scripts_of};
 use std::env;
-use std::io::BufWriter;
+use std::io::{BufWriter, ErrorKind};
 use std::process::ExitCode;
+use std::rt::Env;
 use streams::StreamSink;
 
-// The words behind the program's name; none where memory ran out.
-fn words_of(rt: &HostRuntime) -> Option<Vec<String>> {
-    let Ok(args) = env::args(rt) else {
-        return None;
+// The words behind the program's name; none where memory ran out. A word that is no UTF-8 is no command's, so there are no words then.
+fn words_of<R: Env + AllocGlobal>(rt: &R) -> Option<Vec<String>> {
+    let args = match env::args(rt) {
+        Ok(args) => args,
+        Err(e) if e.kind() == ErrorKind::InvalidData => return Some(Vec::new(rt.alloc())),
+        Err(_) => return None,
     };
     let mut words = Vec::new(rt.alloc());
     for word in args.skip(1) {

@@ -66,7 +66,7 @@ fn replace<R: Files>(
     Err(StoreError::Failed)
 }
 
-// Writes to what is there, which is no file: a device, a pipe or a link.
+// Writes to what is there, which is no file: a device or a pipe, or a link that leads nowhere yet.
 fn write_through<R: Files>(files: &R, name: &str, bytes: &[u8]) -> Result<(), StoreError> {
     let Ok(mut file) = fs::create(files, name) else {
         return Err(StoreError::Failed);
@@ -78,10 +78,28 @@ fn write_through<R: Files>(files: &R, name: &str, bytes: &[u8]) -> Result<(), St
     }
 }
 
-/// Puts the bytes under the name. A file that stood there is replaced at once, by a rename over it
-/// (POSIX, `rename`), so that a write that fails leaves it as it was.
+// Replaces the file to which a link leads, and writes through what is no link to a file.
+fn write_behind<R: Files>(
+    files: &R,
+    alloc: Global,
+    name: &str,
+    bytes: &[u8],
+) -> Result<(), StoreError> {
+    let there = match files.metadata(name) {
+        Ok(there) if there.is_file() => there,
+        _ => return write_through(files, name, bytes),
+    };
+    match files.canonicalize(alloc, name) {
+        Err(e) if e.kind() == ErrorKind::OutOfMemory => Err(StoreError::NoMemory),
+        Err(_) => write_through(files, name, bytes),
+        Ok(behind) => replace(files, alloc, behind.as_os_str(), Some(there), bytes),
+    }
+}
+
+/// Puts the bytes under the name. A file that stood there, or that a link there leads to, is
+/// replaced at once, by a rename over it (POSIX, `rename`), so that a write that fails leaves it as
+/// it was. A device or a pipe is written through.
 ///
-/// What is there and is no file of its own, as a device or a symbolic link, is written through.
 /// `Failed` where a file can't be made, written or renamed; `NoMemory` where its name has no room.
 pub fn write_file<R: Files>(
     files: &R,
@@ -91,7 +109,7 @@ pub fn write_file<R: Files>(
 ) -> Result<(), StoreError> {
     match files.symlink_metadata(name) {
         Ok(there) if there.is_file() => replace(files, alloc, name, Some(there), bytes),
-        Ok(_) => write_through(files, name, bytes),
+        Ok(_) => write_behind(files, alloc, name, bytes),
         Err(e) if e.kind() == ErrorKind::NotFound => replace(files, alloc, name, None, bytes),
         Err(_) => Err(StoreError::Failed),
     }

@@ -1,10 +1,12 @@
 // The adapters over real files and writers, of which no clause tells the contents.
 use crate::files::FileStore;
-use crate::finished;
+use crate::given::{FullDisk, Words};
 use crate::streams::StreamSink;
+use crate::{finished, words_of};
 use eh_driver::Status;
 use eh_outer::{Sink, SinkError, Store, StoreError};
 use std::io::{self, BufWriter, Write};
+use std::rt::Files;
 use std::test::Fail;
 use std::{env, fs};
 
@@ -84,6 +86,59 @@ fn replaced_at_once(rt: HostRuntime) -> Result<(), Fail> {
     let none = store.read_all(alloc, beside.as_str(), 9);
     assert_eq!(rt; none.err(), Some(StoreError::Failed));
     fs::remove_file(&rt, here.as_str())?;
+    Ok(())
+}
+
+// Where the disk is full in the middle of a write, what was there stays, also behind a link, and nothing is left beside it.
+#[test]
+fn a_full_disk(rt: HostRuntime) -> Result<(), Fail> {
+    let alloc = rt.alloc();
+    let folder = env::temp_dir(&rt)?;
+    let folder = folder.to_str().ok_or("the folder's name is no text")?;
+    let here = format!(in alloc; "{folder}/ehc-full")?;
+    let link = format!(in alloc; "{folder}/ehc-full-link")?;
+    let beside = format!(in alloc; "{here}.ehc-0")?;
+    let mut files = FileStore::new(&rt);
+    files.write_all(alloc, here.as_str(), b"old")?;
+    rt.symlink(here.as_str(), link.as_str())?;
+    for name in [here.as_str(), link.as_str()] {
+        for room in 0..7 {
+            let mut full = FileStore::new(FullDisk { rt: &rt, room });
+            let refused = full.write_all(alloc, name, b"new one");
+            assert_eq!(rt; refused, Err(StoreError::Failed), "{name} {room}");
+            let kept = files.read_all(alloc, here.as_str(), 9)?;
+            assert_eq!(rt; kept.as_slice(), b"old".as_slice(), "{name} {room}");
+            let none = files.read_all(alloc, beside.as_str(), 9);
+            assert_eq!(rt; none.err(), Some(StoreError::Failed), "{name} {room}");
+        }
+    }
+    let mut full = FileStore::new(FullDisk { rt: &rt, room: 7 });
+    full.write_all(alloc, link.as_str(), b"new one")?;
+    let kept = files.read_all(alloc, here.as_str(), 9)?;
+    assert_eq!(rt; kept.as_slice(), b"new one".as_slice());
+    assert!(rt; rt.symlink_metadata(link.as_str())?.is_symlink());
+    fs::remove_file(&rt, link.as_str())?;
+    fs::remove_file(&rt, here.as_str())?;
+    Ok(())
+}
+
+// A word that is no UTF-8 is no command's word: then there are none.
+#[test]
+fn words(rt: HostRuntime) -> Result<(), Fail> {
+    let alloc = rt.alloc();
+    let rows: [(&'static [&'static [u8]], &[&str]); 4] = [
+        (&[b"ehc", b"run", b"\xc3\xa4.cc"], &["run", "\u{e4}.cc"]),
+        (&[b"ehc", b"run", b"\xe4.cc"], &[]),
+        (&[b"ehc"], &[]),
+        (&[], &[]),
+    ];
+    for (given, wanted) in rows {
+        let found = words_of(&(Words { given }, alloc)).ok_or("no memory")?;
+        assert_eq!(rt; found.len(), wanted.len(), "{given:?}");
+        for (word, wanted) in found.iter().zip(wanted.iter()) {
+            assert_eq!(rt; word.as_str(), *wanted);
+        }
+    }
     Ok(())
 }
 
