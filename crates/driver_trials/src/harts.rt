@@ -1,4 +1,5 @@
 // Several harts of one image under schedules: what they print, in which order, and what they share. All lines are worked out by hand.
+use crate::compiled::answered;
 use crate::outside::Seen;
 use eh_driver::{Status, ehc};
 use eh_outer::{MemSink, MemStore};
@@ -27,23 +28,12 @@ fn given<'a>(source: &'a str, schedule: &'a [u8], inputs: &'a [&'a str]) -> Case
     }
 }
 
-fn numbers(alloc: Global, number: u64) -> Result<Vec<u64>, AllocError> {
-    let mut all = Vec::new(alloc);
-    all.push(number)?;
-    Ok(all)
-}
-
-fn words(
-    alloc: Global,
-    command: &str,
-    first: &str,
-    second: &str,
-) -> Result<Vec<String>, AllocError> {
-    let mut all = Vec::new(alloc);
-    all.push(String::from_str(alloc, command)?)?;
-    all.push(String::from_str(alloc, first)?)?;
-    all.push(String::from_str(alloc, second)?)?;
-    Ok(all)
+fn words_of(alloc: Global, image: &str) -> Result<Vec<String>, AllocError> {
+    let mut words = Vec::new(alloc);
+    words.push(String::from_str(alloc, "harts")?)?;
+    words.push(String::from_str(alloc, image)?)?;
+    words.push(String::from_str(alloc, "SCHED")?)?;
+    Ok(words)
 }
 
 // The names of the inputs.
@@ -66,18 +56,9 @@ fn store_of(alloc: Global, case: &Case<'_>) -> Result<MemStore, Fail> {
             input.as_bytes().to_vec(alloc)?,
         ))?;
     }
-    let mut store = MemStore::new(files, numbers(alloc, case.store_fails)?);
-    let mut out = MemSink::new(alloc, 0, Vec::new(alloc))?;
-    let mut err = MemSink::new(alloc, 0x100, Vec::new(alloc))?;
-    let words = words(alloc, "compile", "SRC", "IMG")?;
-    match ehc(
-        alloc,
-        &words,
-        &mut store,
-        &mut out,
-        &mut err,
-        Vec::new(alloc),
-    ) {
+    let mut store = MemStore::new(files, [case.store_fails].to_vec(alloc)?);
+    let made = answered(alloc, &["compile", "SRC", "IMG"], &mut store)?;
+    match made.status {
         Status::Done => Ok(store),
         _ => Err(Fail::new("the source is not compiled")),
     }
@@ -86,14 +67,14 @@ fn store_of(alloc: Global, case: &Case<'_>) -> Result<MemStore, Fail> {
 // What `harts` answers of a case, with an image of this name.
 fn answer(alloc: Global, image: &str, case: &Case<'_>) -> Result<Seen, Fail> {
     let mut store = store_of(alloc, case)?;
-    let mut words = words(alloc, "harts", image, "SCHED")?;
+    let mut words = words_of(alloc, image)?;
     for (name, _) in NAMES.iter().zip(case.inputs.iter()) {
         words.push(format!(in alloc; "--in={name}")?)?;
     }
     if case.trace {
         words.push(String::from_str(alloc, "--trace")?)?;
     }
-    let mut out = MemSink::new(alloc, 0x4000, numbers(alloc, case.out_fails)?)?;
+    let mut out = MemSink::new(alloc, 0x4000, [case.out_fails].to_vec(alloc)?)?;
     let mut err = MemSink::new(alloc, 0x100, Vec::new(alloc))?;
     let status = ehc(
         alloc,
