@@ -3,7 +3,6 @@ pub mod SameFrames
 pub mod SameTables
 pub mod Low
 pub mod Readable
-pub mod FramesStart
 pub mod Writable
 pub mod Lasting
 pub mod Runnable

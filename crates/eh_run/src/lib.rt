@@ -6,7 +6,6 @@ mod laws;
 mod loaded;
 mod loading;
 mod running;
-mod start;
 mod written;
 
 pub use counting::{Counted, run_counted};

@@ -7,8 +7,8 @@ ghost use Rattle.table_forms.specs.Seen.{fault_of};
 ghost use Rattle.elf_image.specs.Runnable.{frames_start, frames_written, written_at};
 ghost use Rattle.eh_run.specs.Written.{table_written, tables_written};
 
-use crate::start::frames_start;
 use eh_bytes::Segments;
+use elf_image::frames_start;
 use frame_read::Fde;
 use table_forms::{Reason, Refusal, joined, unless};
 

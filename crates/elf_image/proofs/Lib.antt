@@ -1,6 +1,6 @@
 mod Joined
 mod Turns
-mod Sound
+pub mod Sound
 mod Whole
 mod FieldsRead
 mod HeaderWritten
@@ -12,3 +12,4 @@ mod ImageHeaders
 mod ImageWritten
 pub mod Sizes
 pub mod Cleaned
+mod FramesStart

@@ -6,8 +6,8 @@ ghost use Rattle.elf_image.specs.Laid.{padding, place_for, flags_of, load_for, l
 ghost use Rattle.elf_image.specs.Stands.{contents_of};
 ghost use Rattle.elf_image.specs.CanWrite.{HasWord, IsWord};
 
-use crate::program::{FRAMES, LOAD, ProgramHeader, RUNTIME};
-use crate::runtime_header::{RECORD_SIZE, load_with};
+use crate::program::{FRAMES, LOAD, ProgramHeader, RUNTIME, load_with};
+use crate::runtime_header::RECORD_SIZE;
 use crate::write::ImageParts;
 use eh_bytes::Segment;
 use std::alloc::{AllocError, Global};

@@ -9,13 +9,15 @@ mod laid;
 mod load;
 mod memory;
 pub mod number;
-mod program;
+pub mod program;
 mod put;
 mod runtime_header;
+mod start;
 mod write;
 
 pub use eh_bytes::RuntimeRecord;
 pub use elf::{Elf, read_elf};
 pub use error::ImageError;
+pub use start::frames_start;
 pub use std::alloc::AllocError as NoMemory;
 pub use write::{ImageParts, write_elf};

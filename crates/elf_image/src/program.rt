@@ -1,18 +1,22 @@
 // Program headers.
-ghost use Rattle.std.specs.Prelude.{◌≡◌, ◌<◌, ◌≤◌, ◌^◌, find, IfOk, ◌==◌, length};
+ghost use Rattle.std.specs.Prelude.{◌≡◌, ◌<◌, ◌≤◌, ◌^◌, true, find, IfOk, IfSome, ◌==◌, length};
 ghost use Rattle.std.specs.Option.{option_copied};
+ghost use Rattle.elf_image.specs.Runtime.{has_address};
 ghost use Rattle.elf_image.specs.Programs.{header_at, headers_from, headers_of, is_load, loaded, frames_header, runtime_header, end_of, is_executable, is_writable};
 
 use crate::number::{u16_at, u32_at, word};
 use std::alloc::{AllocError, Global};
 
+/// The type of a header of a segment that is loaded (PT_LOAD).
 pub const LOAD: u32 = 1;
 
+/// The type of the header of the frames' header (PT_GNU_EH_FRAME).
 pub const FRAMES: u32 = 0x6474_e550;
 
+/// The type of the header of the record for the runtime.
 pub const RUNTIME: u32 = 0x6e48_5831;
 
-/// A program header, with its place in the file.
+/// A program header (ELF-64 Object File Format, program headers), with its place in the file.
 #[derive(Clone, Copy, Debug)]
 pub struct ProgramHeader {
     pub place: u128,
@@ -32,18 +36,28 @@ impl ProgramHeader {
         self.address as u128 + self.memory_size as u128
     }
 
+    /// Whether its segment is loaded.
     pub fn is_load(&self) -> bool
         ensures { result ≡ is_load self.now }
     {
         self.kind == LOAD
     }
 
+    /// Whether its segment has the address.
+    pub fn has_address(&self, address: u128) -> bool
+        ensures { result ≡ has_address address self.now }
+    {
+        self.address as u128 <= address && address < self.end()
+    }
+
+    /// Whether its segment holds code (PF_X).
     pub fn is_executable(&self) -> bool
         ensures { result ≡ is_executable self.now }
     {
         self.flags % 2 == 1
     }
 
+    /// Whether its segment may be written (PF_W).
     pub fn is_writable(&self) -> bool
         ensures { result ≡ is_writable self.now }
     {
@@ -100,6 +114,14 @@ pub fn loads(alloc: Global, headers: &[ProgramHeader]) -> Result<Vec<ProgramHead
         rest = others;
     }
     Ok(found)
+}
+
+/// The first segment that has an address.
+pub fn load_with(loads: &[ProgramHeader], address: u128) -> Option<&ProgramHeader>
+    ensures first { option_copied result ≡ find (has_address address) loads.now }
+    ensures has { IfSome result (λ load. has_address address load.now ≡ true) }
+{
+    loads.iter().find(|load| load.has_address(address))
 }
 
 // The first header of a kind.

@@ -1,33 +1,18 @@
 // What an image to run has besides.
-ghost use Rattle.std.specs.Prelude.{◌≡◌, true, option_map, find, IfSome};
+ghost use Rattle.std.specs.Prelude.{◌≡◌, true, option_map};
 ghost use Rattle.std.specs.List.{list_any};
-ghost use Rattle.std.specs.Option.{option_copied};
 ghost use Rattle.table_forms.specs.Fault.{least};
 ghost use Rattle.table_forms.specs.Seen.{fault_of};
 ghost use Rattle.elf_image.specs.Runtime.{has_address, byte_in, byte_at, is_bare_at, has_table, is_stub, has_stub, is_runtime, runtime_faults, runtime_of};
 
 use crate::number::{u8_at, word};
-use crate::program::ProgramHeader;
+use crate::program::{ProgramHeader, load_with};
 use eh_bytes::RuntimeRecord;
 use table_forms::{Reason, Refusal, unless};
 
 pub const FORMAT: u64 = 1;
 
 pub const RECORD_SIZE: u64 = 24;
-
-fn has_address(address: u128, header: &ProgramHeader) -> bool
-    ensures { result ≡ has_address address header.now }
-{
-    header.address as u128 <= address && address < header.end()
-}
-
-/// The first segment that has an address.
-pub fn load_with(loads: &[ProgramHeader], address: u128) -> Option<&ProgramHeader>
-    ensures first { option_copied result ≡ find (has_address address) loads.now }
-    ensures has { IfSome result (λ load. has_address address load.now ≡ true) }
-{
-    loads.iter().find(|load| has_address(address, load))
-}
 
 // The byte of a segment at an address that it has.
 fn byte_in(file: &[u8], address: u128, header: &ProgramHeader) -> u8
@@ -69,7 +54,7 @@ pub fn has_table(file: &[u8], loads: &[ProgramHeader], header: Option<ProgramHea
 fn is_stub(stub: u64, load: &ProgramHeader) -> bool
     ensures { result ≡ is_stub stub load.now }
 {
-    load.is_executable() && has_address(stub as u128, load)
+    load.is_executable() && load.has_address(stub as u128)
 }
 
 fn is_code(loads: &[ProgramHeader], stub: u64) -> bool

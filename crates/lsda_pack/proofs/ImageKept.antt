@@ -28,7 +28,7 @@ use Rattle.lsda_pack.proofs.Apart.{NoneMeet, Lies, extent_apart, table_behind, t
 use Rattle.lsda_pack.proofs.ElfFrame.{AllStay}
 use Rattle.lsda_pack.proofs.FramesFrame.{PartKept, FramesAt, frames_same}
 use Rattle.lsda_pack.proofs.FunctionsKept.{Free, Decides, untouched, touched}
-use Rattle.lsda_pack.proofs.LoadsSound.{size_seen}
+use Rattle.elf_image.proofs.Sound.{size_seen}
 use Rattle.lsda_pack.proofs.LsdaFrame.{both_none}
 use Rattle.lsda_pack.proofs.Rewrites.{IsOutside, all_outside}
 use Rattle.lsda_pack.proofs.Segments.{part_same, part_long, in_both, found_part}

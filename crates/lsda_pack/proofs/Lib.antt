@@ -42,7 +42,6 @@ pub mod HeaderFrame
 pub mod FramesFrame
 pub mod FilesFrame
 pub mod ElfFrame
-pub mod LoadsSound
 pub mod Segments
 pub mod Rewrites
 pub mod Apart
@@ -55,8 +54,6 @@ pub mod Known
 pub mod PackedIs
 pub mod Offsets
 pub mod TypeNamed
-pub mod Sets
-pub mod Whole
 pub mod ListingIs
 pub mod StopsAre
 pub mod MayPackIs

@@ -10,7 +10,7 @@ use Rattle.table_forms.specs.Lsda.{Table}
 use Rattle.lsda_read.specs.Names.{actions_named, types_named, lists_named}
 use Rattle.lsda_pack.specs.KeptTypes.{is_among, greatest}
 use Rattle.lsda_pack.specs.ReadLists.{number_of, site_listed, values_from, lists_read}
-use Rattle.lsda_pack.specs.WholeTable.{filters_at, value_of, indices_at, IsWhole}
+use Rattle.lsda_read.specs.WholeTable.{filters_at, value_of, indices_at, IsWhole}
 use Rattle.lsda_pack.specs.Listing.{number_among, listed_with, named_value, named_values}
 
 abbrev pairs : {A : Type 0} → (ℕ → A) → List ℕ → List (ℕ × A)

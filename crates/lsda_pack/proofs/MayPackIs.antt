@@ -18,7 +18,7 @@ use Rattle.lsda_pack.specs.PackedLists.{packed_lists}
 use Rattle.lsda_pack.specs.ReadLists.{lists_read}
 use Rattle.lsda_pack.specs.Rule.{is_plain, pads_count, are_near, are_listed, lists_stand, may_pack, is_packed, bytes_for}
 use Rattle.lsda_pack.specs.TableEnd.{table_end}
-use Rattle.lsda_pack.specs.WholeTable.{indices_at, IsWhole}
+use Rattle.lsda_read.specs.WholeTable.{indices_at, IsWhole}
 use Rattle.lsda_pack.proofs.StopsAre.{list_is, stop_is}
 
 abbrev pairs : {A : Type 0} → (ℕ → A) → List ℕ → List (ℕ × A)

@@ -25,7 +25,7 @@ use Rattle.lsda_pack.proofs.Apart.{none_meet, Lies}
 use Rattle.lsda_pack.proofs.ElfFrame.{with_memory, elf_same, elf_facts}
 use Rattle.lsda_pack.proofs.HeadFrame.{bind_ok}
 use Rattle.lsda_pack.proofs.ImageKept.{sorted_all, NoneShared, each_none, filtered, stays_long, parts_stay, functions_kept, frames_kept}
-use Rattle.lsda_pack.proofs.LoadsSound.{all_placed}
+use Rattle.elf_image.proofs.Sound.{sound, all_placed}
 use Rattle.lsda_pack.proofs.LsdaFrame.{none_refused, both_none}
 use Rattle.lsda_pack.proofs.Rewrites.{IsOutside, all_outside}
 use Rattle.lsda_pack.proofs.Sizes.{FitsIn}
@@ -129,8 +129,9 @@ module _ (file : List ℕ) (read : Frames) (fs : List Function) where
   kept : elf file false ≡ Ok I → frames I.memory I.frame_header ≡ Ok read → functions_of I.memory (sorted read.fdes) ≡ Ok fs → load_faults (length file) 0 [] hs ≡ [] →
       file_faults [] hs ≡ [] → shared_faults file whole tables ≡ [] →
       (length other ≡ length file) × AllByRecursion (FitsIn (length file)) (filter is_packed tables) × IsOkAnd (clean other) (ImageStays whole)
+  unfolding least
   kept elf_read frames_read functions_read loads files shared =
-      let placed = all_placed (length file) 0 [] hs loads in
+      let placed = all_placed (length file) 0 [] hs (sound (length file) 0 [] hs (ap least loads)) in
       let apart = none_meet hs files in
       let good = all_good file hs (sorted read.fdes) fs placed functions_read in
       let chosen = filter is_packed tables in

@@ -10,7 +10,7 @@ use Rattle.elf_image.specs.Loads.{Placed, part_of}
 use Rattle.elf_image.specs.Runtime.{has_address}
 use Rattle.lsda_pack.proofs.FilesFrame.{Stays, get_taken, get_dropped, same_stays}
 use Rattle.lsda_pack.proofs.Fronts.{Same}
-use Rattle.lsda_pack.proofs.LoadsSound.{size_seen}
+use Rattle.elf_image.proofs.Sound.{size_seen}
 use Rattle.lsda_pack.proofs.HeadFrame.{with_bytes}
 
 -- a segment has an address where its header says so

@@ -20,7 +20,7 @@ use Rattle.table_forms.specs.LsdaChain.{Chain, Link, next_of, fails_at, with_dis
 use Rattle.table_forms.proofs.Beyond.{sleb_behind, uleb_behind}
 use Rattle.lsda_read.specs.Left.{next_place}
 use Rattle.lsda_read.specs.Names.{types_named, lists_named}
-use Rattle.lsda_pack.specs.WholeTable.{value_of, indices_at, IsWhole}
+use Rattle.lsda_read.specs.WholeTable.{value_of, indices_at, IsWhole}
 use Rattle.lsda_pack.specs.TableEnd.{behind, record_end, chain_ends, end_from, list_end_within, list_end, name_ends, table_end}
 use Rattle.lsda_pack.specs.Ends.{with_next, with_first, record_step, and_step, steps_within, action_steps, site_steps, index_end, indices_end, list_stop, list_stops, base_stops, name_stops, before_base, stop_of}
 

@@ -7,7 +7,6 @@ pub mod ListedVerdict
 pub mod Suffixes
 pub mod PackedBytes
 pub mod TableEnd
-pub mod WholeTable
 pub mod Ends
 pub mod Listing
 pub mod ReadLists

@@ -5,7 +5,7 @@ use Rattle.eh_bytes.specs.declared.table.ListSite.{ListSite}
 use Rattle.table_forms.specs.declared.found.Site.{Site}
 use Rattle.table_forms.specs.Lsda.{Table}
 use Rattle.lsda_pack.specs.KeptTypes.{is_among}
-use Rattle.lsda_pack.specs.WholeTable.{value_of}
+use Rattle.lsda_read.specs.WholeTable.{value_of}
 
 -- an action by its place among those that are named, action 0 by none
 abbrev pub number_among : List ℕ → ℕ → Option ℕ

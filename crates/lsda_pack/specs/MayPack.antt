@@ -12,7 +12,7 @@ use Rattle.lsda_pack.specs.Ends.{list_stop}
 use Rattle.lsda_pack.specs.PackedBytes.{base_for}
 use Rattle.lsda_pack.specs.Placed.{Placed}
 use Rattle.lsda_pack.specs.TableEnd.{table_end}
-use Rattle.lsda_pack.specs.WholeTable.{indices_at}
+use Rattle.lsda_read.specs.WholeTable.{indices_at}
 use Rattle.lsda_pack.specs.Rule.{is_plain, pads_count, are_near, is_packed, bytes_for}
 
 -- lists with these numbers stand one after the other, behind so many bytes

@@ -6,9 +6,8 @@ ghost use Rattle.lsda_pack.specs.Filters.{filter_of};
 ghost use Rattle.lsda_pack.specs.Ends.{record_step, steps_within, site_steps, indices_end, list_stops, base_stops, name_stops, before_base, stop_of};
 
 use crate::filter::{Named, named_by};
-use crate::listing::Numbers;
 use eh_bytes::RawCursor;
-use lsda_read::Lsda;
+use lsda_read::{Lsda, Numbers};
 
 // Where a chain goes on, by what a displacement is.
 fn next_by(place: u128, displacement: Named) -> Option<u128>

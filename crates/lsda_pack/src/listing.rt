@@ -2,53 +2,18 @@
 ghost use Rattle.std.specs.Prelude.{◌≡◌, ◌==◌, ◌≤◌, ◌++◌, map, IfOk, length, Contains};
 ghost use Rattle.std.specs.List.{AllByRecursion, position_or_len};
 ghost use Rattle.eh_bytes.specs.Listed.{listed_table};
-ghost use Rattle.table_forms.specs.Keys.{keys};
 ghost use Rattle.lsda_read.specs.Names.{actions_named, types_named, lists_named};
 ghost use Rattle.lsda_pack.specs.Listing.{number_among, listed_with, named_value, named_values};
 ghost use Rattle.lsda_pack.specs.KeptTypes.{greatest};
 ghost use Rattle.lsda_pack.specs.ReadLists.{lists_read};
-ghost use Rattle.lsda_pack.specs.WholeTable.{IsWhole, filters_at, value_of, indices_at};
+ghost use Rattle.lsda_read.specs.WholeTable.{IsWhole, filters_at, value_of, indices_at};
 
 use crate::NoMemory;
 use crate::kept_types::greatest;
-use crate::keys::keys_of;
-use crate::named::{actions_of, entries_of, filters_of, lists_of, push_indices};
 use eh_bytes::{ListSite, LsdaList};
 use lsda_read::{Chain, Lsda, SpecList};
 use std::alloc::{AllocError, Global};
 use table_forms::Site;
-
-/// The actions that the sites of a table name, and the types and lists that these reach, each once
-/// and in rising order.
-#[derive(Drop)]
-pub struct Numbers {
-    pub actions: Vec<u64>,
-    pub types: Vec<u64>,
-    pub lists: Vec<u64>,
-}
-
-/// What a table names.
-#[tactic(auto, using(crate::proofs::Whole::keys_in, crate::proofs::Whole::lists_reached, crate::proofs::Whole::types_reached))]
-pub fn numbers_of(alloc: Global, table: &Lsda<'_>) -> Result<Numbers, NoMemory>
-    requires { IsWhole table.now }
-    ensures actions { IfOk result (λ n. n.actions.items ≡ keys (actions_named table.now)) }
-    ensures types { IfOk result (λ n. n.types.items ≡ keys (types_named table.now)) }
-    ensures lists { IfOk result (λ n. n.lists.items ≡ keys (lists_named table.now)) }
-{
-    let named = actions_of(alloc, table)?;
-    let actions = keys_of(alloc, named.as_slice())?;
-    let filters = filters_of(alloc, table, actions.as_slice())?;
-    let reached = lists_of(alloc, filters.as_slice())?;
-    let lists = keys_of(alloc, reached.as_slice())?;
-    let mut entries = entries_of(alloc, filters.as_slice())?;
-    push_indices(&mut entries, table, lists.as_slice())?;
-    let types = keys_of(alloc, entries.as_slice())?;
-    Ok(Numbers {
-        actions,
-        types,
-        lists,
-    })
-}
 
 // The place of an action in the list, or the list's length.
 fn position_of(actions: &[u64], action: u64) -> usize
@@ -193,12 +158,12 @@ fn types_listed(alloc: Global, table: &Lsda<'_>, types: &[u64]) -> Result<Vec<u6
 }
 
 /// The lists of a table that was read, of a function that begins at this address.
-#[tactic(auto, using(crate::proofs::Whole::keys_in, crate::proofs::ListingIs::listing_is))]
+#[tactic(auto, using(lsda_read::proofs::Whole::keys_in, crate::proofs::ListingIs::listing_is))]
 pub fn read_lists(alloc: Global, table: &Lsda<'_>, start: u64) -> Result<LsdaList, NoMemory>
     requires { IsWhole table.now }
     ensures { IfOk result (λ listed. listed_table listed ≡ lists_read start table.now) }
 {
-    let numbers = numbers_of(alloc, table)?;
+    let numbers = table.numbers(alloc)?;
     let sites = sites_listed(alloc, table, start, numbers.actions.as_slice())?;
     let chains = chains_listed(alloc, table, numbers.actions.as_slice())?;
     let types = types_listed(alloc, table, numbers.types.as_slice())?;

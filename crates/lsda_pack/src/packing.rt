@@ -12,11 +12,11 @@ ghost use Rattle.lsda_pack.specs.PackedBytes.{packed_bytes};
 ghost use Rattle.lsda_pack.specs.PackedLists.{packed_lists};
 ghost use Rattle.lsda_pack.specs.Placed.{placed_in};
 ghost use Rattle.lsda_pack.specs.ReadLists.{lists_read};
-ghost use Rattle.lsda_pack.specs.WholeTable.{IsWhole};
+ghost use Rattle.lsda_read.specs.WholeTable.{IsWhole};
 
 use crate::NoMemory;
 use crate::ends::table_end;
-use crate::listing::{Numbers, numbers_of, read_lists};
+use crate::listing::read_lists;
 use crate::packed::pack_lists;
 use crate::packed_bytes::{base_for, write_packed};
 use crate::rule::{are_near, is_plain, names_stand, pads_count};
@@ -117,7 +117,7 @@ fn packed_from(
 
 /// The packed bytes of a table that was read, where it is packed: its bytes stand in the file, its
 /// form is plain, the packed bytes read the same, and they are fewer.
-#[tactic(auto, using(crate::proofs::Whole::keys_in))]
+#[tactic(auto, using(lsda_read::proofs::Whole::keys_in))]
 pub fn packed_table(
     alloc: Global,
     segment: &Segment,
@@ -137,7 +137,7 @@ pub fn packed_table(
     ensures { (h : Head) → IsHead (part_of segment.now) region table.now actions_at base h → IfOk result (λ packed. option_map (λ b. b.items) packed ≡ packed_for (placed_as first region place file_end (part_of segment.now) shape.now h table.now)) }
 {
     let bytes = segment.bytes.as_slice();
-    let numbers = numbers_of(alloc, table)?;
+    let numbers = table.numbers(alloc)?;
     let end = segment.address as u128 + table_end(bytes, actions_at, base, table, &numbers);
     packed_from(
         alloc,

@@ -2,7 +2,7 @@
 ghost use Rattle.std.specs.Prelude.{◌≡◌, ◌+◌, ◌-◌, ◌<◌, ◌^◌, ◌≤◌, ◌==◌, ◌||◌, ◌&&◌, nat_lt, nat_le, length, IfOk, IfSome, Contains, option_map, vec_len};
 ghost use Rattle.std.specs.List.{AllByRecursion};
 ghost use Rattle.lsda_read.specs.Names.{lists_named};
-ghost use Rattle.lsda_pack.specs.WholeTable.{indices_at};
+ghost use Rattle.lsda_read.specs.WholeTable.{indices_at};
 ghost use Rattle.lsda_pack.specs.MayPack.{stand_from, names_stand};
 ghost use Rattle.lsda_pack.specs.Rule.{is_plain, pads_count, are_near};
 

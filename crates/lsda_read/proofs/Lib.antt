@@ -6,3 +6,5 @@ mod Steps
 mod Kept
 mod Fits
 mod Judged
+mod Sets
+pub mod Whole

@@ -7,3 +7,4 @@ pub mod SiteRests
 pub mod Left
 pub mod Names
 pub mod Shapes
+pub mod WholeTable

@@ -1,6 +1,6 @@
-//! Reads the exception table of a function where it lies in memory, without memory of its own. A
-//! table is judged whole when it is opened; after that its sites, chains, type entries and lists
-//! are given without a further refusal.
+//! Reads the exception table of a function where it lies in memory. A table is judged whole
+//! when it is opened; after that its sites, chains, type entries and lists are given without a
+//! further refusal. Only the numbers that a table names take memory.
 #![tactic(auto)]
 
 mod action;
@@ -11,8 +11,10 @@ mod field;
 mod filter;
 mod head;
 mod head_fields;
+mod keys;
 mod list;
 mod lsda;
+mod named;
 mod refusal;
 mod shape;
 mod site;
@@ -23,5 +25,6 @@ pub use chain::Chain;
 pub use error::TableError;
 pub use list::SpecList;
 pub use lsda::Lsda;
+pub use named::Numbers;
 pub use shape::Shape;
 pub use sites::Sites;

@@ -16,7 +16,7 @@ use Rattle.table_check.proofs.Bounds.{Ends}
 use Rattle.table_check.proofs.Few.{sorted_all, order_sound}
 use Rattle.table_dump.specs.Seen.{IsFunction, AreFunctions}
 use Rattle.table_dump.specs.Dump.{function_text}
-use Rattle.table_dump.proofs.Whole.{all_in}
+use Rattle.lsda_read.proofs.Whole.{all_in}
 
 pub first_function : (memory : Memory) (l : Listing) (fde : Fde) (fs : List Fde) (gs : List Function) → AreFunctions memory l (fde ∷ fs) gs → (g : Function) × IsFunction memory l fde g
 first_function memory l fde fs [] are = absurd are

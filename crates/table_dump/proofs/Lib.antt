@@ -1,7 +1,6 @@
 mod Ends
 mod Locations
-mod Sets
-mod Whole
+mod TableText
 mod Pointers
 mod Places
 mod Functions

@@ -6,5 +6,4 @@ pub mod Rows
 pub mod Entry
 pub mod Seen
 pub mod Tables
-pub mod Named
 pub mod Dump

@@ -4,7 +4,7 @@ ghost use Rattle.eh_bytes.specs.Memory.{memory_of};
 ghost use Rattle.table_forms.specs.Lsda.{Table};
 ghost use Rattle.elf_image.specs.Clean.{Function, table_named};
 ghost use Rattle.table_dump.specs.Seen.{IsFunction, AreFunctions};
-ghost use Rattle.table_dump.specs.Named.{IsWhole};
+ghost use Rattle.lsda_read.specs.WholeTable.{IsWhole};
 ghost use Rattle.table_dump.specs.Dump.{named_text, function_text};
 
 use crate::frame::put_rows;

@@ -5,7 +5,7 @@ ghost use Rattle.std.specs.Fmt.{decimal, signed_decimal};
 ghost use Rattle.lsda_read.specs.Names.{actions_named, types_named, lists_named};
 ghost use Rattle.table_dump.specs.Texts.{joined};
 ghost use Rattle.table_dump.specs.Tables.{lsda_line, site_line, action_line, type_line, list_line};
-ghost use Rattle.table_dump.specs.Named.{filters_at, value_of, indices_at};
+ghost use Rattle.lsda_read.specs.WholeTable.{filters_at, value_of, indices_at};
 
 use crate::text::put_text;
 use lsda_read::{Chain, Lsda, SpecList};

@@ -2,7 +2,7 @@ use Rattle.std.proofs.Common.{◌≡◌, ◌++◌, length, map}
 use Rattle.std.specs.Prelude.{Contains}
 use Rattle.std.specs.List.{AllByRecursion}
 use Rattle.lsda_read.specs.Names.{actions_named}
-use Rattle.lsda_pack.specs.WholeTable.{filters_at}
+use Rattle.lsda_read.specs.WholeTable.{filters_at}
 use Rattle.lsda_pack.proofs.listing.chains_listed.Given as goal
 
 abbrev pub invariant-actions : goal.invariant-actions

@@ -2,7 +2,7 @@ use Rattle.std.proofs.Common.{◌≡◌, ◌++◌, length, map}
 use Rattle.std.specs.Prelude.{Contains}
 use Rattle.std.specs.List.{AllByRecursion}
 use Rattle.lsda_read.specs.Names.{lists_named}
-use Rattle.lsda_pack.specs.WholeTable.{indices_at}
+use Rattle.lsda_read.specs.WholeTable.{indices_at}
 use Rattle.lsda_pack.proofs.listing.lists_listed.Given as goal
 
 abbrev pub invariant-lists : goal.invariant-lists

@@ -5,7 +5,7 @@ use Rattle.lsda_read.specs.Reads.{reported}
 use Rattle.lsda_pack.specs.MayPack.{IsHead, first_packed, packed_for, placed_as}
 use Rattle.lsda_pack.specs.Placed.{placed_in}
 use Rattle.lsda_pack.proofs.HeadBy.{shaped, placed_by, not_placed}
-use Rattle.lsda_pack.proofs.Whole.{read_whole}
+use Rattle.lsda_read.proofs.Whole.{read_whole}
 use Rattle.lsda_pack.proofs.packing.packed_in.Goals as goal
 
 pub packed_table-requires-clause-whole : goal.packed_table-requires-clause-whole

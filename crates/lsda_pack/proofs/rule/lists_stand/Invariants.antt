@@ -2,7 +2,7 @@ use Rattle.std.proofs.Common.{◌≡◌, ◌<◌, ◌^◌, length}
 use Rattle.std.specs.Prelude.{Contains}
 use Rattle.std.specs.List.{AllByRecursion}
 use Rattle.lsda_read.specs.Names.{lists_named}
-use Rattle.lsda_pack.specs.WholeTable.{indices_at}
+use Rattle.lsda_read.specs.WholeTable.{indices_at}
 use Rattle.lsda_pack.specs.MayPack.{stand_from}
 use Rattle.lsda_pack.proofs.rule.lists_stand.Given as goal
 

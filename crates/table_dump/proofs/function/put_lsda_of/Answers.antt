@@ -1,7 +1,7 @@
 use Rattle.std.proofs.Common.{rules, ◌≡◌, Ok}
 use Rattle.eh_bytes.specs.Memory.{memory_of}
 use Rattle.table_forms.specs.Lsda.{lsda}
-use Rattle.table_dump.proofs.Whole.{read_whole}
+use Rattle.lsda_read.proofs.Whole.{read_whole}
 use Rattle.table_dump.proofs.function.put_lsda_of.Goals as goal
 
 pub put_named-requires : goal.put_named-requires

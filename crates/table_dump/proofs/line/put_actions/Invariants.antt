@@ -3,7 +3,7 @@ use Rattle.std.specs.Prelude.{flat_map, Contains}
 use Rattle.std.specs.List.{AllByRecursion}
 use Rattle.lsda_read.specs.Names.{actions_named}
 use Rattle.table_dump.specs.Tables.{action_line}
-use Rattle.table_dump.specs.Named.{filters_at}
+use Rattle.lsda_read.specs.WholeTable.{filters_at}
 use Rattle.table_dump.proofs.line.put_actions.Given as goal
 
 abbrev pub invariant-actions : goal.invariant-actions

@@ -3,7 +3,7 @@ use Rattle.std.specs.Prelude.{flat_map, Contains}
 use Rattle.std.specs.List.{AllByRecursion}
 use Rattle.lsda_read.specs.Names.{lists_named}
 use Rattle.table_dump.specs.Tables.{list_line}
-use Rattle.table_dump.specs.Named.{indices_at}
+use Rattle.lsda_read.specs.WholeTable.{indices_at}
 use Rattle.table_dump.proofs.line.put_lists.Given as goal
 
 abbrev pub invariant-lists : goal.invariant-lists

@@ -3,7 +3,7 @@ use Rattle.std.specs.Prelude.{flat_map, Contains}
 use Rattle.std.specs.List.{AllByRecursion}
 use Rattle.lsda_read.specs.Names.{types_named}
 use Rattle.table_dump.specs.Tables.{type_line}
-use Rattle.table_dump.specs.Named.{value_of}
+use Rattle.lsda_read.specs.WholeTable.{value_of}
 use Rattle.table_dump.proofs.line.put_types.Given as goal
 
 abbrev pub invariant-types : goal.invariant-types

@@ -1,7 +1,7 @@
 use Rattle.std.proofs.Common.{rules, ◌≡◌}
 use Rattle.table_forms.specs.Keys.{keys}
 use Rattle.lsda_read.specs.Names.{actions_named, types_named, lists_named}
-use Rattle.table_dump.proofs.Whole.{table_put}
+use Rattle.table_dump.proofs.TableText.{table_put}
 use Rattle.table_dump.proofs.table.put_table.Goals as goal
 
 pub returns : goal.returns

@@ -1,8 +1,0 @@
-use Rattle.std.proofs.Common.{◌≡◌, ◌++◌, length}
-use Rattle.table_dump.proofs.named.push_list.Given as goal
-
-abbrev pub invariant-list : goal.invariant-list
-invariant-list l = l.initial.indices.items ++ l.initial.list ≡ l.indices.items ++ l.list
-
-abbrev pub decreases-list : goal.decreases-list
-decreases-list l = length l.list
