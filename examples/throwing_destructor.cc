@@ -1,5 +1,5 @@
 // A destructor that throws. Where its scope is left normally the exception goes on, and the other objects are destroyed under it; where
-// another exception is on its way the program terminates.
+// another exception is on its way the program terminates. By the standard of 2011 the destructor is noexcept, and the first throw terminates.
 struct Guard {
   int id;
   Guard(int i) : id(i) { }

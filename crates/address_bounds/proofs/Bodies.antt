@@ -5,15 +5,14 @@ use Rattle.std.proofs.lemmas.List.{length-map}
 use Rattle.cxx_ast.specs.declared.declaration.FuncKind.{FuncKind}
 use Rattle.cxx_ast.specs.declared.declaration.FuncKind.TheVariants.{Plain, Method, Constructor as ConstructorKind, Destructor as DestructorKind}
 use Rattle.cxx_ast.specs.declared.types.Param.{Param}
-use Rattle.cxx_ast.specs.declared.types.Ty.{Ty}
-use Rattle.cxx_ast.specs.Plain.{Function, Expressions, no_expressions, expression_then}
+use Rattle.cxx_ast.specs.Plain.{Function, Specification, listed, noexcept, Expressions, no_expressions, expression_then}
 use Rattle.meaning_forms.specs.Call.{statements_in, initialiser_for}
 use Rattle.meaning_forms.specs.Class.{ObjectType, int_type, class_type, parts_of}
 use Rattle.meaning_forms.specs.Construct.{constructor_for}
 use Rattle.meaning_forms.specs.Frame.{Variable}
 use Rattle.meaning_forms.specs.World.{Reference, nowhere}
 use Rattle.region_forms.specs.Form.{Region}
-use Rattle.region_forms.specs.LowerExpression.{Lowering, result_slot, first_temporary, lower}
+use Rattle.region_forms.specs.LowerExpression.{Lowering, result_slot, exception_slot, first_temporary, lower}
 use Rattle.region_forms.specs.LowerStatement.{statements}
 use Rattle.region_forms.specs.LowerProgram.{part_place, limited, build_parts, destroy_parts, default_built, default_part, copy_part, initial_part, last_result, body_of}
 use Rattle.region_simulation.specs.Statements.{declared_to}
@@ -62,9 +61,11 @@ module _ (w : Where) (k : Known w) where
       (within_parameters w.lowering f.parameters (somewhere f.parameters) 0 [] (none_within w.lowering) typed.parameters) 0 (length f.parameters) d
       (typed.statements (somewhere f.parameters) (somewhere_length f.parameters))
 
-  pub limited_reaches : (specification : Option (List Ty)) (act : ℕ → List Region) (d : ℕ) → Everywhere act → RegionReaches w.needs w.reach w.slots (limited specification act d)
+  pub limited_reaches : (specification : Option Specification) (act : ℕ → List Region) (d : ℕ) → Everywhere act → RegionReaches w.needs w.reach w.slots (limited w.lowering specification act d)
   limited_reaches None act d h = from_reach w (act (d + 1)) (h (d + 1))
-  limited_reaches (Some types) act d h = from_reach w (act (d + 2)) (h (d + 2))
+  limited_reaches (Some (listed types)) act d h = from_reach w (act (d + 2)) (h (d + 2))
+  limited_reaches (Some (noexcept place b)) act d h =
+      let all = k.behind (exception_slot w.lowering) (omega arith) in (from_reach w (act (d + 2)) (h (d + 2)), (omega (arith, all), (tt, (((tt, tt), tt), tt)), tt))
 
   pub last_reaches : (b : Bool) → AllReach w (last_result w.lowering b)
   last_reaches false = tt

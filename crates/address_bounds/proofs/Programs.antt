@@ -75,17 +75,17 @@ module _ (p : Checked) (l : Layout) (typed : IsTypedProgram p l) (small : (k : �
       subst (λ vs. RegionReaches (needs_of p l) (reach_of l (record { own = g.own; variables = vs })) (code_slots (declared_function p l (is_member g.own) is_main k f)) (declared_function p l (is_member g.own) is_main k f).body) (sym same)
       (let own : Given = record { own = g.own; variables = variables_of f } in
       let inner : Lowering = lowering p l (is_member g.own) (variables_of f) in
-      let body : Region = in_order (limited f.specification (body_of inner f.kind k f) 1 ∷ last_result inner is_main) in
+      let body : Region = in_order (limited inner f.specification (body_of inner f.kind k f) 1 ∷ last_result inner is_main) in
       let w : Where = where_of p l own body in
       let known = known_of p l own body typed small in
-      from_reach w (limited f.specification (body_of inner f.kind k f) 1 ∷ last_result inner is_main)
+      from_reach w (limited inner f.specification (body_of inner f.kind k f) 1 ∷ last_result inner is_main)
       (limited_reaches w known f.specification (body_of inner f.kind k f) 1 (λ d. h w known refl refl d), last_reaches w known is_main))
 
   declared_pads : (g : Given) (is_main : Bool) (k : ℕ) (f : Function) → g.variables ≡ variables_of f → Padded (declared_function p l (is_member g.own) is_main k f) g
   declared_pads g is_main k f same =
       let inner : Lowering = lowering p l (is_member g.own) (variables_of f) in
       subst (λ vs. Padded (declared_function p l (is_member g.own) is_main k f) (record { own = g.own; variables = vs })) (sym same)
-      (pads_of (record { own = g.own; variables = variables_of f }) (in_order (limited f.specification (body_of inner f.kind k f) 1 ∷ last_result inner is_main)))
+      (pads_of (record { own = g.own; variables = variables_of f }) (in_order (limited inner f.specification (body_of inner f.kind k f) 1 ∷ last_result inner is_main)))
 
   -- the program's own functions
   own_fine : (n : ℕ) (fs : List Function) → ((i : ℕ) (f : Function) → slice_get fs i ≡ Some f → (n + i < length p.functions) × (function_at p (n + i) ≡ f)) → Paired Both (own_functions p l n fs) (map own_given fs)

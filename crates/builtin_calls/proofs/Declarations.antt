@@ -1,13 +1,14 @@
 -- So it is in the functions that a program declares, declaration after declaration.
-use Rattle.std.proofs.Common.{◌≡◌, ◌∙◌, ◌+◌, ℕ, zero, suc, true, false, Bool, List, [], ◌∷◌, map, length, Some, None, option_map, codes, find, bytes_eq, if◌then◌else◌, refl, sym, ap, subst, arith}
+use Rattle.std.proofs.Common.{◌≡◌, ◌∙◌, ◌+◌, ℕ, zero, suc, true, false, Bool, List, [], ◌∷◌, ◌++◌, map, length, Option, Some, None, option_map, codes, find, bytes_eq, if◌then◌else◌, refl, sym, ap, subst, arith}
 use Rattle.std.specs.Prelude.{◌<◌, slice_get, unwrap_or, flat_map}
 use Rattle.std.proofs.lemmas.Slice.Eq.{bytes_eq-Decides}
-use Rattle.std.proofs.lemmas.Option.{slice_get_within}
+use Rattle.std.proofs.lemmas.Option.{slice_get_within, slice_get-map}
 use Rattle.cxx_ast.specs.declared.name.Bound.TheVariants.{Func, Method as MethodBound}
 use Rattle.cxx_ast.specs.declared.types.Ty.{Ty}
 use Rattle.cxx_ast.specs.declared.types.Ty.TheVariants.{Int, Void, Object, IntRef, ObjectRef}
 use Rattle.cxx_ast.specs.declared.types.Param.{Param}
-use Rattle.cxx_ast.specs.Plain.{Function, Class, class_declaration, global_declaration, function_declaration, Program, Checked}
+use Rattle.cxx_ast.specs.declared.standard.Std.{Std}
+use Rattle.cxx_ast.specs.Plain.{Specification, Function, Class, class_declaration, global_declaration, function_declaration, Program, Checked}
 use Rattle.cxx_ast.specs.Environment.{Signature, ClassEntry, Environment}
 use Rattle.cxx_ast.specs.Lookup.{entry_of}
 use Rattle.cxx_ast.specs.TypeNames.{has_body, signature}
@@ -21,6 +22,8 @@ use Rattle.cxx_ast.specs.Broken.{Valid, declarations_found, function_name_found}
 use Rattle.cxx_ast.specs.Grammatical.{Each, IsResult, HasForm, IsFunction, IsGrammatical}
 use Rattle.cxx_ast.specs.Written.{Written, written_class, written_global, written_function, declared, start_value}
 use Rattle.cxx_ast.specs.Checked.{IsChecked, bad_exception, resolve_methods, resolve_declarations, classes_of, globals_of, functions_of, checked}
+use Rattle.cxx_ast.specs.Settled.{Allowed, allowed_by, destructor_of, given, settle_function, settle_classes}
+use Rattle.cxx_ast.proofs.Settled.{settled_functions}
 use Rattle.meaning_forms.specs.Class.{class_named, class_at, no_function}
 use Rattle.meaning_forms.specs.Expression.{types_of}
 use Rattle.region_formed.proofs.Fine.{Fine, fine_parts}
@@ -50,6 +53,21 @@ pub record AllFunctionsFit (classes : List Class) (functions : List Function) : 
   pub own : Each FunctionFits functions
   pub methods : ClassesFit classes
 
+-- nothing of this is said of specifications
+function_settled : (own : Option Specification) (f : Function) → FunctionFits f → FunctionFits (settle_function own f)
+function_settled own f h = record { initialisers = h.initialisers; body = h.body }
+
+classes_settled : (std : Std) (before : List Allowed) (cs : List Class) → ClassesFit cs → ClassesFit (settle_classes std before cs)
+classes_settled std before [] h = tt
+classes_settled std before (c ∷ cs) h =
+    let own = given std before c in
+    (settled_functions FunctionFits function_settled own c.functions h.0, classes_settled std (before ++ allowed_by (destructor_of own c.functions) ∷ []) cs h.1)
+
+all_settled : (std : Std) (before : List Allowed) (classes : List Class) (functions : List Function) → AllFunctionsFit classes functions →
+    AllFunctionsFit (settle_classes std before classes) (map (settle_function None) functions)
+all_settled std before classes functions h =
+    record { own = settled_functions FunctionFits function_settled None functions h.own; methods = classes_settled std before classes h.methods }
+
 -- a function without a class is seen from outside
 result_scope : (env next : Environment) (t : Ty) → IsResult t → function_scope next None t ≡ function_scope env None t
 result_scope env next Int h = refl
@@ -71,9 +89,9 @@ module _ (p : Checked) (checked_is : IsChecked p) (defined special : List (List 
       let parts = fine_parts defined (method_found env c x) (flat_map (method_found env c) fs) f in
       let k = length env.classes in
       let next = declare_behind env (class_declaration c) in
-      let meant = behind_class p defined special env s.meant c s.placed s.below s.named s.data_members s.functions s.alone s.fine in
-      let names = head_names p defined special env s.meant c s.placed s.below s.named s.data_members s.functions s.alone s.fine in
-      let entry = entry_last p defined special env s.meant c s.placed s.below s.named s.data_members s.functions s.alone s.fine in (
+      let meant = behind_class p defined special env s.meant c s.own s.placed s.below s.named s.data_members s.functions s.alone s.fine in
+      let names = head_names p defined special env s.meant c s.own s.placed s.below s.named s.data_members s.functions s.alone s.fine in
+      let entry = entry_last p defined special env s.meant c s.own s.placed s.below s.named s.data_members s.functions s.alone s.fine in (
         function_fits p checked_is defined special next meant (head_environment env c) (Some k) (Some x.name.place) names (λ text e q. q) true false k (Some k) (λ j q. refl)
             (MethodBound k i) x ws.0 ns.0 parts.0 (λ e. record { number = k; entry = class_entry env c; own = refl; is = entry }),
         methods_fit env c s (i + 1) fs ws.1 ns.1 parts.1,
@@ -122,7 +140,7 @@ first_class p special below is name named = record {
 }
 
 -- the first declaration of each function, by the functions that are defined
-known_functions : (p : Checked) (ws : List Written) (env : Environment) → Each IsGrammatical ws → (functions : p.functions ≡ functions_of (resolve_declarations env (map declared ws))) →
+known_functions : (p : Checked) (ws : List Written) (env : Environment) → Each IsGrammatical ws → (functions : p.functions ≡ map (settle_function None) (functions_of (resolve_declarations env (map declared ws)))) →
     env.signatures ≡ [] → Fine (definitions (map declared ws)) (declarations_found env (map declared ws)) →
     (special : List (List ℕ)) (c : IsChecked p) → Known p c (definitions (map declared ws)) special (declare_all env (map declared ws)).signatures
 known_functions p ws env w functions none f special c text s e =
@@ -137,25 +155,28 @@ known_functions p ws env w functions none f special c text s e =
       there = λ h.
           let n = numbered defined s.name.text in
           let d = defined_at defined ws env start w f s n own (position_of defined s.name.text h) in
-          let at : slice_get p.functions n ≡ Some d.function = ap (λ fs. slice_get fs n) functions ∙ d.at in (
-            slice_get_within p.functions n d.function at,
+          let found = functions_of (resolve_declarations env (map declared ws)) in
+          let at : slice_get p.functions n ≡ Some (settle_function None d.function) =
+          ap (λ fs. slice_get fs n) functions ∙ slice_get-map (settle_function None) found n ∙ ap (option_map (settle_function None)) d.at in (
+            slice_get_within p.functions n (settle_function None d.function) at,
             subst (λ g. Shaped s.parameters (types_of g.parameters)) (sym (ap (λ o. unwrap_or o no_function) at)) d.shape,
           );
     }
 
-module _ (p : Program) (ws : List Written) (e : map declared ws ≡ p.declarations) (w : Each IsGrammatical ws) (valid : Valid p)
+module _ (std : Std) (p : Program) (ws : List Written) (e : map declared ws ≡ p.declarations) (w : Each IsGrammatical ws) (valid : Valid std p)
     (alone : Each (DeclarationAlone (class_texts p.declarations)) p.declarations) where
-  program_fits : IsChecked (checked p) → AllFunctionsFit (checked p).classes (checked p).functions
+  program_fits : IsChecked (checked std p) → AllFunctionsFit (checked std p).classes (checked std p).functions
   unfolding checked
   program_fits c =
       let env = at_the_start p.declarations in
       let defined = definitions (map declared ws) in
       let special = class_texts p.declarations in
-      let q = checked p in
+      let q = checked std p in
       let back = sym e in
       let last = (declare_all env (map declared ws)).signatures in
-      let fine = subst (λ ds. Fine (definitions ds) (declarations_found env ds)) back (valid_parts p valid).0 in
-      let functions : q.functions ≡ functions_of (resolve_declarations env (map declared ws)) = ap (λ ds. functions_of (resolve_declarations env ds)) back in
+      let fine = subst (λ ds. Fine (definitions ds) (declarations_found env ds)) back (valid_parts std p valid).0 in
+      let functions : q.functions ≡ map (settle_function None) (functions_of (resolve_declarations env (map declared ws))) =
+      ap (λ ds. map (settle_function None) (functions_of (resolve_declarations env ds))) back in
       let known = known_functions q ws env w functions refl fine special c in
       let m : Meant q defined special env = record {
         some = omega arith;
@@ -164,25 +185,27 @@ module _ (p : Program) (ws : List Written) (e : map declared ws ≡ p.declaratio
         signatures = λ text s h. absurd (cc h);
         definitions = ap definitions back;
       } in
-      let left : Left q c defined special last env (map declared ws) = record {
+      let left : Left q c defined special std last env (map declared ws) = record {
         meant = m;
         done = bad_exception ∷ [];
-        classes = ap (λ ds. bad_exception ∷ classes_of (resolve_declarations env ds)) back;
+        allowed = allowed_by (destructor_of (given std [] bad_exception) []) ∷ [];
+        classes = ap (λ ds. settle_classes std [] (bad_exception ∷ classes_of (resolve_declarations env ds))) back;
         count = refl;
         before = [];
         globals = ap (λ ds. globals_of (resolve_declarations env ds)) back;
         globals_count = refl;
         last_is = refl;
       } in
-      let steps = walked q c defined special last known ws env left w (subst (Each (DeclarationAlone special)) back alone) fine in
+      let steps = walked q c defined special std last known ws env left w (subst (Each (DeclarationAlone special)) back alone) fine in
       let all = declarations_fit q c defined special ws env steps in
       let here = subst (λ ds. AllFunctionsFit (classes_of (resolve_declarations env ds)) (functions_of (resolve_declarations env ds))) e all in
-      record { own = here.own; methods = (tt, here.methods) }
+      all_settled std [] (bad_exception ∷ classes_of (resolve_declarations env p.declarations)) (functions_of (resolve_declarations env p.declarations))
+      (record { own = here.own; methods = (tt, here.methods) })
     where
-      one_class : (k : ℕ) (x : ClassEntry) → slice_get (at_the_start p.declarations).classes k ≡ Some x → EntryMeant (checked p) (class_texts p.declarations) k x
+      one_class : (k : ℕ) (x : ClassEntry) → slice_get (at_the_start p.declarations).classes k ≡ Some x → EntryMeant (checked std p) (class_texts p.declarations) k x
       one_class zero x h =
-          subst (EntryMeant (checked p) (class_texts p.declarations) 0) (cc h)
-          (first_class (checked p) (class_texts p.declarations) (omega arith) refl (codes "std::bad_exception") (text_first (codes "std::bad_exception") (class_names p.declarations)))
+          subst (EntryMeant (checked std p) (class_texts p.declarations) 0) (cc h)
+          (first_class (checked std p) (class_texts p.declarations) (omega arith) refl (codes "std::bad_exception") (text_first (codes "std::bad_exception") (class_names p.declarations)))
       one_class (suc zero) x h = absurd (cc h)
       one_class (suc (suc k)) x h = absurd (cc h)
 
@@ -194,11 +217,11 @@ functions_fit p c =
     let ws = c.tree.written in
     let back = sym c.tree.declarations in
     let passed = program_passed ws 0 c.tree.grammatical (source_above c.source c.tokens _ c.lexed c.tree.spelled) in
-    let fine = valid_parts c.program c.valid in
+    let fine = valid_parts c.std c.program c.valid in
     let found = subst (λ xs. Fine defined (declarations_found (at_the_start ds) xs)) back fine.0 in
     let once = subst (λ xs. Fine defined (once_only_found xs)) back fine.1 in
     let apart = strangers defined ws c.tree.grammatical passed once in
     let named = all_named (class_texts (map declared ws)) ws (λ t h. behind_true (bytes_eq (codes "std::bad_exception") t) (has_text t (class_names (map declared ws))) h) in
     let alone = declarations_alone defined (class_texts (map declared ws)) ws (at_the_start ds) found apart passed.members named in
     subst (λ q. IsChecked q → AllFunctionsFit q.classes q.functions) (sym c.resolved)
-    (program_fits c.program ws c.tree.declarations c.tree.grammatical c.valid (subst (λ xs. Each (DeclarationAlone (class_texts xs)) xs) c.tree.declarations alone)) c
+    (program_fits c.std c.program ws c.tree.declarations c.tree.grammatical c.valid (subst (λ xs. Each (DeclarationAlone (class_texts xs)) xs) c.tree.declarations alone)) c

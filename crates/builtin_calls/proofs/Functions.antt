@@ -30,7 +30,7 @@ use Rattle.region_formed.proofs.Fine.{Fine, fine_parts}
 use Rattle.region_formed.proofs.Meant.{FieldsMeant, Typed, Meant, Given, Reach}
 use Rattle.region_formed.proofs.Types.{From, from_front, from_back}
 use Rattle.region_formed.proofs.Heads.{heading, Names, NameAlone, params_reach}
-use Rattle.region_formed.proofs.Functions.{sc, bound, g}
+use Rattle.region_formed.proofs.Functions.{sc, g}
 use Rattle.builtin_calls.proofs.Trees.{AllFit, InitialisersFit, BodyFits, FunctionFits}
 use Rattle.builtin_calls.proofs.Rules.{EachFine, value_fine, construction_fine}
 use Rattle.builtin_calls.proofs.Expressions.{all_fit}
@@ -136,13 +136,13 @@ module _ (p : Checked) (checked : IsChecked p) (defined special : List (List ℕ
     (alone : Each (λ (x : Param). NameAlone special x.name) f.parameters)
     (fine : Fine defined (function_found head (heading hown hlimit 0) env inside f)) where
   abbrev there : Scope
-  there = sc p checked defined special env meant head hown hlimit names kept member is_main k inside own b f w alone fine
+  there = sc p checked defined special env meant head hown hlimit names kept member is_main k inside own b f w alone fine None
 
   abbrev pub tree : Function
-  tree = bound p checked defined special env meant head hown hlimit names kept member is_main k inside own b f w alone fine
+  tree = resolve_function head (heading hown hlimit 0) env (function_scope env inside f.result) b f
 
   abbrev given : Given
-  given = g p checked defined special env meant head hown hlimit names kept member is_main k inside own b f w alone fine
+  given = g p checked defined special env meant head hown hlimit names kept member is_main k inside own b f w alone fine None
 
   parts : (Fine defined (head_types_found head (heading hown hlimit 0) f)) × (Fine defined (body_found env there inside f f.body))
   parts =

@@ -9,11 +9,11 @@ use Rattle.cxx_ast.specs.declared.types.Param.{Param}
 use Rattle.cxx_ast.specs.declared.token.TokenKind.TheVariants as kind
 use Rattle.cxx_ast.specs.declared.keyword.Keyword.TheVariants as keyword
 use Rattle.cxx_ast.specs.declared.mark.Mark.TheVariants as sign
-use Rattle.cxx_ast.specs.Plain.{Expression, number, path, paren, unary, binary, call, std_call, Expressions, no_expressions, expression_then, Statement, block, empty, if_else, while, return, break, continue, throw, try, assign, evaluate, local_int, local_ref, local_object, Else, no_else, else_do, Statements, no_statements, statement_then, Handlers, no_handlers, handler_then, Initialiser, Function}
+use Rattle.cxx_ast.specs.Plain.{Expression, number, path, paren, unary, binary, call, std_call, Expressions, no_expressions, expression_then, Statement, block, empty, if_else, while, return, break, continue, throw, try, assign, evaluate, local_int, local_ref, local_object, Else, no_else, else_do, Statements, no_statements, statement_then, Handlers, no_handlers, handler_then, Initialiser, Function, Specification, listed, noexcept}
 use Rattle.cxx_ast.specs.Piece.{Piece, anywhere, placed, named, word, mark, word_at}
 use Rattle.cxx_ast.specs.Spelling.{is_bad_exception, spell_class, spell_const, spell_type, spell_name, spell_param, first_at, spell_dots, spell_path, spell_expression, spell_arguments, spell_more, spell_value, spell_start, spell_object_arguments, spell_caught, spell_statement, spell_else, spell_statements, spell_handlers}
 use Rattle.cxx_ast.specs.Operator.{binary_mark}
-use Rattle.cxx_ast.specs.Written.{Member, data_member, function_member, spell_more_params, spell_params, spell_result, spell_tilde, spell_base, spell_more_types, spell_types, spell_specification, spell_initialiser, spell_more_initialisers, spell_initialisers, spell_body, spell_function, spell_members}
+use Rattle.cxx_ast.specs.Written.{Member, data_member, function_member, spell_more_params, spell_params, spell_result, spell_tilde, spell_base, spell_more_types, spell_types, spell_specification, spell_initialiser, spell_more_initialisers, spell_initialisers, spell_body, spell_function, spell_members, in_full}
 use Rattle.checked_units.proofs.SourceLiterals.{AreInts}
 
 after_class : (x : Name) (after : List Piece) → AreInts (spell_class x after) → AreInts after
@@ -136,9 +136,12 @@ after_types : (ts : List Ty) (after : List Piece) → AreInts (spell_types ts af
 after_types [] after h = h
 after_types (t ∷ ts) after h = after_more_types ts after (after_type t (spell_more_types ts after) h)
 
-pub after_specification : (s : Option (List Ty)) (after : List Piece) → AreInts (spell_specification s after) → AreInts after
-after_specification None after h = h
-after_specification (Some ts) after h = (after_types ts (mark sign.CloseParen ∷ after) h.1.1).1
+pub after_specification : (full : Bool) (s : Option Specification) (after : List Piece) → AreInts (spell_specification full s after) → AreInts after
+after_specification full None after h = h
+after_specification full (Some (listed ts)) after h = (after_types ts (mark sign.CloseParen ∷ after) h.1.1).1
+after_specification full (Some (noexcept place false)) after h = h.1.1.1.1
+after_specification true (Some (noexcept place true)) after h = h.1.1.1.1
+after_specification false (Some (noexcept place true)) after h = h.1
 
 after_initialiser : (i : Initialiser) (after : List Piece) → AreInts (spell_initialiser i after) → AreInts after
 after_initialiser i after h = (after_arguments i.arguments (mark sign.CloseParen ∷ after) h.1.1).1
@@ -176,10 +179,10 @@ pub after_function : (f : Function) (after : List Piece) → AreInts (spell_func
 after_function f after h =
     let body = spell_body f.body after in
     let inits = spell_initialisers f.initialisers body in
-    let tail = spell_specification f.specification inits in
+    let tail = spell_specification (in_full f) f.specification inits in
     let inner = mark sign.OpenParen ∷ spell_params f.parameters (mark sign.CloseParen ∷ tail) in
     let named_on = after_result f.kind f.result (named f.name ∷ inner) h in
-    after_body f.body after (after_initialisers f.initialisers body (after_specification f.specification inits (after_params f.parameters (mark sign.CloseParen ∷ tail) named_on.1.1).1))
+    after_body f.body after (after_initialisers f.initialisers body (after_specification (in_full f) f.specification inits (after_params f.parameters (mark sign.CloseParen ∷ tail) named_on.1.1).1))
 
 pub after_members : (ms : List Member) (after : List Piece) → AreInts (spell_members ms after) → AreInts after
 after_members [] after h = h

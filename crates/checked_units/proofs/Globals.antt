@@ -9,6 +9,7 @@ use Rattle.cxx_ast.specs.Environment.{Environment}
 use Rattle.cxx_ast.specs.Declare.{at_the_start, declare_behind}
 use Rattle.cxx_ast.specs.Piece.{mark}
 use Rattle.cxx_ast.specs.Written.{Written, written_class, written_global, written_function, no_start, start, declared, spell_members, spell_declarations}
+use Rattle.cxx_ast.specs.declared.standard.Std.{Std}
 use Rattle.cxx_ast.specs.Checked.{resolve_declarations, globals_of, checked}
 use Rattle.machine_pieces.specs.Numbers.{IsInt}
 use Rattle.checked_units.specs.Images.{GlobalsAreInts}
@@ -38,13 +39,13 @@ written_ints env (written_global n (start true v) ∷ ws) h = (negated_int v h.1
 written_ints env (written_global n (start false v) ∷ ws) h = (literal_int v h.1.1.1.0, written_ints (declare_behind env (declared (written_global n (start false v)))) ws h.1.1.1.1.1)
 written_ints env (written_function f ∷ ws) h = written_ints (declare_behind env (declared (written_function f))) ws (after_function f (spell_declarations ws []) h)
 
-program_ints : (p : Program) (ws : List Written) → map declared ws ≡ p.declarations → AreInts (spell_declarations ws []) → AreAllInts (checked p).globals
+program_ints : (std : Std) (p : Program) (ws : List Written) → map declared ws ≡ p.declarations → AreInts (spell_declarations ws []) → AreAllInts (checked std p).globals
 unfolding checked
-program_ints p ws e h =
+program_ints std p ws e h =
     let env = at_the_start p.declarations in
     subst (λ ds. AreAllInts (globals_of (resolve_declarations env ds))) e (written_ints env ws h)
 
 pub globals_are_ints : GlobalsAreInts
 globals_are_ints p h =
     let pieces = spell_declarations h.tree.written [] in
-    subst (λ c. AreAllInts c.globals) (sym h.resolved) (program_ints h.program h.tree.written h.tree.declarations (source_has_ints h.source h.tokens pieces h.lexed h.tree.spelled))
+    subst (λ c. AreAllInts c.globals) (sym h.resolved) (program_ints h.std h.program h.tree.written h.tree.declarations (source_has_ints h.source h.tokens pieces h.lexed h.tree.spelled))

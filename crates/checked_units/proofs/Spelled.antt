@@ -4,8 +4,11 @@ use Rattle.std.specs.List.{AllByRecursion}
 use Rattle.cxx_ast.specs.declared.name.Bound.{Bound}
 use Rattle.cxx_ast.specs.declared.name.Bound.TheVariants.{Func, Method as MethodBound}
 use Rattle.cxx_ast.specs.declared.mark.Mark.TheVariants as sign
-use Rattle.cxx_ast.specs.Plain.{Expression, number, path, paren, unary, binary, call, std_call, Expressions, no_expressions, expression_then, Statement, block, empty, if_else, while, return, break, continue, throw, try, assign, evaluate, local_int, local_ref, local_object, Else, no_else, else_do, Statements, no_statements, statement_then, Handlers, no_handlers, handler_then, Initialiser, Function, Class, class_declaration, Program}
-use Rattle.cxx_ast.specs.Checked.{resolve_methods, resolve_declarations, classes_of, functions_of, checked}
+use Rattle.cxx_ast.specs.declared.standard.Std.{Std}
+use Rattle.cxx_ast.specs.Settled.{settle_function, settle_class}
+use Rattle.cxx_ast.proofs.Settled.{all_classes, all_functions}
+use Rattle.cxx_ast.specs.Plain.{Expression, number, path, paren, unary, binary, call, std_call, Expressions, no_expressions, expression_then, Statement, block, empty, if_else, while, return, break, continue, throw, try, assign, evaluate, local_int, local_ref, local_object, Else, no_else, else_do, Statements, no_statements, statement_then, Handlers, no_handlers, handler_then, Initialiser, Function, Class, class_declaration, Program, Specification}
+use Rattle.cxx_ast.specs.Checked.{resolve_methods, resolve_declarations, classes_of, functions_of, checked, bad_exception}
 use Rattle.cxx_ast.specs.Declare.{at_the_start, declare_behind, head_environment, head_scope, next_class, body_environment, function_scope}
 use Rattle.cxx_ast.specs.Environment.{Environment, Scope}
 use Rattle.cxx_ast.specs.Locals.{inner, after as scope_after, handler_scope, caught_count, locals_in, locals_of, scope_behind, declare_params, outermost}
@@ -14,7 +17,7 @@ use Rattle.cxx_ast.specs.Piece.{Piece, named, mark}
 use Rattle.cxx_ast.specs.Resolve.{function_number, resolve_expression, resolve_expressions, resolve_value, resolve_statement, resolve_else, resolve_statements, resolve_handlers, resolve_initialiser, resolve_body, resolve_function}
 use Rattle.cxx_ast.specs.Spelling.{spell_path, spell_expression, spell_arguments, spell_more, spell_value, spell_start, spell_object_arguments, spell_statement, spell_else, spell_statements, spell_handlers}
 use Rattle.cxx_ast.specs.TypeNames.{has_body}
-use Rattle.cxx_ast.specs.Written.{Member, data_member, function_member, functions, data_members, Written, written_class, written_global, written_function, no_start, start, declared, spell_params, spell_specification, spell_initialiser, spell_more_initialisers, spell_initialisers, spell_body, spell_function, spell_members, spell_declarations}
+use Rattle.cxx_ast.specs.Written.{Member, data_member, function_member, functions, data_members, Written, written_class, written_global, written_function, no_start, start, declared, spell_params, spell_specification, spell_initialiser, spell_more_initialisers, spell_initialisers, spell_body, spell_function, spell_members, spell_declarations, in_full}
 use Rattle.checked_units.proofs.Behind.{after_param, after_path, after_caught, after_specification, after_params, after_result, after_tilde, after_base}
 use Rattle.checked_units.proofs.Globals.{literal_int}
 use Rattle.checked_units.specs.Literals.{LiteralsIn, AllLiterals, ValueLiterals, StatementLiterals, ElseLiterals, StatementsLiterals, HandlersLiterals, BodyLiterals, InitialisersLiterals, FunctionLiterals, ProgramLiterals}
@@ -142,9 +145,9 @@ function head heads env sc b f after h =
     let params = declare_params env f.parameters sc in
     let own = spell_body f.body after in
     let inits = spell_initialisers f.initialisers own in
-    let tail = spell_specification f.specification inits in
+    let tail = spell_specification (in_full f) f.specification inits in
     let front = after_result f.kind f.result (named f.name ∷ mark sign.OpenParen ∷ spell_params f.parameters (mark sign.CloseParen ∷ tail)) h in
-    let x = initialisers env params f.initialisers own (after_specification f.specification inits (after_params f.parameters (mark sign.CloseParen ∷ tail) front.1.1).1) in
+    let x = initialisers env params f.initialisers own (after_specification (in_full f) f.specification inits (after_params f.parameters (mark sign.CloseParen ∷ tail) front.1.1).1) in
     let y = body env params f.body after x.1 in
     (record { initialisers = x.0; body = y.0 }, y.1)
 
@@ -196,14 +199,24 @@ declarations env (written_function f ∷ ws) h =
           (functions_of (resolve_declarations env' (map declared ws))) x.0 rest.own;
     }
 
-program : (p : Program) (ws : List Written) → map declared ws ≡ p.declarations → AreInts (spell_declarations ws []) → ProgramLiterals (checked p)
+-- nothing of this is said of specifications
+function_settled : (own : Option Specification) (f : Function) → FunctionLiterals f → FunctionLiterals (settle_function own f)
+function_settled own f h = record { initialisers = h.initialisers; body = h.body }
+
+class_settled : (own : Option Specification) (c : Class) → AllByRecursion FunctionLiterals c.functions → AllByRecursion FunctionLiterals (settle_class own c).functions
+class_settled own c h = all_functions FunctionLiterals function_settled own c.functions h
+
+program : (std : Std) (p : Program) (ws : List Written) → map declared ws ≡ p.declarations → AreInts (spell_declarations ws []) → ProgramLiterals (checked std p)
 unfolding checked
-program p ws e h =
+program std p ws e h =
     let env = at_the_start p.declarations in
     let all = subst (λ ds. All (classes_of (resolve_declarations env ds)) (functions_of (resolve_declarations env ds))) e (declarations env ws h) in
-    record { functions = all.own; methods = (tt, all.methods) }
+    record {
+      functions = all_functions FunctionLiterals function_settled None (functions_of (resolve_declarations env p.declarations)) all.own;
+      methods = all_classes (λ c. AllByRecursion FunctionLiterals c.functions) class_settled std [] (bad_exception ∷ classes_of (resolve_declarations env p.declarations)) (tt, all.methods);
+    }
 
 pub literals_are_ints : LiteralsAreInts
 literals_are_ints p h =
     let pieces = spell_declarations h.tree.written [] in
-    subst ProgramLiterals (sym h.resolved) (program h.program h.tree.written h.tree.declarations (source_has_ints h.source h.tokens pieces h.lexed h.tree.spelled))
+    subst ProgramLiterals (sym h.resolved) (program h.std h.program h.tree.written h.tree.declarations (source_has_ints h.source h.tokens pieces h.lexed h.tree.spelled))

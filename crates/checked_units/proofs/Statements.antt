@@ -8,7 +8,7 @@ use Rattle.cxx_ast.specs.declared.types.Ty.{Ty}
 use Rattle.cxx_ast.specs.declared.types.Ty.TheVariants.{Int, Object}
 use Rattle.cxx_ast.specs.declared.declaration.FuncKind.{FuncKind}
 use Rattle.cxx_ast.specs.declared.declaration.FuncKind.TheVariants.{Plain, Method, Constructor, Destructor}
-use Rattle.cxx_ast.specs.Plain.{Checked, Function, Expression, call, std_call, Expressions, no_expressions, expression_then, Initialiser, Statement, block, empty, if_else, while, return, break, continue, throw, try, assign, evaluate, local_int, local_ref, local_object, Else, no_else, else_do, Statements, no_statements, statement_then, Handlers, no_handlers, handler_then}
+use Rattle.cxx_ast.specs.Plain.{Checked, Function, Specification, listed, noexcept, Expression, call, std_call, Expressions, no_expressions, expression_then, Initialiser, Statement, block, empty, if_else, while, return, break, continue, throw, try, assign, evaluate, local_int, local_ref, local_object, Else, no_else, else_do, Statements, no_statements, statement_then, Handlers, no_handlers, handler_then}
 use Rattle.meaning_forms.specs.Class.{ObjectType, int_type, class_type, class_named, parts_of}
 use Rattle.meaning_forms.specs.Frame.{local_number}
 use Rattle.meaning_forms.specs.Call.{initialiser_for, statements_in, place_named}
@@ -233,7 +233,7 @@ module _ (l : Lowering) where
   copy_good k j (class_type c) = (((tt, tt), tt), omega arith)
 
   own_good : (o : Option Statements) (n : ℕ) → BodyLiterals o → Others (3 * body_tokens o) (λ e. statements l (statements_in o) 0 n e)
-  own_good None n h e = none_good 3
+  own_good None n h e = none_good 6
   own_good (Some ss) n h e = let x = statements_good ss 0 n e h in (x.0, omega (arith, x.1))
 
   bodied : (kind : FuncKind) (k : ℕ) (f : Function) (d : ℕ) → length (parts_of l.program k) ≤ 256 → function_tokens f ≤ 2000 → FunctionLiterals f → Good 1600000 (body_of l kind k f d)
@@ -249,16 +249,17 @@ module _ (l : Lowering) where
   bodied Plain k f d parts few c = let x = own_good f.body (length f.parameters) c.body d in (x.0, omega (arith, x.1, few))
   bodied Method k f d parts few c = let x = own_good f.body (length f.parameters) c.body d in (x.0, omega (arith, x.1, few))
 
-  limited_good : (n : ℕ) (o : Option (List Ty)) (act : ℕ → List Region) (d : ℕ) → Others n act → One (n + 2) (limited o act d)
+  limited_good : (n : ℕ) (o : Option Specification) (act : ℕ → List Region) (d : ℕ) → Others n act → One (n + 6) (limited l o act d)
   limited_good n None act d r = let x = r (d + 1) in (x.0, omega (arith, x.1))
-  limited_good n (Some types) act d r = let x = r (d + 2) in (x.0, omega (arith, x.1))
+  limited_good n (Some (listed types)) act d r = let x = r (d + 2) in (x.0, omega (arith, x.1))
+  limited_good n (Some (noexcept place b)) act d r = let x = r (d + 2) in ((x.0, (tt, (tt, (((tt, tt), tt), tt)), tt)), omega (arith, x.1))
 
   last_good : (is_main : Bool) → Good 0 (last_result l is_main)
   last_good false = none_good 0
   last_good true = ((refl, tt), omega arith)
 
   pub body_good : (is_main : Bool) (k : ℕ) (f : Function) → length (parts_of l.program k) ≤ 256 → function_tokens f ≤ 2000 → FunctionLiterals f →
-      One 1600010 (in_order (limited f.specification (body_of l f.kind k f) 1 ∷ last_result l is_main))
+      One 1600010 (in_order (limited l f.specification (body_of l f.kind k f) 1 ∷ last_result l is_main))
   body_good is_main k f parts few c =
       let x = limited_good 1600000 f.specification (body_of l f.kind k f) 1 (λ d. bodied f.kind k f d parts few c) in
       let y = last_good is_main in

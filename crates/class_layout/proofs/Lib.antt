@@ -6,3 +6,4 @@ pub mod Onward
 pub mod Members
 pub mod Apart
 pub mod Small
+pub mod Settled

@@ -4,7 +4,7 @@ use Rattle.std.specs.Prelude.{◌&&◌, nat_le, if◌then◌else◌}
 use Rattle.std.proofs.lemmas.Bool.Decides.{nat_tests}
 use Rattle.command_line.specs.declared.command.Verb.{Verb}
 use Rattle.command_line.specs.declared.command.Verb.TheVariants.{Compile, Run, Exec, Harts, Mean, Check, Dump, Frames, Gen}
-use Rattle.command_line.specs.Command.{AreHarts, CommandView, FoundView, are_named, operands_for, inputs_for, max_of, switch_of, scripts_of, found_in, command_from, verb_of, settings_of, operand_count, command_of}
+use Rattle.command_line.specs.Command.{AreHarts, CommandView, FoundView, are_named, operands_for, inputs_for, max_of, std_of, switch_of, scripts_of, found_in, command_from, verb_of, settings_of, operand_count, command_of}
 use Rattle.command_line.specs.Pieces.{pieces_of}
 use Rattle.command_line.proofs.Turns.{behind, made}
 
@@ -39,8 +39,9 @@ from_counted : (verb : Verb) (found : FoundView) (c : CommandView) → command_f
 unfolding command_from
 from_counted verb found c e =
     behind HasHarts _ (operands_for verb (operand_count verb) found.operands) (λ operands given. behind HasHarts _ (inputs_for verb found.inputs) (λ inputs is. behind HasHarts _ (max_of found.max) (λ max bound.
+    behind HasHarts _ (std_of found.std) (λ standard named.
     behind HasHarts _ (switch_of found.trace) (λ trace set. behind HasHarts _ (switch_of found.count) (λ count asked.
-    made HasHarts _ (scripts_of found.scripts) (λ scripts. counted verb found.inputs inputs is)))))) c e
+    made HasHarts _ (scripts_of found.scripts) (λ scripts. counted verb found.inputs inputs is))))))) c e
 
 pub harts_are_few : (words : List (List ℕ)) (c : CommandView) → command_of words ≡ Some c → AreHarts c.verb c.inputs
 harts_are_few [] c e = absurd (cc e)

@@ -10,7 +10,7 @@ use Rattle.clap.specs.Simple.{App, Shape, built, filled, filled_from, is_buildab
 use Rattle.clap.specs.Takes.{is_given}
 use Rattle.clap.specs.Walk.{Row, Rule, arg_by_id, arg_by_index, arg_by_long, arg_by_short, has_row, is_early_multiple, with_default}
 use Rattle.command_line.specs.declared.setting.Setting.{Setting}
-use Rattle.command_line.specs.declared.setting.Setting.TheVariants.{Input, Max, Trace, Count, Foreign}
+use Rattle.command_line.specs.declared.setting.Setting.TheVariants.{Input, Max, Trace, Count, Standard, Foreign}
 use Rattle.command_line.specs.Matches.{app_of_settings, operand_name, operand_rule, rule_of_setting}
 use Rattle.command_line.specs.Pieces.{setting_of}
 use Rattle.command_line.specs.Setting.{name_of}
@@ -55,6 +55,7 @@ operand_apart Input = refl
 operand_apart Max = refl
 operand_apart Trace = refl
 operand_apart Count = refl
+operand_apart Standard = refl
 operand_apart Foreign = refl
 
 pub option_apart : (s : Setting) → bytes_eq (name_of s) operand_name ≡ false
@@ -62,6 +63,7 @@ option_apart Input = refl
 option_apart Max = refl
 option_apart Trace = refl
 option_apart Count = refl
+option_apart Standard = refl
 option_apart Foreign = refl
 
 by_name : (ss : List Setting) (t : Setting) → arg_by_id (rules ss) (name_of t) ≡ option_map option_built (setting_of ss (name_of t))

@@ -7,7 +7,7 @@ use Rattle.command_line.specs.declared.command.Verb.{Verb}
 use Rattle.command_line.specs.declared.error.WordsError.{WordsError}
 use Rattle.command_line.specs.declared.error.WordsError.TheVariants.{Usage, NoMemory}
 use Rattle.command_line.specs.declared.setting.Setting.{Setting}
-use Rattle.command_line.specs.declared.setting.Setting.TheVariants.{Input, Max, Trace, Count, Foreign}
+use Rattle.command_line.specs.declared.setting.Setting.TheVariants.{Input, Max, Trace, Count, Standard, Foreign}
 use Rattle.command_line.specs.Command.{FoundView, command_from, command_seen, found_in, operands_in, values_in}
 use Rattle.command_line.specs.Found.{found_under}
 use Rattle.command_line.specs.Gives.{Gives}
@@ -31,10 +31,11 @@ sorted rows ps shows =
     let operands = shows operand_name ∙ operands_under ps in
     let inputs = shows (name_of Input) ∙ values_under_name Input ps in
     let max = shows (name_of Max) ∙ values_under_name Max ps in
+    let standard = shows (name_of Standard) ∙ values_under_name Standard ps in
     let trace = shows (name_of Trace) ∙ values_under_name Trace ps in
     let count = shows (name_of Count) ∙ values_under_name Count ps in
     let scripts = shows (name_of Foreign) ∙ values_under_name Foreign ps in
-    rw (operands, inputs, max, trace, count, scripts) refl
+    rw (operands, inputs, max, standard, trace, count, scripts) refl
 
 -- the command of the pieces that are read
 pub of_pieces : (result : Result Command WordsError) (verb : Verb) (most : ℕ) (read : Option (List Piece)) (rows : List Row) (found : FoundView) → ShowsRead rows read → found ≡ found_under rows

@@ -2,12 +2,14 @@
 use Rattle.std.specs.Prelude.{◌≤◌, ⊤, ℕ, Bool, true, false, ◌==◌, ◌&&◌, not, nat_le, List, [], ◌∷◌, length, map, flat_map, Option, Some, None, option_map, is_some, codes, bytes_eq, if◌then◌else◌, string_bytes}
 use Rattle.std.specs.List.{list_all}
 use Rattle.std.specs.Option.{option_and_then}
+use Rattle.cxx_ast.specs.declared.standard.Std.{Std}
+use Rattle.cxx_ast.specs.declared.standard.Std.TheVariants.{Cxx03, Cxx11}
 use Rattle.eh_outer.specs.declared.module.Reply.{Reply}
 use Rattle.command_line.specs.declared.command.Command.{Command}
 use Rattle.command_line.specs.declared.command.Verb.{Verb}
 use Rattle.command_line.specs.declared.command.Verb.TheVariants.{Compile, Run, Exec, Harts, Mean, Check, Dump, Frames, Gen}
 use Rattle.command_line.specs.declared.setting.Setting.{Setting}
-use Rattle.command_line.specs.declared.setting.Setting.TheVariants.{Input, Max, Trace, Count, Foreign}
+use Rattle.command_line.specs.declared.setting.Setting.TheVariants.{Input, Max, Trace, Count, Standard, Foreign}
 use Rattle.plain_text.specs.Decimal.{count_up_to}
 use Rattle.command_line.specs.Pieces.{Piece, Operand, Given, pieces_of}
 use Rattle.command_line.specs.Script.{all_some, script_of}
@@ -19,6 +21,7 @@ pub record CommandView : Type 0 where
   pub operands : List (List ℕ)
   pub inputs : List (List ℕ)
   pub max : ℕ
+  pub std : Std
   pub trace : Bool
   pub count : Bool
   pub scripts : List (List (Reply × ℕ))
@@ -29,6 +32,7 @@ command_seen c = record {
   operands = map string_bytes c.operands.items;
   inputs = map string_bytes c.inputs.items;
   max = c.max;
+  std = c.std;
   trace = c.trace;
   count = c.count;
   scripts = map (λ runs. runs.items) c.scripts.items;
@@ -100,6 +104,15 @@ max_of [] = Some 10000000
 max_of (text ∷ []) = max_in text
 max_of (text ∷ other ∷ others) = None
 
+-- the standard by which a source is judged, that of 2003 where no option says so
+abbrev pub std_in : List ℕ → Option Std
+std_in text = if bytes_eq text (codes "03") then Some Cxx03 else if bytes_eq text (codes "11") then Some Cxx11 else None
+
+abbrev pub std_of : List (List ℕ) → Option Std
+std_of [] = Some Cxx03
+std_of (text ∷ []) = std_in text
+std_of (text ∷ other ∷ others) = None
+
 -- whether a switch stands, which stands at most once
 abbrev pub switch_of : List (List ℕ) → Option Bool
 switch_of [] = Some false
@@ -115,6 +128,7 @@ pub record FoundView : Type 0 where
   pub operands : List (List ℕ)
   pub inputs : List (List ℕ)
   pub max : List (List ℕ)
+  pub std : List (List ℕ)
   pub trace : List (List ℕ)
   pub count : List (List ℕ)
   pub scripts : List (List ℕ)
@@ -124,6 +138,7 @@ found_in pieces = record {
   operands = operands_in pieces;
   inputs = values_in Input pieces;
   max = values_in Max pieces;
+  std = values_in Standard pieces;
   trace = values_in Trace pieces;
   count = values_in Count pieces;
   scripts = values_in Foreign pieces;
@@ -135,6 +150,7 @@ command_from verb most found =
     option_and_then (λ operands.
     option_and_then (λ inputs.
     option_and_then (λ max.
+    option_and_then (λ std.
     option_and_then (λ trace.
     option_and_then (λ count.
     option_map (λ scripts. record {
@@ -142,12 +158,14 @@ command_from verb most found =
       operands = operands;
       inputs = inputs;
       max = max;
+      std = std;
       trace = trace;
       count = count;
       scripts = scripts;
     }) (scripts_of found.scripts))
     (switch_of found.count))
     (switch_of found.trace))
+    (std_of found.std))
     (max_of found.max))
     (inputs_for verb found.inputs))
     (operands_for verb most found.operands)
@@ -172,10 +190,11 @@ verb_of word =
 
 -- what the command of a verb takes: its options, and how many operands
 abbrev pub settings_of : Verb → List Setting
-settings_of Run = Input ∷ Max ∷ Trace ∷ Count ∷ Foreign ∷ []
+settings_of Compile = Standard ∷ []
+settings_of Run = Input ∷ Max ∷ Trace ∷ Count ∷ Standard ∷ Foreign ∷ []
 settings_of Exec = Input ∷ Max ∷ Trace ∷ Count ∷ Foreign ∷ []
 settings_of Harts = Input ∷ Trace ∷ []
-settings_of Mean = Input ∷ Max ∷ Trace ∷ Foreign ∷ []
+settings_of Mean = Input ∷ Max ∷ Trace ∷ Standard ∷ Foreign ∷ []
 settings_of Gen = Max ∷ []
 settings_of verb = []
 

@@ -1,7 +1,7 @@
 -- The options of the command line.
 use Rattle.std.specs.Prelude.{ℕ, Bool, true, false, List, codes, if◌then◌else◌}
 use Rattle.command_line.specs.declared.setting.Setting.{Setting}
-use Rattle.command_line.specs.declared.setting.Setting.TheVariants.{Input, Max, Trace, Count, Foreign}
+use Rattle.command_line.specs.declared.setting.Setting.TheVariants.{Input, Max, Trace, Count, Standard, Foreign}
 
 -- the name of an option, without the dashes
 abbrev pub name_of : Setting → List ℕ
@@ -9,6 +9,7 @@ name_of Input = codes "in"
 name_of Max = codes "max"
 name_of Trace = codes "trace"
 name_of Count = codes "count"
+name_of Standard = codes "std"
 name_of Foreign = codes "foreign"
 
 -- it has a value; one without is a switch
@@ -17,6 +18,7 @@ has_value Input = true
 has_value Max = true
 has_value Trace = false
 has_value Count = false
+has_value Standard = true
 has_value Foreign = true
 
 -- how many values a use of it has

@@ -1,6 +1,7 @@
 // What the words of the command line say.
 ghost use Rattle.std.specs.Prelude.{◌≤◌, length};
 
+use cxx_ast::standard::Std;
 use eh_outer::Reply;
 
 /// What a command does.
@@ -36,6 +37,8 @@ pub struct Command {
     pub inputs: Vec<String>,
     /// The most turns or steps, 1 to 2^40.
     pub max: u64,
+    /// The standard by which a source is judged.
+    pub std: Std,
     /// Whether events are printed.
     pub trace: bool,
     /// Whether steps are counted.

@@ -10,7 +10,7 @@ use crate::command::{Command, Verb};
 use crate::error::WordsError;
 use crate::matches::{OPERAND, texts_of};
 use crate::operands::{inputs_for, operands_for};
-use crate::options::{max_of, scripts_of, switch_of};
+use crate::options::{max_of, scripts_of, std_of, switch_of};
 use crate::setting::Setting;
 use clap::ArgMatches;
 use std::alloc::{AllocError, Global};
@@ -21,6 +21,7 @@ pub struct Found {
     pub operands: Vec<String>,
     pub inputs: Vec<String>,
     pub max: Vec<String>,
+    pub std: Vec<String>,
     pub trace: Vec<String>,
     pub count: Vec<String>,
     pub scripts: Vec<String>,
@@ -35,6 +36,7 @@ impl Found {
             operands: texts_of(alloc, matches, OPERAND)?,
             inputs: texts_of(alloc, matches, Setting::Input.name())?,
             max: texts_of(alloc, matches, Setting::Max.name())?,
+            std: texts_of(alloc, matches, Setting::Standard.name())?,
             trace: texts_of(alloc, matches, Setting::Trace.name())?,
             count: texts_of(alloc, matches, Setting::Count.name())?,
             scripts: texts_of(alloc, matches, Setting::Foreign.name())?,
@@ -51,6 +53,7 @@ impl Found {
             operands: operands_for(verb, operands, self.operands)?,
             inputs: inputs_for(verb, self.inputs)?,
             max: max_of(self.max.as_slice())?,
+            std: std_of(self.std.as_slice())?,
             trace: switch_of(self.trace.as_slice())?,
             count: switch_of(self.count.as_slice())?,
             scripts: scripts_of(alloc, self.scripts.as_slice())?,

@@ -1,11 +1,13 @@
 // The values of the options.
 ghost use Rattle.std.specs.Prelude.{◌≡◌, ◌≤◌, ℕ, Bool, IfOk, length, map, string_bytes};
+ghost use Rattle.cxx_ast.specs.declared.standard.Std.{Std};
 ghost use Rattle.command_line.specs.Gives.{Gives};
 ghost use Rattle.command_line.specs.Script.{all_some, script_of};
-ghost use Rattle.command_line.specs.Command.{max_in, max_of, scripts_of, switch_of};
+ghost use Rattle.command_line.specs.Command.{max_in, max_of, scripts_of, std_in, std_of, switch_of};
 
 use crate::error::WordsError;
 use crate::script::script_of;
+use cxx_ast::standard::Std;
 use eh_outer::Reply;
 use plain_text::number_of;
 use std::alloc::Global;
@@ -36,6 +38,28 @@ pub fn max_of(texts: &[String]) -> Result<u64, WordsError>
     match texts {
         [] => Ok(DEFAULT_MAX),
         [text] => max_in(text.as_str()),
+        _ => Err(WordsError::Usage),
+    }
+}
+
+// The standard that a text names.
+fn std_in(text: &str) -> Result<Std, WordsError>
+    ensures { Gives (λ (s : Std). s) result (std_in text.now) }
+{
+    match text {
+        "03" => Ok(Std::Cxx03),
+        "11" => Ok(Std::Cxx11),
+        _ => Err(WordsError::Usage),
+    }
+}
+
+/// The standard, that of 2003 where no option says so.
+pub fn std_of(texts: &[String]) -> Result<Std, WordsError>
+    ensures { Gives (λ (s : Std). s) result (std_of (map string_bytes texts.now)) }
+{
+    match texts {
+        [] => Ok(Std::Cxx03),
+        [text] => std_in(text.as_str()),
         _ => Err(WordsError::Usage),
     }
 }

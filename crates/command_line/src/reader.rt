@@ -30,11 +30,23 @@ impl Verb {
                     Setting::Input,
                     Setting::Max,
                     Setting::Trace,
+                    Setting::Standard,
                     Setting::Foreign,
                 ],
                 operands: 1,
             },
-            Verb::Run | Verb::Exec => Takes {
+            Verb::Run => Takes {
+                settings: &[
+                    Setting::Input,
+                    Setting::Max,
+                    Setting::Trace,
+                    Setting::Count,
+                    Setting::Standard,
+                    Setting::Foreign,
+                ],
+                operands: 1,
+            },
+            Verb::Exec => Takes {
                 settings: &[
                     Setting::Input,
                     Setting::Max,
@@ -49,7 +61,7 @@ impl Verb {
                 operands: 2,
             },
             Verb::Compile => Takes {
-                settings: &[],
+                settings: &[Setting::Standard],
                 operands: 2,
             },
             Verb::Gen => Takes {

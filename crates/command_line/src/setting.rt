@@ -13,6 +13,8 @@ pub enum Setting {
     Trace,
     /// Whether steps are counted.
     Count,
+    /// The standard by which a source is judged.
+    Standard,
     /// What a module replies.
     Foreign,
 }
@@ -27,6 +29,7 @@ impl Setting {
             Setting::Max => "max",
             Setting::Trace => "trace",
             Setting::Count => "count",
+            Setting::Standard => "std",
             Setting::Foreign => "foreign",
         }
     }
@@ -36,7 +39,7 @@ impl Setting {
         ensures { result ≡ value_count self }
     {
         match self {
-            Setting::Input | Setting::Max | Setting::Foreign => 1,
+            Setting::Input | Setting::Max | Setting::Standard | Setting::Foreign => 1,
             Setting::Trace | Setting::Count => 0,
         }
     }

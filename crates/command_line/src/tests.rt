@@ -3,6 +3,7 @@ use crate::command::{Command, Verb};
 use crate::reader::{Takes, read_behind};
 use crate::setting::Setting;
 use crate::{Reply, WordsError, read_words, scripts};
+use cxx_ast::standard::Std;
 use std::alloc::{AllocError, Global};
 use std::test::Fail;
 
@@ -13,6 +14,7 @@ const ALL: Takes = Takes {
         Setting::Max,
         Setting::Trace,
         Setting::Count,
+        Setting::Standard,
         Setting::Foreign,
     ],
     operands: 2,
@@ -210,6 +212,15 @@ static WORDS: &[(&[&str], &str)] = &[
     (&["compile", "f"], USAGE),
     (&["compile", "f", "g", "h"], USAGE),
     (&["compile", "f", "g", "--trace"], USAGE),
+    (&["compile", "f", "g", "--std=14"], USAGE),
+    (&["exec", "f", "--std=11"], USAGE),
+    (&["check", "f", "--std=11"], USAGE),
+    (&["gen", "1", "--std=03"], USAGE),
+    (&["run", "f", "--std"], USAGE),
+    (&["run", "f", "--std="], USAGE),
+    (&["run", "f", "--std=3"], USAGE),
+    (&["run", "f", "--std=c++11"], USAGE),
+    (&["run", "f", "--std=11", "--std=11"], USAGE),
     (&["exec", "f"], "Exec [\"f\"] [] 10000000 false false []"),
     (
         &["exec", "--count", "f", "--trace", "--in=g", "--max=7"],
@@ -290,6 +301,28 @@ static WORDS: &[(&[&str], &str)] = &[
     (&["--", "run", "f"], USAGE),
     (&["Run", "f"], USAGE),
 ];
+
+// Words behind the program's name, and the standard that they ask for.
+static STANDARDS: &[(&[&str], Std)] = &[
+    (&["run", "f"], Std::Cxx03),
+    (&["run", "f", "--std=03"], Std::Cxx03),
+    (&["run", "--std=11", "f"], Std::Cxx11),
+    (&["mean", "f"], Std::Cxx03),
+    (&["mean", "f", "--std", "11"], Std::Cxx11),
+    (&["compile", "f", "g"], Std::Cxx03),
+    (&["compile", "f", "g", "--std=11"], Std::Cxx11),
+    (&["exec", "f"], Std::Cxx03),
+];
+
+#[test]
+fn standards(rt: HostRuntime) -> Result<(), Fail> {
+    for (words, want) in STANDARDS.iter() {
+        let words = owned(rt.alloc(), *words)?;
+        let read = read_words(rt.alloc(), &words)?;
+        assert_eq!(rt; read.std, *want, "{words:?}");
+    }
+    Ok(())
+}
 
 // The scripts of the modules that `mean` is given, in order.
 #[test]

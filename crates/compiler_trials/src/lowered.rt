@@ -1,6 +1,7 @@
 // The regions and the linear code of a source.
 
 use class_layout::layout;
+use cxx_ast::standard::Std;
 use cxx_front::checked;
 use landing_pads::pads;
 use landing_pads::unit::UnitCode;
@@ -16,7 +17,7 @@ pub fn lowered(alloc: Global, source: &str) -> Result<Option<Regions>, AllocErro
     if source.len() > MOST {
         return Ok(None);
     }
-    match checked(alloc, source.as_bytes()) {
+    match checked(alloc, source.as_bytes(), Std::Cxx03) {
         Err(_) => Ok(None),
         Ok(program) => {
             let layout = layout(alloc, &program.classes)?;

@@ -13,7 +13,9 @@ use Rattle.cxx_ast.specs.Locals.{outermost}
 use Rattle.cxx_ast.specs.Declare.{declare_behind, definitions, at_the_start, body_environment}
 use Rattle.cxx_ast.specs.FunctionRules.{function_found, has_text}
 use Rattle.cxx_ast.specs.ClassRules.{same_test, is_taken, class_rules_found}
+use Rattle.cxx_ast.specs.declared.standard.Std.{Std}
 use Rattle.cxx_ast.specs.DeclaredNames.{once_only_found}
+use Rattle.cxx_ast.specs.Standards.{standard_found}
 
 -- two parameters are of the same type
 abbrev pub same_passing : Passing → Passing → Bool
@@ -35,7 +37,7 @@ abbrev pub all_in : List Kind → List Kind → Bool
 all_in [] ks = true
 all_in (j ∷ js) ks = has_kind j ks && all_in js ks
 
--- two specifications allow the same set of types
+-- two specifications allow all, or the same set of types
 abbrev pub same_allowed : Option (List Kind) → Option (List Kind) → Bool
 same_allowed None None = true
 same_allowed (Some js) (Some ks) = all_in js ks && all_in ks js
@@ -95,12 +97,13 @@ pairs defined [] = []
 pairs defined (breaks number place ∷ found) = (number, place) ∷ pairs defined found
 pairs defined (uses n ∷ found) = used_found defined n ++ pairs defined found
 
--- each rule that a program breaks
-unfoldable pub broken : Program → List (ℕ × ℕ)
-broken p =
+-- each rule that a program breaks by a standard
+unfoldable pub broken : Std → Program → List (ℕ × ℕ)
+broken std p =
     pairs (definitions p.declarations)
-    (declarations_found (at_the_start p.declarations) p.declarations ++ once_only_found p.declarations ++ breaks_if (not (has_main p.declarations)) no_main p.length)
+    (declarations_found (at_the_start p.declarations) p.declarations ++ once_only_found p.declarations
+    ++ breaks_if (not (has_main p.declarations)) no_main p.length ++ standard_found std p.declarations)
 
--- a program breaks no rule
-abbrev pub Valid : Program → Type 0
-Valid p = broken p ≡ []
+-- a program breaks no rule of a standard
+abbrev pub Valid : Std → Program → Type 0
+Valid std p = broken std p ≡ []

@@ -1,5 +1,5 @@
--- The checked program of a program: the same tree, with each name bound.
-use Rattle.std.specs.Prelude.{ℕ, ◌+◌, ◌≡◌, ℤ, List, [], ◌∷◌, length, codes, Option, Some, None, if◌then◌else◌}
+-- The checked program of a program: the same tree, with each name bound, and its classes and functions with the specifications that count.
+use Rattle.std.specs.Prelude.{ℕ, ◌+◌, ◌≡◌, ℤ, List, [], ◌∷◌, map, length, codes, Option, Some, None, if◌then◌else◌}
 use Rattle.cxx_ast.specs.declared.name.Bound.TheVariants.{Global, Field, Class as ClassBound, Func, Method}
 use Rattle.cxx_ast.specs.declared.name.Name.{Name}
 use Rattle.cxx_ast.specs.declared.token.Token.{Token}
@@ -7,11 +7,13 @@ use Rattle.cxx_ast.specs.declared.types.Param.{Param}
 use Rattle.cxx_ast.specs.Plain.{Function, Class, Declaration, class_declaration, global_declaration, function_declaration, Program, Checked}
 use Rattle.cxx_ast.specs.Lex.{Lex}
 use Rattle.cxx_ast.specs.Tree.{Tree}
+use Rattle.cxx_ast.specs.declared.standard.Std.{Std}
 use Rattle.cxx_ast.specs.Broken.{Valid}
 use Rattle.cxx_ast.specs.Environment.{Environment}
 use Rattle.cxx_ast.specs.TypeNames.{has_body}
 use Rattle.cxx_ast.specs.Locals.{outermost}
 use Rattle.cxx_ast.specs.Resolve.{bind, bind_some, resolve_class, resolve_type, function_number, resolve_function}
+use Rattle.cxx_ast.specs.Settled.{settle_function, settle_classes}
 use Rattle.cxx_ast.specs.Declare.{next_class, with_class_name, head_environment, head_scope, name_of, declare_behind, at_the_start, body_environment, function_scope}
 
 -- the base
@@ -76,28 +78,29 @@ functions_of (d ∷ ds) = functions_of ds
 abbrev pub bad_exception : Class
 bad_exception = record { name = record { text = codes "std::bad_exception"; place = 0; bound = ClassBound 0 }; base = None; members = []; functions = [] }
 
--- the checked program
-unfoldable pub checked : Program → Checked
-checked p =
+-- the checked program by a standard
+unfoldable pub checked : Std → Program → Checked
+checked std p =
     let ds = resolve_declarations (at_the_start p.declarations) p.declarations in
     record {
       program = record { declarations = ds; tokens = p.tokens; length = p.length };
-      classes = bad_exception ∷ classes_of ds;
+      classes = settle_classes std [] (bad_exception ∷ classes_of ds);
       globals = globals_of ds;
-      functions = functions_of ds;
+      functions = map (settle_function None) (functions_of ds);
       main = function_number (at_the_start p.declarations) (codes "main");
     }
 
 -- a checked program is that of a program
-abbrev pub Resolves : Program → Checked → Type 0
-Resolves p c = c ≡ checked p
+abbrev pub Resolves : Std → Program → Checked → Type 0
+Resolves std p c = c ≡ checked std p
 
--- a checked program: that of a valid program, which is the tree of a source's tokens
+-- a checked program: that of a valid program by a standard, which is the tree of a source's tokens
 pub record IsChecked (c : Checked) : Type 0 where
+  pub std : Std
   pub source : List ℕ
   pub tokens : List Token
   pub program : Program
   pub lexed : Lex source tokens
   pub tree : Tree tokens (length source) program
-  pub valid : Valid program
-  pub resolved : Resolves program c
+  pub valid : Valid std program
+  pub resolved : Resolves std program c

@@ -7,7 +7,7 @@ use Rattle.cxx_ast.specs.declared.types.Ty.TheVariants.{Int, Void, Object, IntRe
 use Rattle.cxx_ast.specs.declared.types.Param.{Param}
 use Rattle.cxx_ast.specs.declared.declaration.FuncKind.{FuncKind}
 use Rattle.cxx_ast.specs.declared.declaration.FuncKind.TheVariants.{Plain, Method, Constructor, Destructor}
-use Rattle.cxx_ast.specs.Plain.{Expression, number, path, paren, unary, binary, call, std_call, Expressions, no_expressions, expression_then, Statement, block, empty, if_else, while, return, break, continue, throw, try, assign, evaluate, local_int, local_ref, local_object, Else, no_else, else_do, Statements, no_statements, statement_then, Handlers, no_handlers, handler_then, Function, Initialiser}
+use Rattle.cxx_ast.specs.Plain.{Expression, number, path, paren, unary, binary, call, std_call, Expressions, no_expressions, expression_then, Statement, block, empty, if_else, while, return, break, continue, throw, try, assign, evaluate, local_int, local_ref, local_object, Else, no_else, else_do, Statements, no_statements, statement_then, Handlers, no_handlers, handler_then, Specification, listed, noexcept, Function, Initialiser}
 use Rattle.cxx_ast.specs.Operator.{binary_level, level}
 use Rattle.cxx_ast.specs.Spelling.{is_bad_exception}
 use Rattle.cxx_ast.specs.Written.{Member, data_member, function_member, Start, no_start, start, Written, written_class, written_global, written_function, spell_function}
@@ -63,6 +63,11 @@ abbrev pub IsListedType : Ty → Type 0
 IsListedType Int = Unit {0}
 IsListedType (Object n) = n.bound ≡ Free
 IsListedType _ = ⊥
+
+-- an exception specification
+abbrev pub IsSpecification : Specification → Type 0
+IsSpecification (listed ts) = Each IsListedType ts
+IsSpecification (noexcept place b) = Unit {0}
 
 -- what a handler catches. Where its first token is the class's name, that stands at the handler's place; `catch (...)` has no parameter.
 abbrev pub IsCaught : ℕ → Option Ty → Option Name → Type 0
@@ -178,7 +183,7 @@ HasForm Destructor f = (f.result ≡ Void) × (f.initialisers ≡ []) × (f.para
 pub record IsFunction (f : Function) : Type 0 where
   pub form : HasForm f.kind f
   pub parameters : Each IsParam f.parameters
-  pub specification : Where (Each IsListedType) f.specification
+  pub specification : Where IsSpecification f.specification
   pub initialisers : Each IsInitialiser f.initialisers
   pub body : Where AreStatements f.body
   pub tokens : f.tokens ≡ length (spell_function f [])

@@ -33,6 +33,8 @@ pub mod Declare
 pub mod FunctionRules
 pub mod ClassRules
 pub mod DeclaredNames
+pub mod Standards
 pub mod Broken
 pub mod Refused
+pub mod Settled
 pub mod Checked

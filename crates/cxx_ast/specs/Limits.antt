@@ -25,6 +25,10 @@ most_variable_bytes = 1536
 abbrev pub most_class_bytes : ℕ
 most_class_bytes = 1024
 
+-- the types that a destructor takes over from those of its parts
+abbrev pub most_taken : ℕ
+most_taken = 64
+
 -- the classes in a chain of bases, the last derived one with them
 abbrev pub most_chained : ℕ
 most_chained = 64

@@ -1,5 +1,5 @@
 -- The trees of a program as plain data, with no trace of how they lie in memory: definitions speak of these, and `View` leads to them. A name, a type and a parameter are plain as they stand.
-use Rattle.std.specs.Prelude.{ℕ, ℤ, List, Option}
+use Rattle.std.specs.Prelude.{ℕ, ℤ, Bool, List, Option}
 use Rattle.cxx_ast.specs.declared.name.Name.{Name}
 use Rattle.cxx_ast.specs.declared.types.Ty.{Ty}
 use Rattle.cxx_ast.specs.declared.types.Param.{Param}
@@ -58,13 +58,18 @@ pub record Initialiser : Type 0 where
   pub name : Name
   pub arguments : Expressions
 
+-- an exception specification: `throw` with the types that it lists, or `noexcept` with the place of the word, and whether it is true
+pub data Specification : Type 0 where
+  listed : List Ty → Specification
+  noexcept : ℕ → Bool → Specification
+
 -- a function, with its exception specification and its number of tokens; a declaration alone has no body
 pub record Function : Type 0 where
   pub name : Name
   pub kind : FuncKind
   pub result : Ty
   pub parameters : List Param
-  pub specification : Option (List Ty)
+  pub specification : Option Specification
   pub initialisers : List Initialiser
   pub body : Option Statements
   pub tokens : ℕ

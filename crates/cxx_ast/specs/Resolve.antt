@@ -7,7 +7,7 @@ use Rattle.cxx_ast.specs.declared.name.Name.{Name}
 use Rattle.cxx_ast.specs.declared.types.Ty.{Ty}
 use Rattle.cxx_ast.specs.declared.types.Ty.TheVariants.{Object, ObjectRef}
 use Rattle.cxx_ast.specs.declared.types.Param.{Param}
-use Rattle.cxx_ast.specs.Plain.{Expression, number, path, paren, unary, binary, call, std_call, Expressions, no_expressions, expression_then, Statement, block, empty, if_else, while, return, break, continue, throw, try, assign, evaluate, local_int, local_ref, local_object, Else, no_else, else_do, Statements, no_statements, statement_then, Handlers, no_handlers, handler_then, Initialiser, Function}
+use Rattle.cxx_ast.specs.Plain.{Expression, number, path, paren, unary, binary, call, std_call, Expressions, no_expressions, expression_then, Statement, block, empty, if_else, while, return, break, continue, throw, try, assign, evaluate, local_int, local_ref, local_object, Else, no_else, else_do, Statements, no_statements, statement_then, Handlers, no_handlers, handler_then, Initialiser, Specification, listed, noexcept, Function}
 use Rattle.cxx_ast.specs.Spelling.{is_bad_exception}
 use Rattle.cxx_ast.specs.Environment.{Kind, class_kind, no_kind, Environment, Scope, Meaning, unknown, a_local, a_field, a_method, a_global, a_function, a_class, a_builtin}
 use Rattle.cxx_ast.specs.Lookup.{look, member_meaning, own_meaning, meaning_kind}
@@ -139,10 +139,11 @@ resolve_initialiser env sc i = record {
   arguments = resolve_expressions env sc i.arguments;
 }
 
--- the types of a specification
-abbrev pub resolve_specification : Environment → Scope → Option (List Ty) → Option (List Ty)
+-- a specification
+abbrev pub resolve_specification : Environment → Scope → Option Specification → Option Specification
 resolve_specification env sc None = None
-resolve_specification env sc (Some types) = Some (map (resolve_type env sc) types)
+resolve_specification env sc (Some (listed types)) = Some (listed (map (resolve_type env sc) types))
+resolve_specification env sc (Some (noexcept place b)) = Some (noexcept place b)
 
 -- a body
 abbrev pub resolve_body : Environment → Scope → Option Statements → Option Statements

@@ -32,8 +32,8 @@ handler_order = 35
 abbrev pub const_write : ℕ
 const_write = 36
 
--- The declarations of a function agree in result and parameters (3.5, 13.1; no overloading: profile), and in the set of types that their exception
--- specifications list (15.4).
+-- The declarations of a function agree in result and parameters (3.5, 13.1; no overloading: profile), and in what their exception specifications
+-- allow (15.4): everything, or the types of a set.
 abbrev pub specification_mismatch : ℕ
 specification_mismatch = 37
 
@@ -84,3 +84,11 @@ initialiser_list = 48
 -- A handler for terminate or unexpected is the name of a function without parameters and value (18.6.2.2, 18.6.3.1).
 abbrev pub handler_form : ℕ
 handler_form = 49
+
+-- By ISO/IEC 14882:2011 no declared name is one of the keywords that it adds (2.12; a use of one is no declaration: profile).
+abbrev pub new_keyword : ℕ
+new_keyword = 70
+
+-- By ISO/IEC 14882:2003 there is no `noexcept`.
+abbrev pub noexcept_in_03 : ℕ
+noexcept_in_03 = 71

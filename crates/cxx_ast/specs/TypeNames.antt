@@ -5,7 +5,7 @@ use Rattle.cxx_ast.specs.declared.name.Name.{Name}
 use Rattle.cxx_ast.specs.declared.types.Ty.{Ty}
 use Rattle.cxx_ast.specs.declared.types.Ty.TheVariants.{Int, Void, Object, IntRef, ObjectRef}
 use Rattle.cxx_ast.specs.declared.types.Param.{Param}
-use Rattle.cxx_ast.specs.Plain.{Function, Statements}
+use Rattle.cxx_ast.specs.Plain.{Specification, listed, noexcept, Function, Statements}
 use Rattle.cxx_ast.specs.Spelling.{is_bad_exception}
 use Rattle.cxx_ast.specs.Environment.{Kind, int_kind, void_kind, class_kind, no_kind, Passing, Signature, Environment, Scope, Meaning, unknown, a_class}
 use Rattle.cxx_ast.specs.Lookup.{look}
@@ -66,10 +66,13 @@ abbrev pub has_body : Option Statements → Bool
 has_body None = false
 has_body (Some ss) = true
 
--- the types that a specification lists
-abbrev pub allowed_kinds : Environment → Scope → Option (List Ty) → Option (List Kind)
+-- The types of what a function may throw, or none where it may throw all: so it may without a specification, and with `noexcept(false)`.
+-- `noexcept` allows nothing, as `throw()` does (ISO/IEC 14882:2011, 15.4).
+abbrev pub allowed_kinds : Environment → Scope → Option Specification → Option (List Kind)
 allowed_kinds env sc None = None
-allowed_kinds env sc (Some types) = Some (map (type_kind env sc) types)
+allowed_kinds env sc (Some (listed types)) = Some (map (type_kind env sc) types)
+allowed_kinds env sc (Some (noexcept place true)) = Some []
+allowed_kinds env sc (Some (noexcept place false)) = None
 
 -- a function as its callers see it
 abbrev pub signature : Environment → Scope → Function → Signature
@@ -83,9 +86,10 @@ signature env sc f = record {
 }
 
 -- what the types of a specification break
-abbrev pub specification_found : Environment → Scope → Option (List Ty) → List Finding
+abbrev pub specification_found : Environment → Scope → Option Specification → List Finding
 specification_found env sc None = []
-specification_found env sc (Some types) = flat_map (type_found env sc) types
+specification_found env sc (Some (listed types)) = flat_map (type_found env sc) types
+specification_found env sc (Some (noexcept place b)) = []
 
 -- what the types of a function's head break
 abbrev pub head_types_found : Environment → Scope → Function → List Finding

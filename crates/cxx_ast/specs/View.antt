@@ -2,6 +2,8 @@
 use Rattle.std.specs.Prelude.{List, [], ◌∷◌, Option, Some, None, map}
 use Rattle.cxx_ast.specs.declared.declaration.Init.{Init}
 use Rattle.cxx_ast.specs.declared.declaration.Func.{Func}
+use Rattle.cxx_ast.specs.declared.declaration.Spec.{Spec}
+use Rattle.cxx_ast.specs.declared.declaration.Spec.TheVariants as form
 use Rattle.cxx_ast.specs.declared.declaration.ClassDecl.{ClassDecl}
 use Rattle.cxx_ast.specs.declared.declaration.Decl.{Decl}
 use Rattle.cxx_ast.specs.declared.declaration.Decl.TheVariants.{Class as ClassDeclared, Global as GlobalDeclared, Func as FuncDeclared}
@@ -9,7 +11,7 @@ use Rattle.cxx_ast.specs.declared.program.Program.{Program as ProgramValue}
 use Rattle.cxx_ast.specs.declared.program.Checked.{Checked as CheckedValue}
 use Rattle.cxx_ast.specs.declared.expression.Expr.{Expr, Number, Path, Paren', Unary', Binary', Call', StdCall', Row_of-Expr, end_of-Expr, more_of-Expr}
 use Rattle.cxx_ast.specs.declared.statement.Stmt.{Stmt, Block', Empty, If', While', Return, Break, Continue, Throw, Try', Assign, Call, LocalInt, LocalRef, LocalObject, Row_of-Stmt, end_of-Stmt, more_of-Stmt, Held-Stmt-If-2, None', Some', Row_of-Handler, end_of-Handler, more_of-Handler}
-use Rattle.cxx_ast.specs.Plain.{Expression, number, path, paren, unary, binary, call, std_call, Expressions, no_expressions, expression_then, Statement, block, empty, if_else, while, return, break, continue, throw, try, assign, evaluate, local_int, local_ref, local_object, Else, no_else, else_do, Statements, no_statements, statement_then, Handlers, no_handlers, handler_then, Initialiser, Function, Class, Declaration, class_declaration, global_declaration, function_declaration, Program, Checked}
+use Rattle.cxx_ast.specs.Plain.{Expression, number, path, paren, unary, binary, call, std_call, Expressions, no_expressions, expression_then, Statement, block, empty, if_else, while, return, break, continue, throw, try, assign, evaluate, local_int, local_ref, local_object, Else, no_else, else_do, Statements, no_statements, statement_then, Handlers, no_handlers, handler_then, Initialiser, Specification, listed, noexcept, Function, Class, Declaration, class_declaration, global_declaration, function_declaration, Program, Checked}
 
 -- an option by its value
 abbrev pub option_of : {A B : Type 0} → (A → B) → Option A → Option B
@@ -76,6 +78,11 @@ statements_of (s ∷ ss) = statement_then (statement_of s) (statements_of ss)
 abbrev pub initialiser_of : Init → Initialiser
 initialiser_of i = record { name = i.name; arguments = expressions_of i.args.items }
 
+-- an exception specification
+abbrev pub specification_of : Spec → Specification
+specification_of (form.Throw types) = listed types.items
+specification_of (form.Noexcept place b) = noexcept place b
+
 -- a function
 abbrev pub function_of : Func → Function
 function_of f = record {
@@ -83,7 +90,7 @@ function_of f = record {
   kind = f.kind;
   result = f.result;
   parameters = f.params.items;
-  specification = option_of (λ types. types.items) f.spec;
+  specification = option_of specification_of f.spec;
   initialisers = map initialiser_of f.inits.items;
   body = option_of (λ body. statements_of body.items) f.body;
   tokens = f.tokens;

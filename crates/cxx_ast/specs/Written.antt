@@ -1,16 +1,17 @@
--- Declarations as they are written. A tree forgets three things: how a class's data members and functions stand among each other, whether
--- `public` is written, and how a global's first value is.
-use Rattle.std.specs.Prelude.{ℤ, pos, neg_ℤ, Bool, true, false, List, [], ◌∷◌, Option, Some, None}
+-- Declarations as they are written. A tree forgets four things: how a class's data members and functions stand among each other, whether
+-- `public` is written, how a global's first value is, and whether `(true)` stands behind `noexcept`, which a function's number of tokens tells.
+use Rattle.std.specs.Prelude.{ℤ, pos, neg_ℤ, Bool, true, false, ◌==◌, List, [], ◌∷◌, length, codes, Option, Some, None}
 use Rattle.cxx_ast.specs.declared.name.Name.{Name}
 use Rattle.cxx_ast.specs.declared.types.Param.{Param}
 use Rattle.cxx_ast.specs.declared.declaration.FuncKind.{FuncKind}
 use Rattle.cxx_ast.specs.declared.declaration.FuncKind.TheVariants.{Plain, Method, Constructor, Destructor}
 use Rattle.cxx_ast.specs.declared.types.Ty.{Ty}
 use Rattle.cxx_ast.specs.declared.token.TokenKind.TheVariants as kind
+use Rattle.cxx_ast.specs.declared.keyword.Keyword.{Keyword}
 use Rattle.cxx_ast.specs.declared.keyword.Keyword.TheVariants as keyword
 use Rattle.cxx_ast.specs.declared.mark.Mark.TheVariants as sign
-use Rattle.cxx_ast.specs.Plain.{Function, Initialiser, Statements, Declaration, class_declaration, global_declaration, function_declaration}
-use Rattle.cxx_ast.specs.Piece.{anywhere, named, word, mark}
+use Rattle.cxx_ast.specs.Plain.{Specification, listed, noexcept, Function, Initialiser, Statements, Declaration, class_declaration, global_declaration, function_declaration}
+use Rattle.cxx_ast.specs.Piece.{anywhere, placed, named, word, mark}
 use Rattle.cxx_ast.specs.Spelling.{Spelling, spell_type, spell_param, spell_arguments, spell_statements}
 
 -- a member of a class
@@ -73,10 +74,21 @@ abbrev pub spell_types : List Ty → Spelling
 spell_types [] after = after
 spell_types (t ∷ ts) after = spell_type t (spell_more_types ts after)
 
--- an exception specification, where there is one
-abbrev pub spell_specification : Option (List Ty) → Spelling
-spell_specification None after = after
-spell_specification (Some ts) after = word keyword.Throw ∷ mark sign.OpenParen ∷ spell_types ts (mark sign.CloseParen ∷ after)
+-- a word in parentheses
+abbrev pub spell_in_parentheses : Keyword → Spelling
+spell_in_parentheses k after = mark sign.OpenParen ∷ word k ∷ mark sign.CloseParen ∷ after
+
+-- what stands behind `noexcept`: that it is true may be left out
+abbrev pub spell_truth : (in_full is_true : Bool) → Spelling
+spell_truth in_full false after = spell_in_parentheses keyword.False after
+spell_truth true true after = spell_in_parentheses keyword.True after
+spell_truth false true after = after
+
+-- an exception specification, where there is one; `noexcept` is a name to the lexer
+abbrev pub spell_specification : Bool → Option Specification → Spelling
+spell_specification in_full None after = after
+spell_specification in_full (Some (listed ts)) after = word keyword.Throw ∷ mark sign.OpenParen ∷ spell_types ts (mark sign.CloseParen ∷ after)
+spell_specification in_full (Some (noexcept place b)) after = placed (kind.Name (codes "noexcept")) place ∷ spell_truth in_full b after
 
 -- an initialiser
 abbrev pub spell_initialiser : Initialiser → Spelling
@@ -104,11 +116,19 @@ spell_result Method result after = spell_type result after
 spell_result Constructor result after = after
 spell_result Destructor result after = after
 
--- a function from its result, or from its name where it has none, to its end
-abbrev pub spell_function : Function → Spelling
-spell_function f after =
+-- a function from its result, or from its name where it has none, to its end, with a `noexcept` written in full or not
+abbrev pub spell_function_as : Bool → Function → Spelling
+spell_function_as in_full f after =
     spell_result f.kind f.result (named f.name ∷ mark sign.OpenParen ∷ spell_params f.parameters (mark sign.CloseParen ∷
-    spell_specification f.specification (spell_initialisers f.initialisers (spell_body f.body after))))
+    spell_specification in_full f.specification (spell_initialisers f.initialisers (spell_body f.body after))))
+
+-- it has the tokens of one whose `noexcept` is written in full
+unfoldable pub in_full : Function → Bool
+in_full f = f.tokens == length (spell_function_as true f [])
+
+-- so it is written
+abbrev pub spell_function : Function → Spelling
+spell_function f after = spell_function_as (in_full f) f after
 
 -- the `~` of a destructor
 abbrev pub spell_tilde : FuncKind → Spelling

@@ -20,6 +20,15 @@ pub enum FuncKind {
     Destructor,
 }
 
+/// An exception specification.
+#[derive(Debug, Drop, PartialEq, Eq)]
+pub enum Spec {
+    /// `throw(types)`.
+    Throw(Vec<Ty>),
+    /// `noexcept`, with the place of the word. It is true where the word stands alone, and else as it says.
+    Noexcept(u32, bool),
+}
+
 /// A function, or its declaration alone, which has no body. Constructors and destructors have the result `Void`.
 #[derive(Debug, Drop, PartialEq, Eq)]
 pub struct Func {
@@ -27,8 +36,8 @@ pub struct Func {
     pub kind: FuncKind,
     pub result: Ty,
     pub params: Vec<Param>,
-    /// The types of its exception specification, where there is one.
-    pub spec: Option<Vec<Ty>>,
+    /// Its exception specification, where there is one.
+    pub spec: Option<Spec>,
     pub inits: Vec<Init>,
     pub body: Option<Vec<Stmt>>,
     /// How many tokens it has, from its result type, or from its name where it has none, to its end.

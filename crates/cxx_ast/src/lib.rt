@@ -8,6 +8,7 @@ pub mod keyword;
 pub mod mark;
 pub mod name;
 pub mod program;
+pub mod standard;
 pub mod statement;
 pub mod text;
 pub mod token;

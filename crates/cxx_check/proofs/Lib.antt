@@ -8,3 +8,4 @@ pub mod KnownLaws
 pub mod ClassLaws
 pub mod WholeLaws
 pub mod TreeLaws
+pub mod SettledLaws

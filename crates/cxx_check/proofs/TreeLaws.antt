@@ -8,7 +8,7 @@ use Rattle.cxx_ast.specs.declared.declaration.FuncKind.{FuncKind}
 use Rattle.cxx_ast.specs.declared.types.Param.{Param}
 use Rattle.cxx_ast.specs.declared.types.Ty.{Ty}
 use Rattle.cxx_ast.specs.declared.types.Ty.TheVariants.{Int, Void, Object, IntRef, ObjectRef}
-use Rattle.cxx_ast.specs.Plain.{Function, Class, Initialiser, Statements, Program, Checked, Declaration, class_declaration, global_declaration, function_declaration}
+use Rattle.cxx_ast.specs.Plain.{Specification, Function, Class, Initialiser, Statements, Program, Checked, Declaration, class_declaration, global_declaration, function_declaration}
 use Rattle.cxx_ast.specs.Spelling.{is_bad_exception}
 use Rattle.cxx_ast.specs.Environment.{class_kind, Environment, Scope, Meaning, unknown, a_local, a_field, a_method, a_global, a_function, a_class, a_builtin}
 use Rattle.cxx_ast.specs.Lookup.{look}
@@ -19,6 +19,8 @@ use Rattle.cxx_ast.specs.Resolve.{bind, function_number, resolve_function, resol
 use Rattle.cxx_check.specs.FunctionParts.{inside_scope}
 use Rattle.cxx_ast.specs.Checked.{resolve_base, resolve_fields, resolve_methods, resolve_class_tree, resolve_declaration, resolve_declarations, classes_of, globals_of, functions_of, bad_exception, checked}
 use Rattle.cxx_ast.specs.Refused.{first}
+use Rattle.cxx_ast.specs.Settled.{settle_function, settle_classes}
+use Rattle.cxx_ast.specs.declared.standard.Std.{Std}
 use Rattle.cxx_check.specs.PartsOf.{class_in, global_in, function_in}
 use Rattle.cxx_check.specs.TreeParts.{base_tree, fields_tree, methods_tree}
 
@@ -87,7 +89,7 @@ int_same a b (ObjectRef const n) = class_no_int a outermost n ∙ sym (class_no_
 scope_same : (a b : Environment) (own : Option ℕ) (ty : Ty) → function_scope a own ty ≡ function_scope b own ty
 scope_same a b own ty = ap {A = Bool} {B = Scope} (λ x. record outermost { locals = [] ∷ []; own = own; gives_value = x }) (int_same a b ty)
 
-same_function : (m n : Name) (k l : FuncKind) (a b : Ty) (p q : List Param) (s t : Option (List Ty)) (i j : List Initialiser) (x y : Option Statements) (z w : ℕ) →
+same_function : (m n : Name) (k l : FuncKind) (a b : Ty) (p q : List Param) (s t : Option Specification) (i j : List Initialiser) (x y : Option Statements) (z w : ℕ) →
     m ≡ n → k ≡ l → a ≡ b → p ≡ q → s ≡ t → i ≡ j → x ≡ y → z ≡ w →
     (let f : Function = record { name = m; kind = k; result = a; parameters = p; specification = s; initialisers = i; body = x; tokens = z } in
     let g : Function = record { name = n; kind = l; result = b; parameters = q; specification = t; initialisers = j; body = y; tokens = w } in f ≡ g)
@@ -164,20 +166,19 @@ same_checked : (m n : Program) (a b : List Class) (p q : List ℤ) (f g : List F
 same_checked m n a b p q f g i j e1 e2 e3 e4 e5 = cc
 
 -- the checked program of its parts
-pub checked_by : (p : Program) (start second : Environment) (ds : List Declaration) (classes : List Class) (globals : List ℤ) (functions : List Function) (main : ℕ) →
+pub checked_by : (std : Std) (p : Program) (start second : Environment) (ds : List Declaration) (classes : List Class) (globals : List ℤ) (functions : List Function) (main : ℕ) →
     start ≡ at_the_start p.declarations → second ≡ at_the_start p.declarations → ds ≡ resolve_declarations start p.declarations →
-    classes ≡ bad_exception ∷ classes_of (resolve_declarations second p.declarations) → globals ≡ globals_of (resolve_declarations second p.declarations) →
-    functions ≡ functions_of (resolve_declarations second p.declarations) → main ≡ function_number start (codes "main") →
-    (let c : Checked = record { program = record { declarations = ds; tokens = p.tokens; length = p.length }; classes = classes; globals = globals; functions = functions; main = main } in c ≡ checked p)
+    classes ≡ settle_classes std [] (bad_exception ∷ classes_of (resolve_declarations second p.declarations)) → globals ≡ globals_of (resolve_declarations second p.declarations) →
+    functions ≡ map (settle_function None) (functions_of (resolve_declarations second p.declarations)) → main ≡ function_number start (codes "main") →
+    (let c : Checked = record { program = record { declarations = ds; tokens = p.tokens; length = p.length }; classes = classes; globals = globals; functions = functions; main = main } in c ≡ checked std p)
 unfolding checked
-checked_by p start second ds classes globals functions main e h i j k f m =
-    let S = at_the_start p.declarations in
+checked_by std p start second ds classes globals functions main e h i j k f m =
     let tree = i ∙ ap (λ x. resolve_declarations x p.declarations) e in
     same_checked _ _ classes _ globals _ functions _ main _
     (ap {A = List Declaration} {B = Program} (λ x. record { declarations = x; tokens = p.tokens; length = p.length }) tree)
-    (j ∙ ap (λ x. bad_exception ∷ classes_of (resolve_declarations x p.declarations)) h)
+    (j ∙ ap (λ x. settle_classes std [] (bad_exception ∷ classes_of (resolve_declarations x p.declarations))) h)
     (k ∙ ap (λ x. globals_of (resolve_declarations x p.declarations)) h)
-    (f ∙ ap (λ x. functions_of (resolve_declarations x p.declarations)) h)
+    (f ∙ ap (λ x. map (settle_function None) (functions_of (resolve_declarations x p.declarations))) h)
     (m ∙ ap (λ x. function_number x (codes "main")) e)
 
 -- no pair is the first where there is none

@@ -5,6 +5,8 @@ use Rattle.cxx_ast.specs.Environment.{Environment}
 use Rattle.cxx_ast.specs.Broken.{function_name_found, declaration_found, declarations_found, has_main, pairs, broken}
 use Rattle.cxx_ast.specs.Declare.{declare_behind, body_environment, at_the_start, definitions}
 use Rattle.cxx_ast.specs.DeclaredNames.{once_only_found}
+use Rattle.cxx_ast.specs.Standards.{standard_found}
+use Rattle.cxx_ast.specs.declared.standard.Std.{Std}
 use Rattle.cxx_ast.specs.Finding.{Finding, breaks_if}
 use Rattle.cxx_ast.specs.FunctionRules.{function_found}
 use Rattle.cxx_ast.specs.Locals.{outermost}
@@ -53,22 +55,24 @@ unfolding summary
 first_of d fs = least_first d fs
 
 -- the parts of a program
-pub refused_by : (p : Program) (walked once main r : Found) (start env : Environment) →
+pub refused_by : (std : Std) (p : Program) (walked once main own r : Found) (start env : Environment) →
     start ≡ at_the_start p.declarations → env.definitions ≡ start.definitions → walked ≡ seen start (declarations_found start p.declarations) →
     once ≡ seen env (once_only_found p.declarations) → main ≡ (if not (has_main p.declarations) then broken_at no_main p.length else nothing_found) →
-    r ≡ both (both walked once) main → option_map pair_of r.least ≡ refused p
+    own ≡ seen env (standard_found std p.declarations) → r ≡ both (both (both walked once) main) own → option_map pair_of r.least ≡ refused std p
 unfolding broken
-refused_by p walked once main r start env s e f g h w =
+refused_by std p walked once main own r start env s e f g h k w =
     let ds = p.declarations in
     let S = at_the_start ds in
     let d = definitions ds in
     let D = declarations_found S ds in
     let O = once_only_found ds in
     let N = breaks_if (not (has_main ds)) no_main p.length in
+    let Z = standard_found std ds in
     let known : env.definitions ≡ d = e ∙ ap (λ e. e.definitions) s in
     let walk = f ∙ ap (λ v. seen v (declarations_found v ds)) s in
     let all =
-    w ∙ ap (λ x. both (both x once) main) walk ∙ ap (λ x. both (both (seen S D) x) main) (g ∙ ap (λ v. summary v O) known)
-    ∙ ap (both (both (seen S D) (summary d O))) (h ∙ sym (summary_if d (not (has_main ds)) no_main p.length))
-    ∙ sym (summary_append d (D ++ O) N ∙ ap (λ x. both x (summary d N)) (summary_append d D O)) in
-    ap (λ x. option_map pair_of x.least) all ∙ first_of d (D ++ O ++ N)
+    w ∙ ap (λ x. both (both (both x once) main) own) walk ∙ ap (λ x. both (both (both (seen S D) x) main) own) (g ∙ ap (λ v. summary v O) known)
+    ∙ ap (λ x. both (both (both (seen S D) (summary d O)) x) own) (h ∙ sym (summary_if d (not (has_main ds)) no_main p.length))
+    ∙ ap (both (both (both (seen S D) (summary d O)) (summary d N))) (k ∙ ap (λ v. summary v Z) known)
+    ∙ sym (summary_append d (D ++ O ++ N) Z ∙ ap (λ x. both x (summary d Z)) (summary_append d (D ++ O) N ∙ ap (λ x. both x (summary d N)) (summary_append d D O))) in
+    ap (λ x. option_map pair_of x.least) all ∙ first_of d (D ++ O ++ N ++ Z)

@@ -10,6 +10,7 @@ pub mod Whole
 pub mod Once
 pub mod RefusalOf
 pub mod HeadingOf
+pub mod Together
 pub mod TreeParts
 pub mod PartsOf
 pub mod AnswerOf

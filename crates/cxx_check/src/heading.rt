@@ -3,22 +3,22 @@ ghost use Rattle.std.specs.Prelude.{◌≡◌, IfOk, map};
 ghost use Rattle.cxx_ast.specs.Locals.{outermost};
 ghost use Rattle.cxx_ast.specs.Resolve.{resolve_params, resolve_specification, resolve_type};
 ghost use Rattle.cxx_ast.specs.View.{function_of};
-ghost use Rattle.cxx_check.specs.HeadingOf.{types_of, heading_of, heading_in, method_heading};
+ghost use Rattle.cxx_check.specs.HeadingOf.{some_specification, heading_of, heading_in, method_heading};
 
 use crate::NoMemory;
 use crate::bound::{copied, resolve_type};
 use crate::rebuilt::resolve_param;
-use cxx_ast::declaration::Func;
+use cxx_ast::declaration::{Func, Spec};
 use cxx_ast::name::Name;
 use cxx_ast::types::{Param, Ty};
 use cxx_rules::{Environment, Scope, declare_param};
 use std::alloc::Global;
 
-/// The parameters of a function and the types of its specification, with their names bound.
+/// The parameters of a function and its specification, with their names bound.
 #[derive(Drop)]
 pub struct Heading {
     pub params: Vec<Param>,
-    pub spec: Option<Vec<Ty>>,
+    pub spec: Option<Spec>,
 }
 
 // Parameters with their numbers.
@@ -54,18 +54,22 @@ fn resolve_types<'t>(
     Ok(rebuilt)
 }
 
-// The types of a specification, where there is one.
+// A specification, where there is one.
 fn resolve_specification<'t>(
     alloc: Global,
     env: &Environment<'t>,
     scope: &Scope<'t>,
-    spec: &Option<Vec<Ty>>,
-) -> Result<Option<Vec<Ty>>, NoMemory>
-    ensures { IfOk result (λ r. types_of r ≡ resolve_specification env.now scope.now (types_of spec.now)) }
+    spec: &Option<Spec>,
+) -> Result<Option<Spec>, NoMemory>
+    ensures { IfOk result (λ r. some_specification r ≡ resolve_specification env.now scope.now (some_specification spec.now)) }
 {
     match spec {
         None => Ok(None),
-        Some(types) => Ok(Some(resolve_types(alloc, env, scope, types.as_slice())?)),
+        Some(Spec::Throw(types)) => {
+            let types = resolve_types(alloc, env, scope, types.as_slice())?;
+            Ok(Some(Spec::Throw(types)))
+        }
+        Some(Spec::Noexcept(place, holds)) => Ok(Some(Spec::Noexcept(*place, *holds))),
     }
 }
 
@@ -114,8 +118,8 @@ pub fn copied_type(alloc: Global, ty: &Ty) -> Result<Ty, NoMemory>
     }
 }
 
-// Copies of types.
-fn copied_types(alloc: Global, types: &[Ty]) -> Result<Vec<Ty>, NoMemory>
+/// Copies of types.
+pub fn copied_types(alloc: Global, types: &[Ty]) -> Result<Vec<Ty>, NoMemory>
     ensures { IfOk result (λ r. r.items ≡ types.now) }
 {
     let mut copies = Vec::new(alloc);
@@ -126,15 +130,16 @@ fn copied_types(alloc: Global, types: &[Ty]) -> Result<Vec<Ty>, NoMemory>
 }
 
 /// A copy of a specification, where there is one.
-pub fn copied_specification(
-    alloc: Global,
-    spec: &Option<Vec<Ty>>,
-) -> Result<Option<Vec<Ty>>, NoMemory>
-    ensures { IfOk result (λ r. types_of r ≡ types_of spec.now) }
+pub fn copied_specification(alloc: Global, spec: &Option<Spec>) -> Result<Option<Spec>, NoMemory>
+    ensures { IfOk result (λ r. some_specification r ≡ some_specification spec.now) }
 {
     match spec {
         None => Ok(None),
-        Some(types) => Ok(Some(copied_types(alloc, types.as_slice())?)),
+        Some(Spec::Throw(types)) => {
+            let types = copied_types(alloc, types.as_slice())?;
+            Ok(Some(Spec::Throw(types)))
+        }
+        Some(Spec::Noexcept(place, holds)) => Ok(Some(Spec::Noexcept(*place, *holds))),
     }
 }
 

@@ -23,6 +23,8 @@ mod rebuilt;
 mod rebuilt_statement;
 mod refused;
 mod resolved;
+mod settled;
+mod standards;
 mod tree;
 mod variables;
 

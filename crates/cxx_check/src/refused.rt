@@ -10,9 +10,11 @@ ghost use Rattle.cxx_check.specs.RefusalOf.{pair_of};
 use crate::NoMemory;
 use crate::declared::declarations;
 use crate::once::once_only_found;
+use crate::standards::standard_found;
 use cxx_ast::declaration::{Decl, Func};
 use cxx_ast::name::{Bound, Name};
 use cxx_ast::program::Program;
+use cxx_ast::standard::Std;
 use cxx_ast::text::Text;
 use cxx_ast::types::Ty;
 use cxx_rules::{Environment, Found, Refusal, Rule, Texts};
@@ -68,10 +70,10 @@ pub fn nameless(alloc: Global) -> Name
     }
 }
 
-/// Why a program is refused, where it breaks a rule: the broken rule at the least place, in bytes from the source's start, and
+/// Why a program is refused, where it breaks a rule of a standard: the broken rule at the least place, in bytes from the source's start, and
 /// there the least number.
-pub fn refusal(alloc: Global, program: &Program) -> Result<Option<Refusal>, NoMemory>
-    ensures { IfOk result (λ r. option_map pair_of r ≡ refused (program_of program.now)) }
+pub fn refusal(alloc: Global, program: &Program, standard: Std) -> Result<Option<Refusal>, NoMemory>
+    ensures { IfOk result (λ r. option_map pair_of r ≡ refused standard (program_of program.now)) }
 {
     let decls = program.decls.as_slice();
     let none = nameless(alloc);
@@ -79,5 +81,6 @@ pub fn refusal(alloc: Global, program: &Program) -> Result<Option<Refusal>, NoMe
     let walked = declarations(alloc, env, &none, decls)?;
     let once = once_only_found(alloc, &walked.env, decls)?;
     let main = Found::broken_if(!has_main(decls), Rule::NoMain, program.length);
-    Ok(walked.found.and(once).and(main).least)
+    let own = standard_found(alloc, &walked.env, standard, decls)?;
+    Ok(walked.found.and(once).and(main).and(own).least)
 }

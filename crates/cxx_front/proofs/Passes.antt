@@ -3,6 +3,7 @@ use Rattle.std.proofs.Common.{◌≡◌, ◌↔◌, inl, inr, ℕ, List, length,
 use Rattle.std.specs.Global.{Vec}
 use Rattle.cxx_ast.specs.declared.token.Token.{Token}
 use Rattle.cxx_ast.specs.declared.program.Checked.{Checked}
+use Rattle.cxx_ast.specs.declared.standard.Std.{Std}
 use Rattle.cxx_ast.specs.Plain.{Program}
 use Rattle.cxx_ast.specs.Lex.{Lex}
 use Rattle.cxx_ast.specs.LexFault.{Fault, bad_byte, literal_range, open_comment, too_many_tokens, FirstFault}
@@ -81,24 +82,24 @@ err_same e = cc
 no_tokens : (source : List ℕ) (e : LexError) → Lexed source (Err e) → IsCertain (Err e) → (ts : List Token) → Lex source ts → ⊥
 no_tokens source e l certain ts lexed = (certain _ (l.tokens ts)).1 lexed
 
-module _ (source : List ℕ) (fault : Fault) (place : ℕ) (l : Lexed source (Err (error_of fault place))) (certain : IsCertain (Err (error_of fault place))) (is : FirstFault source fault place) where
-  faulty_only : (other : Fate) → Has source other → refused (number_of fault) place ≡ other
+module _ (std : Std) (source : List ℕ) (fault : Fault) (place : ℕ) (l : Lexed source (Err (error_of fault place))) (certain : IsCertain (Err (error_of fault place))) (is : FirstFault source fault place) where
+  faulty_only : (other : Fate) → Has std source other → refused (number_of fault) place ≡ other
   faulty_only (refused n p) (inl (other, first, number)) =
       same_refusal fault other place p (err_same (told source (Err (error_of fault place)) l certain other p first)) ∙ ap (λ m. refused m p) (sym number)
   faulty_only (refused n p) (inr (inl (ts, lexed, why))) = absurd (no_tokens source (error_of fault place) l certain ts lexed)
   faulty_only (refused n p) (inr (inr (q, program, breaks))) = absurd (no_tokens source (error_of fault place) l certain program.tokens program.lexed)
   faulty_only (valid q) (program, holds) = absurd (no_tokens source (error_of fault place) l certain program.tokens program.lexed)
 
-  faulty : HasOnly source (refused (number_of fault) place)
+  faulty : HasOnly std source (refused (number_of fault) place)
   faulty = record { is = inl (fault, is, refl); only = faulty_only }
 
 -- what the lexer refuses
-pub lexer_refuses : (source : List ℕ) (e : LexError) → Lexed source (Err e) → Answers source (Err (of_lexer e))
-lexer_refuses source (lexing.BadByte place) l = faulty source bad_byte place l (λ P h. h) ((l.bad_byte place).0 refl)
-lexer_refuses source (lexing.LiteralRange place) l = faulty source literal_range place l (λ P h. h) ((l.literal_range place).0 refl)
-lexer_refuses source (lexing.OpenComment place) l = faulty source open_comment place l (λ P h. h) ((l.open_comment place).0 refl)
-lexer_refuses source (lexing.TooManyTokens place) l = faulty source too_many_tokens place l (λ P h. h) ((l.too_many_tokens place).0 refl)
-lexer_refuses source lexing.NoMemory l = tt
+pub lexer_refuses : (std : Std) (source : List ℕ) (e : LexError) → Lexed source (Err e) → Answers std source (Err (of_lexer e))
+lexer_refuses std source (lexing.BadByte place) l = faulty std source bad_byte place l (λ P h. h) ((l.bad_byte place).0 refl)
+lexer_refuses std source (lexing.LiteralRange place) l = faulty std source literal_range place l (λ P h. h) ((l.literal_range place).0 refl)
+lexer_refuses std source (lexing.OpenComment place) l = faulty std source open_comment place l (λ P h. h) ((l.open_comment place).0 refl)
+lexer_refuses std source (lexing.TooManyTokens place) l = faulty std source too_many_tokens place l (λ P h. h) ((l.too_many_tokens place).0 refl)
+lexer_refuses std source lexing.NoMemory l = tt
 
 -- tokens are those of the source, and no others
 pub record OnlyTokens (source : List ℕ) (tokens : List Token) : Type 0 where
@@ -122,7 +123,7 @@ lexer_reads source tokens list same is bad range left many = subst (OnlyTokens s
 abbrev HasOne : List Token → ℕ → Type 0
 HasOne tokens end = (a b : Reading) → IsAnswer tokens end a → IsAnswer tokens end b → a ≡ b
 
-module _ (source : List ℕ) (tokens : List Token) (has : OnlyTokens source tokens) (one : HasOne tokens (length source)) where
+module _ (std : Std) (source : List ℕ) (tokens : List Token) (has : OnlyTokens source tokens) (one : HasOne tokens (length source)) where
   -- a program of the source is an answer
   program_answer : (q : Program) → IsProgram source q → IsAnswer tokens (length source) (Ok q)
   program_answer q program = subst (λ ts. Tree ts (length source) q) (sym (has.only program.tokens program.lexed)) program.tree
@@ -130,7 +131,7 @@ module _ (source : List ℕ) (tokens : List Token) (has : OnlyTokens source toke
   no_tree_answer : (ts : List Token) (n p : ℕ) → Lex source ts → NoTree ts (length source) n p → NoTree tokens (length source) n p
   no_tree_answer ts n p lexed why = subst (λ x. NoTree x (length source) n p) (sym (has.only ts lexed)) why
 
-  unexpected_only : (place : ℕ) → UnexpectedFirst tokens (length source) place → (other : Fate) → Has source other → refused 20 place ≡ other
+  unexpected_only : (place : ℕ) → UnexpectedFirst tokens (length source) place → (other : Fate) → Has std source other → refused 20 place ≡ other
   unexpected_only place is (refused n p) (inl (fault, first, number)) = absurd (has.clean fault p first)
   unexpected_only place is (refused n p) (inr (inl (ts, lexed, why))) = go (no_tree_answer ts n p lexed why)
     where
@@ -148,7 +149,7 @@ module _ (source : List ℕ) (tokens : List Token) (has : OnlyTokens source toke
       let same : Err (unexpected place) ≡ Ok q = one (Err (unexpected place)) (Ok q) is (program_answer q program) in
       cc
 
-  deep_only : (place : ℕ) → TooDeep tokens place → (other : Fate) → Has source other → refused 21 place ≡ other
+  deep_only : (place : ℕ) → TooDeep tokens place → (other : Fate) → Has std source other → refused 21 place ≡ other
   deep_only place is (refused n p) (inl (fault, first, number)) = absurd (has.clean fault p first)
   deep_only place is (refused n p) (inr (inl (ts, lexed, why))) = go (no_tree_answer ts n p lexed why)
     where
@@ -167,7 +168,7 @@ module _ (source : List ℕ) (tokens : List Token) (has : OnlyTokens source toke
       cc
 
   -- what the parser refuses
-  pub parser_refuses : (e : ParseError) → IsRefusal tokens (length source) e → Answers source (Err (of_parser e))
+  pub parser_refuses : (e : ParseError) → IsRefusal tokens (length source) e → Answers std source (Err (of_parser e))
   parser_refuses (parsing.Unexpected place) is = record { is = inr (inl (tokens, has.lexed, inl (is, refl))); only = unexpected_only place is }
   parser_refuses (parsing.TooDeep place) is = record { is = inr (inl (tokens, has.lexed, inr (is, refl))); only = deep_only place is }
   parser_refuses parsing.NoMemory is = tt
@@ -193,31 +194,31 @@ module _ (source : List ℕ) (tokens : List Token) (has : OnlyTokens source toke
             let same : Ok p ≡ Err (too_deep place) = one (Ok p) (Err (too_deep place)) tree there in
             cc
 
-    refusal_only : (n place : ℕ) → refusal_of p ≡ Some (n, place) → (other : Fate) → Has source other → refused n place ≡ other
+    refusal_only : (n place : ℕ) → refusal_of std p ≡ Some (n, place) → (other : Fate) → Has std source other → refused n place ≡ other
     refusal_only n place is (refused m at) (inl (fault, first, number)) = absurd (has.clean fault at first)
     refusal_only n place is (refused m at) (inr (inl (ts, lexed, why))) = absurd (has_tree ts m at lexed why)
     refusal_only n place is (refused m at) (inr (inr (q, program, breaks))) =
-        let same : Some (n, place) ≡ Some (m, at) = sym is ∙ ap refusal_of (same_program q program) ∙ breaks in
+        let same : Some (n, place) ≡ Some (m, at) = sym is ∙ ap (refusal_of std) (same_program q program) ∙ breaks in
         ap (λ x. refused x.0 x.1) (some_same same)
       where
         some_same : {x y : ℕ × ℕ} → Some x ≡ Some y → x ≡ y
         some_same e = cc
     refusal_only n place is (valid q) (program, holds) =
-        let none : ◌≡◌ {A = Option (ℕ × ℕ)} (Some (n, place)) None = sym is ∙ ap refusal_of (same_program q program) ∙ ap first holds in
+        let none : ◌≡◌ {A = Option (ℕ × ℕ)} (Some (n, place)) None = sym is ∙ ap (refusal_of std) (same_program q program) ∙ ap first holds in
         cc
 
-    valid_only : Valid p → (other : Fate) → Has source other → valid p ≡ other
+    valid_only : Valid std p → (other : Fate) → Has std source other → valid p ≡ other
     valid_only holds (refused m at) (inl (fault, first, number)) = absurd (has.clean fault at first)
     valid_only holds (refused m at) (inr (inl (ts, lexed, why))) = absurd (has_tree ts m at lexed why)
     valid_only holds (refused m at) (inr (inr (q, program, breaks))) =
-        let none : ◌≡◌ {A = Option (ℕ × ℕ)} None (Some (m, at)) = sym (ap first holds) ∙ ap refusal_of (same_program q program) ∙ breaks in
+        let none : ◌≡◌ {A = Option (ℕ × ℕ)} None (Some (m, at)) = sym (ap first holds) ∙ ap (refusal_of std) (same_program q program) ∙ breaks in
         cc
     valid_only holds (valid q) (program, also) = ap valid (same_program q program)
 
     -- what the checker accepts and refuses
-    pub checker_accepts : (c : Checked) → Checks p (Ok c) → Answers source (Ok c)
+    pub checker_accepts : (c : Checked) → Checks std p (Ok c) → Answers std source (Ok c)
     checker_accepts c (holds, resolved) = (p, record { is = (the_program, holds); only = valid_only holds }, resolved)
 
-    pub checker_refuses : (e : CheckError) → Checks p (Err e) → Answers source (Err (of_checker e))
+    pub checker_refuses : (e : CheckError) → Checks std p (Err e) → Answers std source (Err (of_checker e))
     checker_refuses (checking.Refused n place) is = record { is = inr (inr (p, the_program, is)); only = refusal_only n place is }
     checker_refuses checking.NoMemory is = tt

@@ -1,6 +1,7 @@
 -- What the front end answers.
 use Rattle.std.specs.Prelude.{ℕ, List, Result, Ok, Err}
 use Rattle.cxx_ast.specs.declared.program.Checked.{Checked}
+use Rattle.cxx_ast.specs.declared.standard.Std.{Std}
 use Rattle.cxx_ast.specs.Plain.{Program}
 use Rattle.cxx_ast.specs.Checked.{Resolves}
 use Rattle.cxx_ast.specs.View.{checked_of}
@@ -15,10 +16,10 @@ use Rattle.cxx_front.specs.declared.error.SourceError.TheVariants.{Refused, NoMe
 use Rattle.cxx_front.specs.Fate.{HasOnly, refused, valid}
 
 -- the checked program of a valid source, or the refusal that answers; want of memory is free
-abbrev pub Answers : List ℕ → Result Checked SourceError → Type 0
-Answers source (Ok c) = (p : Program) × HasOnly source (valid p) × Resolves p (checked_of c)
-Answers source (Err (Refused number place)) = HasOnly source (refused number place)
-Answers source (Err NoMemory) = Unit {0}
+abbrev pub Answers : Std → List ℕ → Result Checked SourceError → Type 0
+Answers std source (Ok c) = (p : Program) × HasOnly std source (valid p) × Resolves std p (checked_of c)
+Answers std source (Err (Refused number place)) = HasOnly std source (refused number place)
+Answers std source (Err NoMemory) = Unit {0}
 
 -- the refusals of each pass by their numbers
 abbrev pub of_lexer : LexError → SourceError

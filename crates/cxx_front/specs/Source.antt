@@ -1,5 +1,6 @@
 -- What a source is: a program, or refused by its tokens, by the grammar, or by the static rules, in this order.
 use Rattle.std.specs.Prelude.{ℕ, ◌≡◌, ◌⊎◌, List, length, Some}
+use Rattle.cxx_ast.specs.declared.standard.Std.{Std}
 use Rattle.cxx_ast.specs.declared.token.Token.{Token}
 use Rattle.cxx_ast.specs.Plain.{Program}
 use Rattle.cxx_ast.specs.Lex.{Lex}
@@ -33,10 +34,10 @@ NoTree tokens end number place = (UnexpectedFirst tokens end place × (number �
 abbrev pub HasNoTree : List ℕ → ℕ → ℕ → Type 0
 HasNoTree source number place = (tokens : List Token) × Lex source tokens × NoTree tokens (length source) number place
 
--- the source is a program, and breaks a static rule; of the rules that it breaks, this one answers
-abbrev pub BreaksRule : List ℕ → ℕ → ℕ → Type 0
-BreaksRule source number place = (p : Program) × IsProgram source p × (refused p ≡ Some (number, place))
+-- the source is a program, and breaks a static rule of a standard; of the rules that it breaks, this one answers
+abbrev pub BreaksRule : Std → List ℕ → ℕ → ℕ → Type 0
+BreaksRule std source number place = (p : Program) × IsProgram source p × (refused std p ≡ Some (number, place))
 
--- the source is refused by a number, at a place in bytes from its start
-abbrev pub IsRefused : List ℕ → ℕ → ℕ → Type 0
-IsRefused source number place = HasNoTokens source number place ⊎ (HasNoTree source number place ⊎ BreaksRule source number place)
+-- by a standard the source is refused by a number, at a place in bytes from its start
+abbrev pub IsRefused : Std → List ℕ → ℕ → ℕ → Type 0
+IsRefused std source number place = HasNoTokens source number place ⊎ (HasNoTree source number place ⊎ BreaksRule std source number place)

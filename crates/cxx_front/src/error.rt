@@ -10,8 +10,8 @@ use thiserror::Error;
 /// Why a source has no checked program.
 #[derive(Clone, Copy, Debug, Drop, PartialEq, Eq, Error)]
 pub enum SourceError {
-    /// The number of what the source breaks, from 10 to 13 for its tokens, 20 and 21 for its tree and 30 to 49 for the static
-    /// rules, and the place where it does, in bytes from the source's start.
+    /// The number of what the source breaks, from 10 to 13 for its tokens, 20 and 21 for its tree and 30 to 49, 70 and 71 for the
+    /// static rules, and the place where it does, in bytes from the source's start.
     #[error("{0} at {1}")]
     Refused(u8, u32),
     #[error("out of memory")]

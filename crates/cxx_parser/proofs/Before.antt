@@ -20,7 +20,7 @@ spell_heading h x = spell_result h.kind h.result (named h.name ∷ mark sign.Ope
 
 -- all that stands before a body
 abbrev pub spell_signature : Signature → Spelling
-spell_signature s x = spell_heading s.heading (spell_params s.parameters (mark sign.CloseParen ∷ spell_specification s.specification (spell_initialisers s.initialisers x)))
+spell_signature s x = spell_heading s.heading (spell_params s.parameters (mark sign.CloseParen ∷ spell_specification s.in_full s.specification (spell_initialisers s.initialisers x)))
 
 -- what stands before an initialiser behind others
 abbrev pub separator : List Initialiser → Piece

@@ -13,7 +13,7 @@ use Rattle.cxx_ast.specs.Plain.{path, Declaration}
 use Rattle.cxx_parser.specs.Contexts.{Heading, Holder, of_program, of_class, InStatement, in_then, in_else, in_while, in_block, InTry, in_try, InJump, of_return, of_throw, Pending, InExpression, InPath, of_operand, of_statement, of_reference, InType, of_param, of_local, InListed, of_specification, of_caught, of_const_caught, InName, of_path, of_std_operand, of_std_statement, of_referred, of_int, of_void, of_destructor, of_class_name, of_base, of_initialised}
 use Rattle.cxx_parser.specs.Reading.{feed}
 use Rattle.cxx_parser.specs.Signs.{is_kind}
-use Rattle.cxx_parser.specs.States.{State, expect, want_name, want_operand, have_operand, have_expression, after_path, have_path, after_open, have_argument, after_const, after_value_type, have_type, want_listed, have_listed, have_types, want_caught, have_caught, want_statement, want_simple, want_plain, want_named, in_statements, have_statement, after_jump, after_first_name, after_only_name, after_int, after_int_name, after_object_name, after_handler, after_params_open, want_param, have_param, after_params, after_throw_open, have_signature, have_initialiser, after_declared, after_class_name, after_class_colon, in_class, want_member, after_member_name, after_assign, after_minus, want_declaration}
+use Rattle.cxx_parser.specs.States.{State, expect, want_name, want_operand, have_operand, have_expression, after_path, have_path, after_open, have_argument, after_const, after_value_type, have_type, want_listed, have_listed, have_types, want_caught, have_caught, want_statement, want_simple, want_plain, want_named, in_statements, have_statement, after_jump, after_first_name, after_only_name, after_int, after_int_name, after_object_name, after_handler, after_params_open, want_param, have_param, after_params, after_throw_open, after_noexcept, after_noexcept_open, have_signature, have_initialiser, after_declared, after_class_name, after_class_colon, in_class, want_member, after_member_name, after_assign, after_minus, want_declaration}
 use Rattle.cxx_parser.specs.Types.{handler_body}
 use Rattle.cxx_parser.proofs.EndsStatements.{Ends, comes, by_step, semicolon, close_brace, declarations_end, class_ends, body_ends, block_ends, statement_ends, handler_ends, end_ends, signature_ends, initialised_ends}
 use Rattle.cxx_parser.proofs.EndsExpressions.{closer, closes_operand, closes_path, pending_depth, step_as, empty_ends, expression_ending, arguments_end, operand_ends}
@@ -138,6 +138,11 @@ module _ (limit : ℕ) where
   unfolding feed
   expected k s n e = rw e refl
 
+  -- what stands behind `noexcept (` must come
+  truth_ends : (place : ℕ) (ps : List Param) (h : Heading) (n : ℕ) → Ends limit n (after_noexcept_open place ps h)
+  unfolding feed
+  truth_ends place ps h n = comes (kind.Word keyword.True) refl (comes close_paren refl (signature_ends limit (n + 1 + 1) _))
+
   -- each state that is reached
   pub completed : (s : State) → Sound limit s → (n : ℕ) → Ends limit n s
   unfolding feed
@@ -177,6 +182,8 @@ module _ (limit : ℕ) where
   completed (have_param ps h) g n = comes close_paren refl (params_end ps h (n + 1))
   completed (after_params ps h) g n = params_end ps h n
   completed (after_throw_open ps h) g n = comes close_paren refl (signature_ends limit (n + 1) _)
+  completed (after_noexcept place ps h) g n = comes open_paren refl (truth_ends place ps h (n + 1))
+  completed (after_noexcept_open place ps h) g n = truth_ends place ps h n
   completed (have_signature s) g n = signature_ends limit n s
   completed (have_initialiser s) g n = initialised_ends limit n s
   completed (after_declared m start h) g n = declared_ends m start h n

@@ -1,5 +1,5 @@
 -- States of functions that the tokens to come tell apart no more, and numbers of tokens.
-use Rattle.std.specs.Prelude.{ℕ, suc, ◌+◌, ◌-◌, ◌<◌, ◌≤◌, ◌≡◌, false, List, [], ◌∷◌, ◌++◌, None, length, map, refl}
+use Rattle.std.specs.Prelude.{ℕ, suc, ◌+◌, ◌-◌, ◌<◌, ◌≤◌, ◌≡◌, false, codes, List, [], ◌∷◌, ◌++◌, None, length, map, refl}
 use Rattle.std.proofs.Common.{ap, arith}
 use Rattle.std.proofs.lemmas.List.{map-append}
 use Rattle.cxx_ast.specs.declared.declaration.Init.{Init}
@@ -15,7 +15,7 @@ use Rattle.cxx_parser.specs.Functions.{feed_params, feed_signature, feed_throw_o
 use Rattle.cxx_parser.specs.Gives.{begins}
 use Rattle.cxx_parser.specs.Headings.{signature_of}
 use Rattle.cxx_parser.specs.Reading.{feed, read}
-use Rattle.cxx_parser.specs.Signs.{is_mark, is_word}
+use Rattle.cxx_parser.specs.Signs.{is_mark, is_word, is_name}
 use Rattle.cxx_parser.specs.States.{after_params, after_throw_open, have_signature, want_listed, have_listed, have_types}
 use Rattle.cxx_parser.specs.Types.{begin_listed}
 use Rattle.cxx_parser.proofs.Settled.{stepped}
@@ -25,13 +25,13 @@ pub tokens_between : (total left behind : ℕ) → behind < left → left ≤ to
 tokens_between total left behind h i = omega arith
 
 -- no exception specification
-pub no_specification : (total end : ℕ) (tokens : List Token) (ps : List Param) (h : Heading) → begins tokens (kind.Word keyword.Throw) ≡ false → read total end tokens (after_params ps h) ≡ read total end tokens (have_signature (signature_of h ps None))
+pub no_specification : (total end : ℕ) (tokens : List Token) (ps : List Param) (h : Heading) → begins tokens (kind.Word keyword.Throw) ≡ false → begins tokens (kind.Name (codes "noexcept")) ≡ false → read total end tokens (after_params ps h) ≡ read total end tokens (have_signature (signature_of h ps false None))
 unfolding read feed
-no_specification total end [] ps h i = refl
-no_specification total end (t ∷ ts) ps h i = ap (stepped total end t ts) (goes i)
+no_specification total end [] ps h i j = refl
+no_specification total end (t ∷ ts) ps h i j = ap (stepped total end t ts) (goes i j)
   where
-    goes : is_word keyword.Throw t.kind ≡ false → feed_params (total - length (t ∷ ts)) t ps h ≡ feed_signature (total - length (t ∷ ts)) t (signature_of h ps None)
-    goes i = rw i refl
+    goes : is_word keyword.Throw t.kind ≡ false → is_name (codes "noexcept") t.kind ≡ false → feed_params (total - length (t ∷ ts)) t ps h ≡ feed_signature (total - length (t ∷ ts)) t (signature_of h ps false None)
+    goes i j = rw (i, j) refl
 
 -- the first type of an exception specification
 pub first_type : (total end : ℕ) (tokens : List Token) (ps : List Param) (h : Heading) → begins tokens (kind.Mark sign.CloseParen) ≡ false → read total end tokens (after_throw_open ps h) ≡ read total end tokens (want_listed (of_specification [] ps h))

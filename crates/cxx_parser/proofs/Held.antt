@@ -1,5 +1,6 @@
 -- What a state says of the tokens that led to it.
-use Rattle.std.specs.Prelude.{ℕ, ◌+◌, ◌≡◌, Bool, true, false, List, [], ◌∷◌, length, map}
+use Rattle.std.specs.Prelude.{ℕ, ◌+◌, ◌≡◌, Bool, true, false, codes, List, [], ◌∷◌, length, map}
+use Rattle.cxx_ast.specs.declared.token.TokenKind.TheVariants as kind
 use Rattle.cxx_ast.specs.declared.keyword.Keyword.TheVariants as keyword
 use Rattle.cxx_ast.specs.declared.mark.Mark.TheVariants as sign
 use Rattle.cxx_ast.specs.declared.name.Name.{Name}
@@ -7,12 +8,12 @@ use Rattle.cxx_ast.specs.declared.token.Token.{Token}
 use Rattle.cxx_ast.specs.declared.types.Ty.{Ty}
 use Rattle.cxx_ast.specs.declared.types.Ty.TheVariants.{Int}
 use Rattle.cxx_ast.specs.Grammatical.{Each, NotEmpty, IsListedType}
-use Rattle.cxx_ast.specs.Piece.{Piece, Fit, named, word, mark, word_at}
+use Rattle.cxx_ast.specs.Piece.{placed, Piece, Fit, named, word, mark, word_at}
 use Rattle.cxx_ast.specs.Plain.{Expression, Declaration}
 use Rattle.cxx_ast.specs.Spelling.{Spelling, spell_type, spell_param, spell_path, spell_expression, spell_arguments, spell_statement, spell_statements, first_at}
 use Rattle.cxx_ast.specs.Written.{Member, Written, data_members, functions, declared, spell_params, spell_types, spell_base, spell_public, spell_members, spell_declarations}
 use Rattle.cxx_parser.specs.Contexts.{Holder, of_program, of_class, InCall, of_object, InListed, of_specification, of_caught, of_const_caught, InName, of_path, of_std_operand, of_std_statement, of_referred, of_int, of_void, of_destructor, of_class_name, of_base, of_initialised}
-use Rattle.cxx_parser.specs.States.{State, expect, want_name, want_operand, have_operand, have_expression, after_path, have_path, after_open, have_argument, after_const, after_value_type, have_type, want_listed, have_listed, have_types, want_caught, have_caught, want_statement, want_simple, want_plain, want_named, in_statements, have_statement, after_jump, after_first_name, after_only_name, after_int, after_int_name, after_object_name, after_handler, after_params_open, want_param, have_param, after_params, after_throw_open, have_signature, have_initialiser, after_declared, after_class_name, after_class_colon, in_class, want_member, after_member_name, after_assign, after_minus, want_declaration}
+use Rattle.cxx_parser.specs.States.{State, expect, want_name, want_operand, have_operand, have_expression, after_path, have_path, after_open, have_argument, after_const, after_value_type, have_type, want_listed, have_listed, have_types, want_caught, have_caught, want_statement, want_simple, want_plain, want_named, in_statements, have_statement, after_jump, after_first_name, after_only_name, after_int, after_int_name, after_object_name, after_handler, after_params_open, want_param, have_param, after_params, after_throw_open, after_noexcept, after_noexcept_open, have_signature, have_initialiser, after_declared, after_class_name, after_class_colon, in_class, want_member, after_member_name, after_assign, after_minus, want_declaration}
 use Rattle.cxx_parser.proofs.Spelled.{IsCounted, AreCounted}
 use Rattle.cxx_parser.specs.Stored.{expressions_from, statements_from}
 use Rattle.cxx_parser.proofs.Before.{spell_heading, spell_signature, separator, spell_given_params, before_statement, before_block, before_try, before_jump, pending, before_expression, before_call, before_path, before_type, before_listed, Site, site_of, statement_heading, block_heading, try_heading, jump_heading, expression_heading, call_heading, path_heading, type_heading, listed_heading}
@@ -177,6 +178,8 @@ Holds n F (want_param ps h) = Within n F (site_of h) (λ x. spell_heading h (spe
 Holds n F (have_param ps h) = Within n F (site_of h) (λ x. spell_heading h (spell_params ps x)) (NotEmpty ps)
 Holds n F (after_params ps h) = Within n F (site_of h) (λ x. spell_heading h (spell_params ps (mark sign.CloseParen ∷ x))) (Unit {0})
 Holds n F (after_throw_open ps h) = Within n F (site_of h) (λ x. spell_heading h (spell_params ps (mark sign.CloseParen ∷ word keyword.Throw ∷ mark sign.OpenParen ∷ x))) (Unit {0})
+Holds n F (after_noexcept place ps h) = Within n F (site_of h) (λ x. spell_heading h (spell_params ps (mark sign.CloseParen ∷ placed (kind.Name (codes "noexcept")) place ∷ x))) (Unit {0})
+Holds n F (after_noexcept_open place ps h) = Within n F (site_of h) (λ x. spell_heading h (spell_params ps (mark sign.CloseParen ∷ placed (kind.Name (codes "noexcept")) place ∷ mark sign.OpenParen ∷ x))) (Unit {0})
 Holds n F (have_signature s) = Within n F (site_of s.heading) (spell_signature s) (s.initialisers ≡ [])
 Holds n F (have_initialiser s) = Within n F (site_of s.heading) (spell_signature s) (NotEmpty s.initialisers)
 Holds n F (after_declared m start h) = Within n F (record { holder = h; start = start; tilde = false }) (λ x. word keyword.Int ∷ named m ∷ x) (Unit {0})

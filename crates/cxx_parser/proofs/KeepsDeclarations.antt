@@ -1,5 +1,5 @@
 -- What holds of the state of a signature, a member or a declaration holds with a token more.
-use Rattle.std.specs.Prelude.{ℕ, suc, ◌+◌, ◌≡◌, neg_ℤ, Bool, true, false, List, [], ◌∷◌, ◌++◌, Some, None, length, refl, if◌then◌else◌}
+use Rattle.std.specs.Prelude.{ℕ, suc, ◌+◌, ◌≡◌, neg_ℤ, Bool, true, false, codes, List, [], ◌∷◌, ◌++◌, Some, None, length, refl, if◌then◌else◌}
 use Rattle.std.proofs.Common.{ap, sym, ◌∙◌, subst, arith}
 use Rattle.cxx_ast.specs.declared.keyword.Keyword.TheVariants as keyword
 use Rattle.cxx_ast.specs.declared.mark.Mark.TheVariants as sign
@@ -9,22 +9,22 @@ use Rattle.cxx_ast.specs.declared.token.TokenKind.TheVariants as kind
 use Rattle.cxx_ast.specs.declared.types.Ty.TheVariants.{Int, Object}
 use Rattle.cxx_ast.specs.declared.types.Param.{Param}
 use Rattle.cxx_ast.specs.Grammatical.{Each, NotEmpty}
-use Rattle.cxx_ast.specs.Piece.{Piece, Is, Fit, named, word, mark, anywhere}
+use Rattle.cxx_ast.specs.Piece.{Piece, Is, Fit, placed, named, word, mark, anywhere}
 use Rattle.cxx_ast.specs.Plain.{Initialiser, Declaration, class_declaration}
 use Rattle.cxx_ast.specs.Spelling.{is_bad_exception}
 use Rattle.cxx_ast.specs.Written.{data_member, Written, written_class, written_global, declared, functions, spell_members, spell_declaration}
 use Rattle.cxx_ast.specs.Written.{no_start, start as started}
 use Rattle.cxx_parser.specs.Classes.{kind_in, with_member, closed_class, have_name, feed_name, feed_variable, feed_declared, have_value, feed_minus, feed_assign, feed_class_name, feed_class_colon, feed_member_name, begin_member, feed_member, begin_declaration}
 use Rattle.cxx_parser.specs.Contexts.{OpenClass, Holder, of_program, of_class, Heading, Signature, of_specification, InName, of_path, of_std_operand, of_std_statement, of_referred, of_int, of_void, of_destructor, of_class_name, of_base, of_initialised}
-use Rattle.cxx_parser.specs.Functions.{function_from, may_end, takes_initialisers, feed_signature, feed_initialiser, feed_params_open, feed_params, feed_throw_open}
+use Rattle.cxx_parser.specs.Functions.{function_from, may_end, takes_initialisers, feed_signature, feed_initialiser, feed_params_open, feed_params, quiet, feed_noexcept, feed_noexcept_open, feed_throw_open}
 use Rattle.cxx_parser.proofs.Spelled.{IsCounted, AreCounted}
-use Rattle.cxx_parser.specs.States.{State, expect, want_name, after_params_open, after_params, after_throw_open, have_signature, have_initialiser, after_declared, after_class_name, after_class_colon, in_class, want_member, after_member_name, after_assign, after_minus, want_declaration, Step, leads, unless}
+use Rattle.cxx_parser.specs.States.{State, expect, want_name, after_params_open, after_params, after_throw_open, after_noexcept, after_noexcept_open, have_signature, have_initialiser, after_declared, after_class_name, after_class_colon, in_class, want_member, after_member_name, after_assign, after_minus, want_declaration, Step, leads, unless}
 use Rattle.cxx_parser.proofs.Before.{before_path, separator, spell_signature}
 use Rattle.cxx_parser.proofs.Held.{Fits, after, before_holder, AtHolder, MayTilde, Within, Holds}
 use Rattle.cxx_parser.proofs.KeepsExpressions.{path_last, not_empty}
 use Rattle.cxx_parser.proofs.KeepsFunctions.{data_last, members_of_data, functions_of_data, declaration_more, function_holds}
 use Rattle.cxx_parser.proofs.KeepsTypes.{plain_class, begin_param-holds, begin_listed-holds}
-use Rattle.cxx_parser.proofs.Steps.{Where, step, restate, on_mark_holds, if_mark, if_word, on_name, on_literal}
+use Rattle.cxx_parser.proofs.Steps.{Where, step, restate, on_mark_holds, if_mark, if_word, if_name, placed_is, on_name, on_literal}
 
 -- tokens and the pieces that they fit are as many
 pub fit_length : (ts : List Token) (x : List Piece) → Fit ts x → length x ≡ length ts
@@ -81,7 +81,7 @@ feed_signature-holds n F t s w =
     (either (Holds (n + 1) (after t F)) (takes_initialisers s.heading.kind) _ _
     (on_mark_holds (Holds (n + 1) (after t F)) sign.Colon t _ (λ is. restate (λ x. spell_signature s (separator s.initialisers ∷ x)) _ (λ x. ap (λ p. spell_signature s (p ∷ x)) (sym (no_separator s.initialisers w.fine))) tt (step t (mark sign.Colon) (Unit {0}) is tt w)))
     (either (Holds (n + 1) (after t F)) (may_end s.heading.kind) _ _
-    (on_mark_holds (Holds (n + 1) (after t F)) sign.Semicolon t _ (λ is. function_holds (n + 1) (after t F) (function_from n None s) s.heading.holder s.heading.start (step t (mark sign.Semicolon) (Unit {0}) is tt w) refl)) tt))
+    (on_mark_holds (Holds (n + 1) (after t F)) sign.Semicolon t _ (λ is. function_holds (n + 1) (after t F) s.in_full (function_from n None s) s.heading.holder s.heading.start (step t (mark sign.Semicolon) (Unit {0}) is tt w) refl)) tt))
 
 pub feed_initialiser-holds : (n : ℕ) (F : Fits) (t : Token) (s : Signature) → Holds n F (have_initialiser s) → Where (Holds (n + 1) (after t F)) (feed_initialiser t s)
 feed_initialiser-holds n F t s w =
@@ -94,7 +94,18 @@ feed_params_open-holds n F t h w = if_mark (Holds (n + 1) (after t F)) sign.Clos
 pub feed_params-holds : (n : ℕ) (F : Fits) (t : Token) (ps : List Param) (h : Heading) → Holds n F (after_params ps h) → Where (Holds (n + 1) (after t F)) (feed_params n t ps h)
 feed_params-holds n F t ps h w =
     if_word (Holds (n + 1) (after t F)) keyword.Throw t _ _ (λ is. λ u i. step u (mark sign.OpenParen) _ i tt (step t (word keyword.Throw) (Unit {0}) is tt w))
-    (feed_signature-holds n F t (record { heading = h; parameters = ps; specification = None; initialisers = [] }) (restate _ _ (λ x. refl) refl w))
+    (if_name (Holds (n + 1) (after t F)) (codes "noexcept") t _ _ (λ is. step t (placed (kind.Name (codes "noexcept")) t.place) (Unit {0}) (placed_is t (kind.Name (codes "noexcept")) is) tt w)
+    (feed_signature-holds n F t (record { heading = h; parameters = ps; specification = None; in_full = false; initialisers = [] }) (restate _ _ (λ x. refl) refl w)))
+
+pub feed_noexcept-holds : (n : ℕ) (F : Fits) (t : Token) (place : ℕ) (ps : List Param) (h : Heading) → Holds n F (after_noexcept place ps h) → Where (Holds (n + 1) (after t F)) (feed_noexcept n t place ps h)
+feed_noexcept-holds n F t place ps h w =
+    if_mark (Holds (n + 1) (after t F)) sign.OpenParen t _ _ (λ is. step t (mark sign.OpenParen) _ is tt w)
+    (feed_signature-holds n F t (quiet place false true ps h) (restate _ _ (λ x. refl) refl w))
+
+pub feed_noexcept_open-holds : (n : ℕ) (F : Fits) (t : Token) (place : ℕ) (ps : List Param) (h : Heading) → Holds n F (after_noexcept_open place ps h) → Where (Holds (n + 1) (after t F)) (feed_noexcept_open t place ps h)
+feed_noexcept_open-holds n F t place ps h w =
+    if_word (Holds (n + 1) (after t F)) keyword.True t _ _ (λ is. λ u i. step u (mark sign.CloseParen) _ i refl (step t (word keyword.True) (Unit {0}) is tt w))
+    (if_word (Holds (n + 1) (after t F)) keyword.False t _ _ (λ is. λ u i. step u (mark sign.CloseParen) _ i refl (step t (word keyword.False) (Unit {0}) is tt w)) tt)
 
 pub feed_throw_open-holds : (n : ℕ) (F : Fits) (t : Token) (ps : List Param) (h : Heading) → Holds n F (after_throw_open ps h) → Where (Holds (n + 1) (after t F)) (feed_throw_open t ps h)
 feed_throw_open-holds n F t ps h w = if_mark (Holds (n + 1) (after t F)) sign.CloseParen t _ _ (λ is. step t (mark sign.CloseParen) _ is refl w) (begin_listed-holds n F t (of_specification [] ps h) tt w)

@@ -153,7 +153,7 @@ arguments_hold n F t [] (of_object c m C) is r w = absurd r
 arguments_hold n F t (e ∷ es) (of_object c m C) is r w = λ u i. step u (mark sign.Semicolon) _ i tt (step t (mark sign.CloseParen) (Unit {0}) is tt w)
 arguments_hold n F t es (of_initialiser m s) is r w =
     let i : Initialiser = record { name = m; arguments = expressions_from es } in
-    restate (spell_signature (with_initialiser s i)) _ (λ x. ap (λ y. spell_heading s.heading (spell_params s.parameters (mark sign.CloseParen ∷ spell_specification s.specification y))) (initialisers_last s.initialisers i x)) (not_empty s.initialisers i)
+    restate (spell_signature (with_initialiser s i)) _ (λ x. ap (λ y. spell_heading s.heading (spell_params s.parameters (mark sign.CloseParen ∷ spell_specification s.in_full s.specification y))) (initialisers_last s.initialisers i x)) (not_empty s.initialisers i)
     (step t (mark sign.CloseParen) (Unit {0}) is tt w)
 
 -- a token behind arguments

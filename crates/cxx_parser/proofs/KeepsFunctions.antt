@@ -1,5 +1,7 @@
 -- What holds of the state of a function, a class or a declaration holds with a token more.
-use Rattle.std.specs.Prelude.{ℕ, ◌+◌, ◌-◌, ◌≡◌, false, List, [], ◌∷◌, ◌++◌, Some, refl}
+use Rattle.cxx_ast.specs.Written.{spell_function_as}
+use Rattle.cxx_parser.proofs.Lengths.{as_written}
+use Rattle.std.specs.Prelude.{ℕ, ◌+◌, ◌-◌, ◌≡◌, Bool, false, List, [], ◌∷◌, ◌++◌, Some, refl}
 use Rattle.std.proofs.Common.{ap, sym, ◌∙◌, subst, arith}
 use Rattle.std.proofs.lemmas.List.{map-append}
 use Rattle.cxx_ast.specs.declared.declaration.FuncKind.{FuncKind}
@@ -18,7 +20,7 @@ use Rattle.cxx_parser.specs.Functions.{function_from, have_function, have_body}
 use Rattle.cxx_parser.proofs.Spelled.{IsCounted, AreCounted}
 use Rattle.cxx_parser.proofs.Before.{Site, site_of, is_destructor, spell_signature}
 use Rattle.cxx_parser.proofs.Held.{Fits, after, Said, Front, Matches, before_holder, AtHolder, tilded, Within, Holds}
-use Rattle.cxx_parser.proofs.Steps.{step}
+use Rattle.cxx_parser.proofs.Steps.{step, restate}
 
 -- a declaration more, and a member more
 pub declarations_last : (ws : List Written) (w : Written) (x : List Piece) → spell_declarations ws (spell_declaration w x) ≡ spell_declarations (ws ++ (w ∷ [])) x
@@ -77,14 +79,14 @@ declaration_more F ds w v m c said = record {
 counted_function : (n : ℕ) (F : Fits) (site : Site) (f : Function) → Within n F site (spell_function f) (Unit {0}) → f.tokens ≡ n - site.start → IsCounted f
 counted_function n F site f w e = let k = w.outer.counted [] (spell_function f []) (w.said [] [] tt) in omega (arith, k, e)
 
--- a function ends
-pub function_holds : (n : ℕ) (F : Fits) (f : Function) (H : Holder) (start : ℕ) → Within n F (record { holder = H; start = start; tilde = is_destructor f.kind }) (spell_function f) (Unit {0}) → f.tokens ≡ n - start → Holds n F (have_function f H)
-function_holds n F f (of_program ds) start w e =
+-- a function ends that is written so
+function_ends : (n : ℕ) (F : Fits) (f : Function) (H : Holder) (start : ℕ) → Within n F (record { holder = H; start = start; tilde = is_destructor f.kind }) (spell_function f) (Unit {0}) → f.tokens ≡ n - start → Holds n F (have_function f H)
+function_ends n F f (of_program ds) start w e =
     let o = w.outer in
     let c = counted_function n F (record { holder = of_program ds; start = start; tilde = is_destructor f.kind }) f w e in
     declaration_more F ds o.front (written_function f) o.matches c
     (λ ts x g. subst (λ b. F ts (spell_declarations o.front.written (tilded b (spell_function f x)))) o.may_tilde (o.carried ts (spell_function f x) (w.said ts x g)))
-function_holds n F f (of_class c) start w e =
+function_ends n F f (of_class c) start w e =
     let o = w.outer in
     let k = counted_function n F (record { holder = of_class c; start = start; tilde = is_destructor f.kind }) f w e in
     record {
@@ -101,6 +103,12 @@ function_holds n F f (of_class c) start w e =
           (ap (spell_members o.front.members) (tilde_spelled f.kind (spell_function f x)) ∙ function_last o.front.members f x) (o.carried ts (spell_function f x) (w.said ts x g));
     }
 
+-- a function ends, whose `noexcept` was read in full or not
+pub function_holds : (n : ℕ) (F : Fits) (b : Bool) (f : Function) (H : Holder) (start : ℕ) → Within n F (record { holder = H; start = start; tilde = is_destructor f.kind }) (spell_function_as b f) (Unit {0}) → f.tokens ≡ n - start → Holds n F (have_function f H)
+function_holds n F b f H start w e =
+    let k = w.outer.counted [] (spell_function_as b f []) (w.said [] [] tt) in
+    function_ends n F f H start (restate (spell_function f) (Unit {0}) (as_written b f (omega (arith, k, e))) tt w) e
+
 -- the body of a function ends
 pub body_holds : (n : ℕ) (F : Fits) (t : Token) (ss : Statements) (s : Signature) → t.kind ≡ kind.Mark sign.CloseBrace → Within n F (site_of s.heading) (λ x. spell_signature s (mark sign.OpenBrace ∷ spell_statements ss x)) (Unit {0}) → Holds (n + 1) (after t F) (have_body n ss s)
-body_holds n F t ss s is w = function_holds (n + 1) (after t F) (function_from n (Some ss) s) s.heading.holder s.heading.start (step t (mark sign.CloseBrace) (Unit {0}) is tt w) refl
+body_holds n F t ss s is w = function_holds (n + 1) (after t F) s.in_full (function_from n (Some ss) s) s.heading.holder s.heading.start (step t (mark sign.CloseBrace) (Unit {0}) is tt w) refl

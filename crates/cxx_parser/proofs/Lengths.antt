@@ -1,4 +1,11 @@
 -- How many pieces spell something: those that come behind are added.
+use Rattle.cxx_ast.specs.Written.{spell_function_as}
+use Rattle.std.specs.Prelude.{◌⊎◌}
+use Rattle.std.proofs.Common.{inl, inr, sym, ap, ◌∙◌}
+use Rattle.std.proofs.lemmas.Bool.Decides.{nat_tests}
+use Rattle.cxx_ast.specs.Plain.{Specification, listed, noexcept}
+use Rattle.cxx_ast.specs.Written.{in_full}
+use Rattle.std.specs.Prelude.{Bool, true, false}
 use Rattle.std.specs.Prelude.{ℕ, ◌+◌, ◌≡◌, ◌≤◌, Bool, true, false, List, [], ◌∷◌, Option, Some, None, length, refl}
 use Rattle.std.proofs.Common.{arith}
 use Rattle.cxx_ast.specs.declared.declaration.FuncKind.{FuncKind}
@@ -164,9 +171,12 @@ types_adds : (tys : List Ty) (x : List Piece) → Adds (spell_types tys) x
 types_adds [] x = omega arith
 types_adds (ty ∷ tys) x = omega (arith, type_adds ty (spell_more_types tys x), type_adds ty (spell_more_types tys []), more_types_adds tys x)
 
-specification_adds : (spec : Option (List Ty)) (x : List Piece) → Adds (spell_specification spec) x
-specification_adds None x = omega arith
-specification_adds (Some tys) x = omega (arith, types_adds tys (close x), types_adds tys (close []))
+specification_adds : (b : Bool) (spec : Option Specification) (x : List Piece) → Adds (spell_specification b spec) x
+specification_adds b None x = omega arith
+specification_adds b (Some (listed tys)) x = omega (arith, types_adds tys (close x), types_adds tys (close []))
+specification_adds b (Some (noexcept place false)) x = omega arith
+specification_adds false (Some (noexcept place true)) x = omega arith
+specification_adds true (Some (noexcept place true)) x = omega arith
 
 initialiser_adds : (i : Initialiser) (x : List Piece) → Adds (spell_initialiser i) x
 initialiser_adds i x = omega (arith, arguments_adds i.arguments (close x), arguments_adds i.arguments (close []))
@@ -191,16 +201,16 @@ result_adds Destructor ty x = omega arith
 
 -- what stands behind a function's name
 abbrev pub rest_of : Function → Spelling
-rest_of f x = spell_params f.parameters (mark sign.CloseParen ∷ spell_specification f.specification (spell_initialisers f.initialisers (spell_body f.body x)))
+rest_of f x = spell_params f.parameters (mark sign.CloseParen ∷ spell_specification (in_full f) f.specification (spell_initialisers f.initialisers (spell_body f.body x)))
 
 rest_adds : (f : Function) (x : List Piece) → Adds (rest_of f) x
 rest_adds f x =
     omega (
       arith,
-      params_adds f.parameters (mark sign.CloseParen ∷ spell_specification f.specification (spell_initialisers f.initialisers (spell_body f.body x))),
-      params_adds f.parameters (mark sign.CloseParen ∷ spell_specification f.specification (spell_initialisers f.initialisers (spell_body f.body []))),
-      specification_adds f.specification (spell_initialisers f.initialisers (spell_body f.body x)),
-      specification_adds f.specification (spell_initialisers f.initialisers (spell_body f.body [])),
+      params_adds f.parameters (mark sign.CloseParen ∷ spell_specification (in_full f) f.specification (spell_initialisers f.initialisers (spell_body f.body x))),
+      params_adds f.parameters (mark sign.CloseParen ∷ spell_specification (in_full f) f.specification (spell_initialisers f.initialisers (spell_body f.body []))),
+      specification_adds (in_full f) f.specification (spell_initialisers f.initialisers (spell_body f.body x)),
+      specification_adds (in_full f) f.specification (spell_initialisers f.initialisers (spell_body f.body [])),
       initialisers_adds f.initialisers (spell_body f.body x),
       initialisers_adds f.initialisers (spell_body f.body []),
       body_adds f.body x,
@@ -213,3 +223,50 @@ function_adds f x =
 
 pub function_some : (f : Function) → 1 ≤ length (spell_function f [])
 function_some f = omega (arith, result_adds f.kind f.result (named f.name ∷ mark sign.OpenParen ∷ rest_of f []))
+
+-- a function whose number of tokens is that of a spelling is spelled so
+
+-- what stands behind a function's parameters
+abbrev behind_params : Bool → Function → Spelling
+behind_params b f x = spell_specification b f.specification (spell_initialisers f.initialisers (spell_body f.body x))
+
+-- a `noexcept` that is true
+abbrev IsQuiet : Option Specification → Type 0
+IsQuiet o = (place : ℕ) × (o ≡ Some (noexcept place true))
+
+spelled_alike : (b c : Bool) (o : Option Specification) → ((y : List Piece) → spell_specification b o y ≡ spell_specification c o y) ⊎ IsQuiet o
+spelled_alike b c None = inl (λ y. refl)
+spelled_alike b c (Some (listed tys)) = inl (λ y. refl)
+spelled_alike b c (Some (noexcept place false)) = inl (λ y. refl)
+spelled_alike b c (Some (noexcept place true)) = inr (place, refl)
+
+head_adds : (f : Function) (y : List Piece) → length (spell_result f.kind f.result (named f.name ∷ mark sign.OpenParen ∷ spell_params f.parameters (mark sign.CloseParen ∷ y)))
+    ≡ length (spell_result f.kind f.result []) + length (spell_params f.parameters []) + 3 + length y
+head_adds f y =
+    omega (
+      arith,
+      result_adds f.kind f.result (named f.name ∷ mark sign.OpenParen ∷ spell_params f.parameters (mark sign.CloseParen ∷ y)),
+      params_adds f.parameters (mark sign.CloseParen ∷ y),
+    )
+
+-- in full it has three tokens more
+three_more : (f : Function) → IsQuiet f.specification → length (spell_function_as true f []) ≡ length (spell_function_as false f []) + 3
+three_more f (place, e) =
+    let rest = spell_initialisers f.initialisers (spell_body f.body []) in
+    let full : length (behind_params true f []) ≡ length rest + 4 = ap (λ o. length (spell_specification true o rest)) e ∙ omega arith in
+    let short : length (behind_params false f []) ≡ length rest + 1 = ap (λ o. length (spell_specification false o rest)) e ∙ omega arith in
+    omega (arith, head_adds f (behind_params true f []), head_adds f (behind_params false f []), full, short)
+
+told : (b : Bool) (f : Function) → IsQuiet f.specification → f.tokens ≡ length (spell_function_as b f []) → in_full f ≡ b
+unfolding in_full
+told true f q e = grind (arith, nat_tests, e)
+told false f q e = let more = three_more f q in grind (arith, nat_tests, e, more)
+
+pub as_written : (b : Bool) (f : Function) → f.tokens ≡ length (spell_function_as b f []) → (x : List Piece) → spell_function_as b f x ≡ spell_function f x
+as_written b f e x = go (spelled_alike b (in_full f) f.specification)
+  where
+    go : ((y : List Piece) → spell_specification b f.specification y ≡ spell_specification (in_full f) f.specification y) ⊎ IsQuiet f.specification → spell_function_as b f x ≡ spell_function f x
+    go (inl h) =
+        ap (λ y. spell_result f.kind f.result (named f.name ∷ mark sign.OpenParen ∷ spell_params f.parameters (mark sign.CloseParen ∷ y)))
+        (h (spell_initialisers f.initialisers (spell_body f.body x)))
+    go (inr q) = ap (λ c. spell_function_as c f x) (sym (told b f q e))

@@ -12,10 +12,10 @@ use Rattle.cxx_parser.specs.Contexts.{InType, of_program, of_specification, of_c
 use Rattle.cxx_parser.specs.Reading.{feed}
 use Rattle.cxx_parser.proofs.Runs.{passed, runs, goes, state_same, passed_on}
 use Rattle.cxx_parser.proofs.Spelled.{IsSpelled}
-use Rattle.cxx_parser.specs.States.{State, expect, want_name, want_operand, have_operand, have_expression, after_path, have_path, after_open, have_argument, after_const, after_value_type, have_type, want_listed, have_listed, have_types, want_caught, have_caught, want_statement, want_simple, want_plain, want_named, in_statements, have_statement, after_jump, after_first_name, after_only_name, after_int, after_int_name, after_object_name, after_handler, after_params_open, want_param, have_param, after_params, after_throw_open, have_signature, have_initialiser, after_declared, after_class_name, after_class_colon, in_class, want_member, after_member_name, after_assign, after_minus, want_declaration, Step, stops, leads, within}
+use Rattle.cxx_parser.specs.States.{State, expect, want_name, want_operand, have_operand, have_expression, after_path, have_path, after_open, have_argument, after_const, after_value_type, have_type, want_listed, have_listed, have_types, want_caught, have_caught, want_statement, want_simple, want_plain, want_named, in_statements, have_statement, after_jump, after_first_name, after_only_name, after_int, after_int_name, after_object_name, after_handler, after_params_open, want_param, have_param, after_params, after_throw_open, after_noexcept, after_noexcept_open, have_signature, have_initialiser, after_declared, after_class_name, after_class_colon, in_class, want_member, after_member_name, after_assign, after_minus, want_declaration, Step, stops, leads, within}
 use Rattle.cxx_parser.specs.Types.{feed_value_type}
 use Rattle.cxx_parser.proofs.Held.{Fits, after, AtHolder, Holds}
-use Rattle.cxx_parser.proofs.KeepsDeclarations.{feed_signature-holds, feed_initialiser-holds, feed_params_open-holds, feed_params-holds, feed_throw_open-holds, feed_name-holds, feed_declared-holds, feed_minus-holds, feed_assign-holds, feed_class_name-holds, feed_class_colon-holds, feed_member_name-holds, begin_member-holds, feed_member-holds, begin_declaration-holds}
+use Rattle.cxx_parser.proofs.KeepsDeclarations.{feed_signature-holds, feed_initialiser-holds, feed_params_open-holds, feed_params-holds, feed_throw_open-holds, feed_noexcept-holds, feed_noexcept_open-holds, feed_name-holds, feed_declared-holds, feed_minus-holds, feed_assign-holds, feed_class_name-holds, feed_class_colon-holds, feed_member_name-holds, begin_member-holds, feed_member-holds, begin_declaration-holds}
 use Rattle.cxx_parser.proofs.KeepsExpressions.{feed_argument-holds, feed_expression-holds, feed_operand-holds, feed_path-holds, feed_names-holds, begin_operand-holds, feed_open-holds}
 use Rattle.cxx_parser.proofs.KeepsFunctions.{body_holds}
 use Rattle.cxx_parser.proofs.KeepsStatements.{begin_statement-holds, begin_simple-holds, begin_plain-holds, begin_named-holds, feed_block-holds, feed_statement-holds, feed_handler-holds, feed_jump-holds, feed_only_name-holds, feed_first_name-holds, feed_int-holds, feed_int_name-holds, feed_object_name-holds}
@@ -67,6 +67,8 @@ feed-holds n F t (want_param ps h) w = begin_param-holds n F t ps h w
 feed-holds n F t (have_param ps h) w = feed_param-holds n F t ps h w
 feed-holds n F t (after_params ps h) w = feed_params-holds n F t ps h w
 feed-holds n F t (after_throw_open ps h) w = feed_throw_open-holds n F t ps h w
+feed-holds n F t (after_noexcept place ps h) w = feed_noexcept-holds n F t place ps h w
+feed-holds n F t (after_noexcept_open place ps h) w = feed_noexcept_open-holds n F t place ps h w
 feed-holds n F t (have_signature s) w = feed_signature-holds n F t s w
 feed-holds n F t (have_initialiser s) w = feed_initialiser-holds n F t s w
 feed-holds n F t (after_declared m start h) w = feed_declared-holds n F t m start h w

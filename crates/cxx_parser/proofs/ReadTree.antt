@@ -12,11 +12,11 @@ use Rattle.cxx_parser.specs.Contexts.{of_specification, of_caught, of_const_caug
 use Rattle.cxx_parser.specs.Reading.{feed}
 use Rattle.cxx_parser.specs.Signs.{is_kind}
 use Rattle.cxx_parser.proofs.Spelled.{IsCounted, AreCounted}
-use Rattle.cxx_parser.specs.States.{State, expect, want_name, want_operand, have_operand, have_expression, after_path, have_path, after_open, have_argument, after_const, after_value_type, have_type, want_listed, have_listed, have_types, want_caught, have_caught, want_statement, want_simple, want_plain, want_named, in_statements, have_statement, after_jump, after_first_name, after_only_name, after_int, after_int_name, after_object_name, after_handler, after_params_open, want_param, have_param, after_params, after_throw_open, have_signature, have_initialiser, after_declared, after_class_name, after_class_colon, in_class, want_member, after_member_name, after_assign, after_minus, want_declaration, Step, stops, leads, within}
+use Rattle.cxx_parser.specs.States.{State, expect, want_name, want_operand, have_operand, have_expression, after_path, have_path, after_open, have_argument, after_const, after_value_type, have_type, want_listed, have_listed, have_types, want_caught, have_caught, want_statement, want_simple, want_plain, want_named, in_statements, have_statement, after_jump, after_first_name, after_only_name, after_int, after_int_name, after_object_name, after_handler, after_params_open, want_param, have_param, after_params, after_throw_open, after_noexcept, after_noexcept_open, have_signature, have_initialiser, after_declared, after_class_name, after_class_colon, in_class, want_member, after_member_name, after_assign, after_minus, want_declaration, Step, stops, leads, within}
 use Rattle.cxx_parser.proofs.ReadSpelled.{runs_spelled}
 use Rattle.cxx_parser.proofs.Runs.{passed, runs, goes, state_same, passed_on}
 use Rattle.cxx_parser.proofs.Sound.{IsSoundFunction, IsSoundMember, IsSoundDeclaration, Sound}
-use Rattle.cxx_parser.proofs.SoundDeclarations.{body_sound, feed_signature-sound, feed_initialiser-sound, feed_params_open-sound, feed_params-sound, feed_throw_open-sound, feed_name-sound, feed_declared-sound, feed_minus-sound, feed_assign-sound, feed_class_name-sound, feed_class_colon-sound, feed_member_name-sound, feed_member-sound, begin_declaration-sound}
+use Rattle.cxx_parser.proofs.SoundDeclarations.{body_sound, feed_signature-sound, feed_initialiser-sound, feed_params_open-sound, feed_params-sound, feed_throw_open-sound, feed_noexcept-sound, feed_noexcept_open-sound, feed_name-sound, feed_declared-sound, feed_minus-sound, feed_assign-sound, feed_class_name-sound, feed_class_colon-sound, feed_member_name-sound, feed_member-sound, begin_declaration-sound}
 use Rattle.cxx_parser.proofs.SoundExpressions.{feed_argument-sound, feed_expression-sound, feed_operand-sound, feed_names-sound, begin_operand-sound, feed_open-sound}
 use Rattle.cxx_parser.proofs.SoundStatements.{begin_statement-sound, feed_block-sound, have_statement-sound, feed_handler-sound, feed_jump-sound, feed_first_name-sound, feed_int-sound, feed_int_name-sound, feed_object_name-sound}
 use Rattle.cxx_parser.proofs.SoundSteps.{Wherever, on_mark_sound}
@@ -62,6 +62,8 @@ feed-sound limit big n t (want_param ps h) w = begin_param-sound limit t ps h w
 feed-sound limit big n t (have_param ps h) w = feed_param-sound limit t ps h w
 feed-sound limit big n t (after_params ps h) w = feed_params-sound limit big n t ps h w
 feed-sound limit big n t (after_throw_open ps h) w = feed_throw_open-sound limit t ps h w
+feed-sound limit big n t (after_noexcept place ps h) w = feed_noexcept-sound limit big n t place ps h w
+feed-sound limit big n t (after_noexcept_open place ps h) w = feed_noexcept_open-sound limit t place ps h w
 feed-sound limit big n t (have_signature s) w = feed_signature-sound limit big n t s w
 feed-sound limit big n t (have_initialiser s) w = feed_initialiser-sound limit t s w
 feed-sound limit big n t (after_declared m start h) w = feed_declared-sound limit t m start h w

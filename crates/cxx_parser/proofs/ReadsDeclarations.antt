@@ -1,4 +1,5 @@
 -- Declarations that are spelled are read.
+use Rattle.cxx_ast.specs.Written.{in_full}
 use Rattle.std.specs.Prelude.{ℕ, suc, ◌+◌, ◌-◌, ◌≡◌, ◌≤◌, ℤ, pos, negsuc, neg_ℤ, Bool, true, false, List, [], ◌∷◌, ◌++◌, Option, Some, None, length, map, refl}
 use Rattle.std.proofs.Common.{ap, sym, ◌∙◌, subst, arith, append_assoc}
 use Rattle.std.proofs.lemmas.List.{append-nil}
@@ -97,7 +98,7 @@ module _ (limit total : ℕ) where
   reads_destructor : (f : Function) → IsFunction f → f.kind ≡ Destructor → f.result ≡ Void → f.parameters ≡ [] → (c : OpenClass) (x : List Piece) → below_function f + 1 ≤ limit → Leads limit total (mark sign.Tilde ∷ spell_function f x) (in_class c) x (in_class (with_function c f))
   unfolding feed
   reads_destructor f g k r p c x l =
-      let tail : List Piece = spell_specification f.specification (spell_initialisers f.initialisers (spell_body f.body x)) in
+      let tail : List Piece = spell_specification (in_full f) f.specification (spell_initialisers f.initialisers (spell_body f.body x)) in
       let pieces : spell_function f x ≡ named f.name ∷ mark sign.OpenParen ∷ mark sign.CloseParen ∷ tail =
       ap (λ (q : FuncKind). spell_result q f.result (named f.name ∷ mark sign.OpenParen ∷ rest_of f x)) k ∙ ap (λ (q : List Param). named f.name ∷ mark sign.OpenParen ∷ spell_params q (mark sign.CloseParen ∷ tail)) p in
       let at : ℕ = total - length (named f.name ∷ mark sign.OpenParen ∷ mark sign.CloseParen ∷ tail) in

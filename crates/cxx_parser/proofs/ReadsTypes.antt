@@ -1,4 +1,5 @@
 -- Types, parameters and what handlers catch are read where they are spelled.
+use Rattle.cxx_ast.specs.Plain.{listed}
 use Rattle.std.specs.Prelude.{ℕ, ◌≡◌, Bool, true, false, List, [], ◌∷◌, ◌++◌, codes, bytes_eq, Option, Some, None, refl}
 use Rattle.std.proofs.Common.{ap, sym, ◌∙◌, subst, arith, append_assoc}
 use Rattle.std.proofs.lemmas.List.{append-nil}
@@ -197,21 +198,21 @@ module _ (limit total : ℕ) where
   reads_listed (ObjectRef const m) g L x = absurd g
 
   -- further types of a specification
-  reads_more_types : (tys : List Ty) → Each IsListedType tys → (ty : Ty) (given : List Ty) (ps : List Param) (h : Heading) (x : List Piece) → Leads limit total (spell_more_types tys (mark sign.CloseParen ∷ x)) (have_listed ty (of_specification given ps h)) x (have_signature (record { heading = h; parameters = ps; specification = Some (given ++ (ty ∷ tys)); initialisers = [] }))
+  reads_more_types : (tys : List Ty) → Each IsListedType tys → (ty : Ty) (given : List Ty) (ps : List Param) (h : Heading) (x : List Piece) → Leads limit total (spell_more_types tys (mark sign.CloseParen ∷ x)) (have_listed ty (of_specification given ps h)) x (have_signature (record { heading = h; parameters = ps; specification = Some (listed (given ++ (ty ∷ tys))); in_full = false; initialisers = [] }))
   unfolding feed
   reads_more_types [] g ty given ps h x =
-      kind_leads (kind.Mark sign.CloseParen) (have_listed ty (of_specification given ps h)) (have_signature (record { heading = h; parameters = ps; specification = Some (given ++ (ty ∷ [])); initialisers = [] })) (λ n place i. refl)
+      kind_leads (kind.Mark sign.CloseParen) (have_listed ty (of_specification given ps h)) (have_signature (record { heading = h; parameters = ps; specification = Some (listed (given ++ (ty ∷ []))); in_full = false; initialisers = [] })) (λ n place i. refl)
   reads_more_types (u ∷ tys) g ty given ps h x =
       next (kind_leads (kind.Mark sign.Comma) (have_listed ty (of_specification given ps h)) (want_listed (of_specification (given ++ (ty ∷ [])) ps h)) (λ n place i. refl))
       (next (reads_listed u g.0 (of_specification (given ++ (ty ∷ [])) ps h) (spell_more_types tys (mark sign.CloseParen ∷ x)))
-      (ends_as (have_signature (record { heading = h; parameters = ps; specification = Some (given ++ (ty ∷ u ∷ tys)); initialisers = [] }))
-      (ap (λ q. have_signature (record { heading = h; parameters = ps; specification = Some q; initialisers = [] })) (append_assoc given (ty ∷ []) (u ∷ tys)))
+      (ends_as (have_signature (record { heading = h; parameters = ps; specification = Some (listed (given ++ (ty ∷ u ∷ tys))); in_full = false; initialisers = [] }))
+      (ap (λ q. have_signature (record { heading = h; parameters = ps; specification = Some (listed q); in_full = false; initialisers = [] })) (append_assoc given (ty ∷ []) (u ∷ tys)))
       (reads_more_types tys g.1 u (given ++ (ty ∷ [])) ps h x)))
 
   -- the types of a specification
-  pub reads_types : (tys : List Ty) → Each IsListedType tys → (ps : List Param) (h : Heading) (x : List Piece) → Leads limit total (spell_types tys (mark sign.CloseParen ∷ x)) (after_throw_open ps h) x (have_signature (record { heading = h; parameters = ps; specification = Some tys; initialisers = [] }))
+  pub reads_types : (tys : List Ty) → Each IsListedType tys → (ps : List Param) (h : Heading) (x : List Piece) → Leads limit total (spell_types tys (mark sign.CloseParen ∷ x)) (after_throw_open ps h) x (have_signature (record { heading = h; parameters = ps; specification = Some (listed tys); in_full = false; initialisers = [] }))
   unfolding feed
-  reads_types [] g ps h x = kind_leads (kind.Mark sign.CloseParen) (after_throw_open ps h) (have_signature (record { heading = h; parameters = ps; specification = Some []; initialisers = [] })) (λ n place i. refl)
+  reads_types [] g ps h x = kind_leads (kind.Mark sign.CloseParen) (after_throw_open ps h) (have_signature (record { heading = h; parameters = ps; specification = Some (listed []); in_full = false; initialisers = [] })) (λ n place i. refl)
   reads_types (ty ∷ tys) g ps h x =
       alike NoClose (after_throw_open ps h) (want_listed (of_specification [] ps h)) (type_opening ty (spell_more_types tys (mark sign.CloseParen ∷ x))) (λ n t q. throw_open_alike limit n t ps h q)
       (next (reads_listed ty g.0 (of_specification [] ps h) (spell_more_types tys (mark sign.CloseParen ∷ x))) (reads_more_types tys g.1 ty [] ps h x))

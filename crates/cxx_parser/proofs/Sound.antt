@@ -6,11 +6,11 @@ use Rattle.cxx_ast.specs.declared.types.Ty.{Ty}
 use Rattle.cxx_ast.specs.declared.types.Ty.TheVariants.{Int, Void}
 use Rattle.cxx_ast.specs.declared.types.Param.{Param}
 use Rattle.cxx_ast.specs.Depth.{below_expression, below_expressions, below_statement, below_statements, below_function}
-use Rattle.cxx_ast.specs.Grammatical.{Each, NotEmpty, Where, There, IsReference, IsParamType, IsParam, IsListedType, IsCaught, IsExpression, IsStatement, AreStatements, is_local, ends_open, IsResult, IsInitialiser, HasForm, IsDataMember, IsMemberKind}
+use Rattle.cxx_ast.specs.Grammatical.{Each, NotEmpty, Where, There, IsReference, IsParamType, IsParam, IsListedType, IsSpecification, IsCaught, IsExpression, IsStatement, AreStatements, is_local, ends_open, IsResult, IsInitialiser, HasForm, IsDataMember, IsMemberKind}
 use Rattle.cxx_ast.specs.Operator.{binary_level, level}
 use Rattle.cxx_ast.specs.Plain.{Expression, Statement, Initialiser, Function, Declaration, class_declaration, global_declaration, function_declaration}
 use Rattle.cxx_parser.specs.Contexts.{Holder, of_program, of_class, Heading, Signature, Caught, InStatement, in_then, in_else, in_while, in_block, InBlock, of_block, of_try, of_handler, of_function, InTry, in_try, InJump, of_return, of_throw, Pending, before_operand, behind_operand, InExpression, in_paren, in_argument, in_if_test, in_while_test, in_jump, in_assign, in_local_int, InCall, of_call, of_std_call, of_call_statement, of_std_call_statement, of_object, of_initialiser, InPath, of_operand, of_statement, of_reference, InType, of_param, of_local, InListed, of_specification, of_caught, of_const_caught, InName, of_path, of_std_operand, of_std_statement, of_referred, of_int, of_void, of_destructor, of_class_name, of_base, of_initialised}
-use Rattle.cxx_parser.specs.States.{State, expect, want_name, want_operand, have_operand, have_expression, after_path, have_path, after_open, have_argument, after_const, after_value_type, have_type, want_listed, have_listed, have_types, want_caught, have_caught, want_statement, want_simple, want_plain, want_named, in_statements, have_statement, after_jump, after_first_name, after_only_name, after_int, after_int_name, after_object_name, after_handler, after_params_open, want_param, have_param, after_params, after_throw_open, have_signature, have_initialiser, after_declared, after_class_name, after_class_colon, in_class, want_member, after_member_name, after_assign, after_minus, want_declaration}
+use Rattle.cxx_parser.specs.States.{State, expect, want_name, want_operand, have_operand, have_expression, after_path, have_path, after_open, have_argument, after_const, after_value_type, have_type, want_listed, have_listed, have_types, want_caught, have_caught, want_statement, want_simple, want_plain, want_named, in_statements, have_statement, after_jump, after_first_name, after_only_name, after_int, after_int_name, after_object_name, after_handler, after_params_open, want_param, have_param, after_params, after_throw_open, after_noexcept, after_noexcept_open, have_signature, have_initialiser, after_declared, after_class_name, after_class_colon, in_class, want_member, after_member_name, after_assign, after_minus, want_declaration}
 use Rattle.cxx_parser.specs.Signs.{is_kind}
 use Rattle.cxx_parser.specs.Statements.{takes_locals, named_depth}
 
@@ -84,7 +84,7 @@ BelongsTo k (of_class c) = IsMemberKind k
 pub record IsSoundFunction (limit : ℕ) (f : Function) : Type 0 where
   pub form : HasForm f.kind f
   pub parameters : Each IsParam f.parameters
-  pub specification : Where (Each IsListedType) f.specification
+  pub specification : Where IsSpecification f.specification
   pub initialisers : Each IsInitialiser f.initialisers
   pub body : Where AreStatements f.body
   pub shallow : below_function f + 1 ≤ limit
@@ -117,7 +117,7 @@ HasParts _ s = s.initialisers ≡ []
 pub record SoundSignature (limit : ℕ) (s : Signature) : Type 0 where
   pub heading : SoundHeading limit s.heading
   pub parameters : Each IsParam s.parameters
-  pub specification : Where (Each IsListedType) s.specification
+  pub specification : Where IsSpecification s.specification
   pub initialisers : Each (InitialiserFits limit) s.initialisers
   pub parts : HasParts s.heading.kind s
 
@@ -273,6 +273,8 @@ Sound limit (want_param ps h) = Each IsParam ps × SoundHeading limit h × (h.ki
 Sound limit (have_param ps h) = Each IsParam ps × SoundHeading limit h × (h.kind ≡ Destructor → ⊥)
 Sound limit (after_params ps h) = SoundParams limit ps h
 Sound limit (after_throw_open ps h) = SoundParams limit ps h
+Sound limit (after_noexcept place ps h) = SoundParams limit ps h
+Sound limit (after_noexcept_open place ps h) = SoundParams limit ps h
 Sound limit (have_signature s) = SoundSignature limit s × (s.initialisers ≡ [])
 Sound limit (have_initialiser s) = SoundSignature limit s × (s.heading.kind ≡ Constructor)
 Sound limit (after_declared n start h) = SoundHolder limit h

@@ -1,5 +1,6 @@
 -- What is read of functions, classes and declarations is grammatical and not too deep, with a token more.
-use Rattle.std.specs.Prelude.{ℕ, ◌+◌, ◌≡◌, ◌≤◌, ◌⊎◌, ℤ, neg_ℤ, Bool, true, false, List, [], ◌∷◌, ◌++◌, Some, None, refl, if◌then◌else◌}
+use Rattle.cxx_ast.specs.Plain.{listed}
+use Rattle.std.specs.Prelude.{ℕ, ◌+◌, ◌≡◌, ◌≤◌, ◌⊎◌, ℤ, neg_ℤ, Bool, true, false, codes, List, [], ◌∷◌, ◌++◌, Some, None, refl, if◌then◌else◌}
 use Rattle.std.proofs.Common.{inl, inr, ap, sym, ◌∙◌, subst, arith}
 use Rattle.cxx_ast.specs.declared.declaration.FuncKind.{FuncKind}
 use Rattle.cxx_ast.specs.declared.declaration.FuncKind.TheVariants.{Plain, Method, Constructor, Destructor}
@@ -18,9 +19,9 @@ use Rattle.cxx_ast.specs.Spelling.{is_bad_exception}
 use Rattle.cxx_parser.specs.Classes.{kind_in, with_member, closed_class, have_name, feed_name, feed_variable, feed_declared, have_value, feed_minus, feed_assign, feed_class_name, feed_class_colon, feed_member_name, begin_member, feed_member, begin_declaration}
 use Rattle.cxx_parser.specs.Contexts.{OpenClass, Holder, of_program, of_class, Heading, Signature, of_specification, InName, of_path, of_std_operand, of_std_statement, of_referred, of_int, of_void, of_destructor, of_class_name, of_base, of_initialised}
 use Rattle.cxx_parser.specs.Expressions.{on_mark}
-use Rattle.cxx_parser.specs.Functions.{function_from, may_end, takes_initialisers, have_function, have_body, feed_signature, feed_initialiser, feed_params_open, feed_params, feed_throw_open}
-use Rattle.cxx_parser.specs.Signs.{is_mark, is_word, name_of}
-use Rattle.cxx_parser.specs.States.{expect, after_params_open, after_params, after_throw_open, have_signature, have_initialiser, after_declared, after_class_name, after_class_colon, in_class, after_member_name, after_assign, after_minus, want_declaration, want_name, stops, leads, unless}
+use Rattle.cxx_parser.specs.Functions.{function_from, may_end, takes_initialisers, have_function, have_body, feed_signature, feed_initialiser, feed_params_open, feed_params, quiet, feed_noexcept, feed_noexcept_open, feed_throw_open}
+use Rattle.cxx_parser.specs.Signs.{is_mark, is_name, is_word, name_of}
+use Rattle.cxx_parser.specs.States.{expect, after_params_open, after_params, after_throw_open, after_noexcept, after_noexcept_open, have_signature, have_initialiser, after_declared, after_class_name, after_class_colon, in_class, after_member_name, after_assign, after_minus, want_declaration, want_name, stops, leads, unless}
 use Rattle.cxx_parser.specs.Stored.{statements_from}
 use Rattle.cxx_parser.proofs.Sound.{StatementAt, HasBeginning, BelongsTo, IsSoundFunction, IsSoundMember, IsSoundDeclaration, SoundHolder, InitialiserFits, HasParts, SoundSignature, SoundParams, Sound}
 use Rattle.cxx_parser.proofs.SoundExpressions.{each_last}
@@ -106,18 +107,32 @@ feed_initialiser-sound limit t s g = if_sound limit (Sound limit) (is_mark sign.
 pub feed_params_open-sound : (limit : ℕ) → (t : Token) (h : Heading) → Sound limit (after_params_open h) → Wherever limit (Sound limit) (feed_params_open t h)
 feed_params_open-sound limit t h s = if_sound limit (Sound limit) (is_mark sign.CloseParen t.kind) _ _ (tt, s.0, λ d. refl) (begin_param-sound limit t [] h (tt, s.0, s.1))
 
-plain_signature : (limit : ℕ) → (ps : List Param) (h : Heading) → SoundParams limit ps h → Sound limit (have_signature (record { heading = h; parameters = ps; specification = None; initialisers = [] }))
+plain_signature : (limit : ℕ) → (ps : List Param) (h : Heading) → SoundParams limit ps h → Sound limit (have_signature (record { heading = h; parameters = ps; specification = None; in_full = false; initialisers = [] }))
 plain_signature limit ps h s =
-    (record { heading = s.1; parameters = s.0; specification = tt; initialisers = tt; parts = parts_of h.kind (record { heading = h; parameters = ps; specification = None; initialisers = [] }) refl s.2 }, refl)
+    (record { heading = s.1; parameters = s.0; specification = tt; initialisers = tt; parts = parts_of h.kind (record { heading = h; parameters = ps; specification = None; in_full = false; initialisers = [] }) refl s.2 }, refl)
 
 pub feed_params-sound : (limit : ℕ) → 2 ≤ limit → (n : ℕ) (t : Token) (ps : List Param) (h : Heading) → Sound limit (after_params ps h) → Wherever limit (Sound limit) (feed_params n t ps h)
 feed_params-sound limit big n t ps h s =
-    if_sound limit (Sound limit) (is_word keyword.Throw t.kind) _ _ (refl, s) (feed_signature-sound limit big n t (record { heading = h; parameters = ps; specification = None; initialisers = [] }) (plain_signature limit ps h s))
+    if_sound limit (Sound limit) (is_word keyword.Throw t.kind) _ _ (refl, s) (if_sound limit (Sound limit) (is_name (codes "noexcept") t.kind) _ _ s
+    (feed_signature-sound limit big n t (record { heading = h; parameters = ps; specification = None; in_full = false; initialisers = [] }) (plain_signature limit ps h s)))
+
+quiet_signature : (limit place : ℕ) (b is_true : Bool) (ps : List Param) (h : Heading) → SoundParams limit ps h → Sound limit (have_signature (quiet place b is_true ps h))
+quiet_signature limit place b is_true ps h s =
+    (record { heading = s.1; parameters = s.0; specification = tt; initialisers = tt; parts = parts_of h.kind (quiet place b is_true ps h) refl s.2 }, refl)
+
+pub feed_noexcept-sound : (limit : ℕ) → 2 ≤ limit → (n : ℕ) (t : Token) (place : ℕ) (ps : List Param) (h : Heading) → Sound limit (after_noexcept place ps h) → Wherever limit (Sound limit) (feed_noexcept n t place ps h)
+feed_noexcept-sound limit big n t place ps h s =
+    if_sound limit (Sound limit) (is_mark sign.OpenParen t.kind) _ _ s (feed_signature-sound limit big n t (quiet place false true ps h) (quiet_signature limit place false true ps h s))
+
+pub feed_noexcept_open-sound : (limit : ℕ) → (t : Token) (place : ℕ) (ps : List Param) (h : Heading) → Sound limit (after_noexcept_open place ps h) → Wherever limit (Sound limit) (feed_noexcept_open t place ps h)
+feed_noexcept_open-sound limit t place ps h s =
+    if_sound limit (Sound limit) (is_word keyword.True t.kind) _ _ (refl, quiet_signature limit place true true ps h s)
+    (if_sound limit (Sound limit) (is_word keyword.False t.kind) _ _ (refl, quiet_signature limit place false false ps h s) tt)
 
 pub feed_throw_open-sound : (limit : ℕ) → (t : Token) (ps : List Param) (h : Heading) → Sound limit (after_throw_open ps h) → Wherever limit (Sound limit) (feed_throw_open t ps h)
 feed_throw_open-sound limit t ps h s =
     if_sound limit (Sound limit) (is_mark sign.CloseParen t.kind) _ _
-    (record { heading = s.1; parameters = s.0; specification = tt; initialisers = tt; parts = parts_of h.kind (record { heading = h; parameters = ps; specification = Some []; initialisers = [] }) refl s.2 }, refl)
+    (record { heading = s.1; parameters = s.0; specification = tt; initialisers = tt; parts = parts_of h.kind (record { heading = h; parameters = ps; specification = Some (listed []); in_full = false; initialisers = [] }) refl s.2 }, refl)
     (begin_listed-sound limit t (of_specification [] ps h) tt (tt, s.0, s.1, s.2))
 
 -- a name that must come

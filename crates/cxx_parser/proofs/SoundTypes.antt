@@ -1,4 +1,5 @@
 -- What is read of types and parameters is grammatical, with a token more.
+use Rattle.cxx_ast.specs.Plain.{listed}
 use Rattle.std.specs.Prelude.{ℕ, ◌≡◌, Bool, true, false, List, [], ◌∷◌, ◌++◌, Option, Some, None, refl, if◌then◌else◌}
 use Rattle.std.proofs.Common.{sym, ◌∙◌, subst}
 use Rattle.cxx_ast.specs.declared.declaration.FuncKind.TheVariants.{Plain, Method, Constructor, Destructor}
@@ -116,9 +117,9 @@ parts_of Constructor s i f = tt
 parts_of Destructor s i f = (i, f refl)
 
 -- a token behind the types of a specification
-signature_sound : (limit : ℕ) → (h : Heading) (ps : List Param) (tys : List Ty) → Each IsListedType tys → SoundParams limit ps h → Sound limit (have_signature (record { heading = h; parameters = ps; specification = Some tys; initialisers = [] }))
+signature_sound : (limit : ℕ) → (h : Heading) (ps : List Param) (tys : List Ty) → Each IsListedType tys → SoundParams limit ps h → Sound limit (have_signature (record { heading = h; parameters = ps; specification = Some (listed tys); in_full = false; initialisers = [] }))
 signature_sound limit h ps tys e s =
-    (record { heading = s.1; parameters = s.0; specification = e; initialisers = tt; parts = parts_of h.kind (record { heading = h; parameters = ps; specification = Some tys; initialisers = [] }) refl s.2 }, refl)
+    (record { heading = s.1; parameters = s.0; specification = e; initialisers = tt; parts = parts_of h.kind (record { heading = h; parameters = ps; specification = Some (listed tys); in_full = false; initialisers = [] }) refl s.2 }, refl)
 
 pub feed_types-sound : (limit : ℕ) → (t : Token) (tys : List Ty) (ps : List Param) (h : Heading) → Each IsListedType tys × SoundParams limit ps h → Wherever limit (Sound limit) (feed_types t tys ps h)
 feed_types-sound limit t tys ps h s =

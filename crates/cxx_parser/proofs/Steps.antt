@@ -58,6 +58,13 @@ if_word Q w t x y f g = go (is_word w t.kind) refl
     go true e = f (word_is w t.kind e)
     go false e = g
 
+pub if_name : (Q : State → Type 1) (text : List ℕ) (t : Token) (x y : Step) → (t.kind ≡ kind.Name text → Where Q x) → Where Q y → Where Q (if is_name text t.kind then x else y)
+if_name Q text t x y f g = go (is_name text t.kind) refl
+  where
+    go : (b : Bool) → is_name text t.kind ≡ b → Where Q (if b then x else y)
+    go true e = f (name_is text t.kind e)
+    go false e = g
+
 -- a token of a kind stands at its place
 pub placed_is : (t : Token) (k : TokenKind) → t.kind ≡ k → t ≡ record { kind = k; place = t.place }
 placed_is t k e = ap (λ j. put j) e

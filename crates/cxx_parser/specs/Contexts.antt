@@ -1,12 +1,12 @@
 -- What waits for the part that is being read, with what was read of it so far. A bare number is a depth or a place, as its comment says.
-use Rattle.std.specs.Prelude.{ℕ, List, Option}
+use Rattle.std.specs.Prelude.{ℕ, Bool, List, Option}
 use Rattle.cxx_ast.specs.declared.expression.UnaryOp.{UnaryOp}
 use Rattle.cxx_ast.specs.declared.expression.BinaryOp.{BinaryOp}
 use Rattle.cxx_ast.specs.declared.declaration.FuncKind.{FuncKind}
 use Rattle.cxx_ast.specs.declared.name.Name.{Name}
 use Rattle.cxx_ast.specs.declared.types.Ty.{Ty}
 use Rattle.cxx_ast.specs.declared.types.Param.{Param}
-use Rattle.cxx_ast.specs.Plain.{Expression, Statement, Statements, Initialiser, Function, Declaration}
+use Rattle.cxx_ast.specs.Plain.{Expression, Statement, Statements, Initialiser, Specification, Function, Declaration}
 
 -- a class whose members are being read, and the declarations before it
 pub record OpenClass : Type 0 where
@@ -29,11 +29,12 @@ pub record Heading : Type 0 where
   pub start : ℕ
   pub holder : Holder
 
--- what stands before a function's body
+-- what stands before a function's body, and whether `(true)` stands behind a `noexcept`
 pub record Signature : Type 0 where
   pub heading : Heading
   pub parameters : List Param
-  pub specification : Option (List Ty)
+  pub specification : Option Specification
+  pub in_full : Bool
   pub initialisers : List Initialiser
 
 -- a handler that was read, with its place

@@ -25,7 +25,7 @@ have_jump value (of_throw place C) = have_statement (throw place value) C
 
 -- what stands before a body, with a further initialiser
 abbrev pub with_initialiser : Signature → Initialiser → Signature
-with_initialiser s i = record { heading = s.heading; parameters = s.parameters; specification = s.specification; initialisers = s.initialisers ++ (i ∷ []) }
+with_initialiser s i = record { heading = s.heading; parameters = s.parameters; specification = s.specification; in_full = s.in_full; initialisers = s.initialisers ++ (i ∷ []) }
 
 -- the arguments of a call were read
 abbrev pub have_arguments : List Expression → InCall → State

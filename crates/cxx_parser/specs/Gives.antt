@@ -4,9 +4,10 @@ use Rattle.cxx_ast.specs.declared.expression.BinaryOp.{BinaryOp}
 use Rattle.cxx_ast.specs.declared.name.Name.{Name}
 use Rattle.cxx_ast.specs.declared.token.Token.{Token}
 use Rattle.cxx_ast.specs.declared.token.TokenKind.{TokenKind}
+use Rattle.cxx_ast.specs.declared.token.TokenKind.TheVariants as kind
 use Rattle.cxx_ast.specs.Limits.{most_depth}
 use Rattle.cxx_ast.specs.Operator.{binary_level}
-use Rattle.cxx_parser.specs.Signs.{is_kind, name_of, literal_of, operator_of, first_level}
+use Rattle.cxx_parser.specs.Signs.{is_kind, is_name, name_of, literal_of, operator_of, first_level}
 use Rattle.cxx_parser.specs.Reading.{Answer, unexpected, too_deep}
 use Rattle.cxx_parser.specs.declared.error.ParseError.{ParseError}
 use Rattle.cxx_parser.specs.declared.error.ParseError.TheVariants.{Unexpected, TooDeep, NoMemory}
@@ -72,6 +73,11 @@ first_name (t ∷ ts) = name_of t
 abbrev pub BehindName : List Token → Option (Name × List Token) → Type 0
 BehindName tokens None = first_name tokens ≡ None
 BehindName tokens (Some x) = (t : Token) × (tokens ≡ t ∷ x.1) × (name_of t ≡ Some x.0)
+
+-- a name with a text that tokens begin with, by its place, and others behind it, or no such name
+abbrev pub BehindNamed : List Token → List ℕ → Option (ℕ × List Token) → Type 0
+BehindNamed tokens text None = begins tokens (kind.Name text) ≡ false
+BehindNamed tokens text (Some x) = (t : Token) × (tokens ≡ t ∷ x.1) × (is_name text t.kind ≡ true) × (t.place ≡ x.0)
 
 -- the literal that tokens begin with
 abbrev pub first_literal : List Token → Option ℤ

@@ -4,11 +4,11 @@ use Rattle.cxx_ast.specs.declared.token.Token.{Token}
 use Rattle.cxx_ast.specs.Limits.{most_depth}
 use Rattle.cxx_ast.specs.Plain.{Program}
 use Rattle.cxx_parser.specs.Signs.{is_kind}
-use Rattle.cxx_parser.specs.States.{State, expect, want_name, want_operand, have_operand, have_expression, after_path, have_path, after_open, have_argument, after_const, after_value_type, have_type, want_listed, have_listed, have_types, want_caught, have_caught, want_statement, want_simple, want_plain, want_named, in_statements, have_statement, after_jump, after_first_name, after_only_name, after_int, after_int_name, after_object_name, after_handler, after_params_open, want_param, have_param, after_params, after_throw_open, have_signature, have_initialiser, after_declared, after_class_name, after_class_colon, in_class, want_member, after_member_name, after_assign, after_minus, want_declaration, Step, stops, leads, within}
+use Rattle.cxx_parser.specs.States.{State, expect, want_name, want_operand, have_operand, have_expression, after_path, have_path, after_open, have_argument, after_const, after_value_type, have_type, want_listed, have_listed, have_types, want_caught, have_caught, want_statement, want_simple, want_plain, want_named, in_statements, have_statement, after_jump, after_first_name, after_only_name, after_int, after_int_name, after_object_name, after_handler, after_params_open, want_param, have_param, after_params, after_throw_open, after_noexcept, after_noexcept_open, have_signature, have_initialiser, after_declared, after_class_name, after_class_colon, in_class, want_member, after_member_name, after_assign, after_minus, want_declaration, Step, stops, leads, within}
 use Rattle.cxx_parser.specs.Expressions.{on_mark, feed_expression, feed_operand, feed_path, feed_names, begin_operand, feed_open, feed_argument}
 use Rattle.cxx_parser.specs.Types.{feed_param, feed_type, feed_value_type, feed_const, begin_param, begin_listed, feed_caught, feed_listed, feed_types, begin_caught}
 use Rattle.cxx_parser.specs.Statements.{begin_statement, begin_simple, begin_plain, begin_named, feed_block, feed_statement, feed_handler, feed_jump, feed_only_name, feed_first_name, feed_int, feed_int_name, feed_object_name}
-use Rattle.cxx_parser.specs.Functions.{feed_signature, feed_initialiser, feed_params_open, feed_params, feed_throw_open}
+use Rattle.cxx_parser.specs.Functions.{feed_signature, feed_initialiser, feed_params_open, feed_params, feed_throw_open, feed_noexcept, feed_noexcept_open}
 use Rattle.cxx_parser.specs.Classes.{feed_name, feed_declared, feed_minus, feed_assign, feed_class_name, feed_class_colon, feed_member_name, feed_member, begin_member, begin_declaration}
 
 -- what a token does in a state, with so many tokens before it
@@ -48,6 +48,8 @@ feed at t (want_param ps h) = begin_param t ps h
 feed at t (have_param ps h) = feed_param t ps h
 feed at t (after_params ps h) = feed_params at t ps h
 feed at t (after_throw_open ps h) = feed_throw_open t ps h
+feed at t (after_noexcept place ps h) = feed_noexcept at t place ps h
+feed at t (after_noexcept_open place ps h) = feed_noexcept_open t place ps h
 feed at t (have_signature s) = feed_signature at t s
 feed at t (have_initialiser s) = feed_initialiser t s
 feed at t (after_declared n start h) = feed_declared t n start h

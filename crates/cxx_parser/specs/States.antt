@@ -64,6 +64,9 @@ pub data State : Type 0 where
   after_params : List Param → Heading → State
   -- `throw (` of a specification was read
   after_throw_open : List Param → Heading → State
+  -- `noexcept` was read at a place, and `(` may come; or that was read too, and `true` or `false` must come
+  after_noexcept : ℕ → List Param → Heading → State
+  after_noexcept_open : ℕ → List Param → Heading → State
   -- what stands before a body was read, but for initialisers, or with some
   have_signature : Signature → State
   have_initialiser : Signature → State

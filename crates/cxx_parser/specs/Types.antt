@@ -9,6 +9,7 @@ use Rattle.cxx_ast.specs.declared.token.TokenKind.TheVariants as kind
 use Rattle.cxx_ast.specs.declared.types.Ty.{Ty}
 use Rattle.cxx_ast.specs.declared.types.Ty.TheVariants.{Int, Object, IntRef, ObjectRef}
 use Rattle.cxx_ast.specs.declared.types.Param.{Param}
+use Rattle.cxx_ast.specs.Plain.{listed}
 use Rattle.cxx_parser.specs.Contexts.{Heading, InTry, in_try, of_handler, InType, of_param, of_local, InListed, of_specification, of_caught, of_const_caught, of_referred}
 use Rattle.cxx_parser.specs.Signs.{is_mark, is_word, name_of, class_of}
 use Rattle.cxx_parser.specs.States.{State, expect, want_name, after_const, after_value_type, have_type, want_listed, have_listed, have_caught, in_statements, want_param, have_param, after_params, have_signature, Step, stops, leads}
@@ -89,7 +90,7 @@ feed_caught t ty place T = elim (name_of t) [
 abbrev pub feed_types : Token → List Ty → List Param → Heading → Step
 feed_types t tys ps h =
     if is_mark sign.Comma t.kind then leads (want_listed (of_specification tys ps h))
-    else on_mark (is_mark sign.CloseParen t.kind) (have_signature (record { heading = h; parameters = ps; specification = Some tys; initialisers = [] }))
+    else on_mark (is_mark sign.CloseParen t.kind) (have_signature (record { heading = h; parameters = ps; specification = Some (listed tys); in_full = false; initialisers = [] }))
 
 -- a token behind a type of a list
 abbrev pub feed_listed : Token → Ty → InListed → Step

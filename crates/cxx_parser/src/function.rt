@@ -1,25 +1,26 @@
 // Reading functions.
-ghost use Rattle.std.specs.Prelude.{ℕ, ◌≡◌, ◌≤◌, ◌<◌, ◌+◌, ◌-◌, IfOk, List, [], ◌∷◌, ◌++◌, false, length, map, Option, Some, None};
+ghost use Rattle.std.specs.Prelude.{ℕ, ◌≡◌, ◌≤◌, ◌<◌, ◌+◌, ◌-◌, IfOk, Bool, List, [], ◌∷◌, ◌++◌, codes, true, false, length, map, Option, Some, None};
 ghost use Rattle.cxx_ast.specs.declared.declaration.FuncKind.{FuncKind};
 ghost use Rattle.cxx_ast.specs.declared.declaration.FuncKind.TheVariants.{Constructor};
 ghost use Rattle.cxx_ast.specs.declared.mark.Mark.TheVariants as sign;
 ghost use Rattle.cxx_ast.specs.declared.token.TokenKind.TheVariants as kind;
 ghost use Rattle.cxx_ast.specs.Limits.{most_tokens};
 ghost use Rattle.cxx_ast.specs.declared.types.Param.{Param};
-ghost use Rattle.cxx_ast.specs.View.{option_of, statements_of, initialiser_of, function_of};
+ghost use Rattle.cxx_ast.specs.Plain.{listed};
+ghost use Rattle.cxx_ast.specs.View.{option_of, statements_of, initialiser_of, specification_of, function_of};
 ghost use Rattle.cxx_parser.specs.Contexts.{Holder, Heading as HeadingState, Signature, of_specification, of_initialised};
-ghost use Rattle.cxx_parser.specs.Functions.{function_from, have_function, with_initialisers, open_body};
+ghost use Rattle.cxx_parser.specs.Functions.{function_from, have_function, with_initialisers, open_body, quiet};
 ghost use Rattle.cxx_parser.specs.Gives.{Gives, begins, count_before};
 ghost use Rattle.cxx_parser.specs.Headings.{heading_at, signature_of};
 ghost use Rattle.cxx_parser.specs.Reading.{read};
-ghost use Rattle.cxx_parser.specs.States.{after_params_open, after_params, after_throw_open, have_signature, have_initialiser, want_name, want_listed};
+ghost use Rattle.cxx_parser.specs.States.{after_params_open, after_params, after_throw_open, after_noexcept, have_signature, have_initialiser, want_name, want_listed};
 
 use crate::error::ParseError;
 use crate::expression::arguments;
 use crate::statement::block;
-use crate::tokens::{Read, after_mark, after_word, expect_mark, name, place_of};
+use crate::tokens::{Read, after_mark, after_named, after_word, expect_mark, name, place_of};
 use crate::types::{listed_type, parameters};
-use cxx_ast::declaration::{Func, FuncKind, Init};
+use cxx_ast::declaration::{Func, FuncKind, Init, Spec};
 use cxx_ast::keyword::Keyword;
 use cxx_ast::mark::Mark;
 use cxx_ast::name::Name;
@@ -85,26 +86,50 @@ pub fn definition(
     Ok((read, rest))
 }
 
-// The types of an exception specification, where there is one.
+// An exception specification, where there is one; `noexcept` is a name to the lexer.
 #[tactic(auto, using(crate::proofs::Functions::no_specification), unfolding(crate::specs::Reading::read, crate::specs::Reading::feed))]
-fn specification(alloc: Global, tokens: &[Token], end: u32) -> Read<'_, Option<Vec<Ty>>>
-    ensures gives { (total : ℕ) (ps : List Param) (h : HeadingState) → Gives (λ x. read total end x.1.now (have_signature (signature_of h ps (option_of (λ types. types.items) x.0)))) result (read total end tokens.now (after_params ps h)) }
+fn specification(alloc: Global, tokens: &[Token], end: u32) -> Read<'_, Option<Spec>>
+    ensures gives { (b : Bool) × ((total : ℕ) (ps : List Param) (h : HeadingState) → Gives (λ x. read total end x.1.now (have_signature (signature_of h ps b (option_of specification_of x.0)))) result (read total end tokens.now (after_params ps h))) }
     ensures shorter { IfOk result (λ x. length x.1.now ≤ length tokens.now) }
 {
-    match after_word(tokens, Keyword::Throw) {
+    if let Some(rest) = after_word(tokens, Keyword::Throw) {
+        let rest = expect_mark(rest, Mark::OpenParen, end)?;
+        let (types, rest) = listed_types(alloc, rest, end)?;
+        return Ok((Some(Spec::Throw(types)), rest));
+    }
+    match after_named(tokens, b"noexcept") {
         None => Ok((None, tokens)),
-        Some(rest) => {
-            let rest = expect_mark(rest, Mark::OpenParen, end)?;
-            let (types, rest) = listed_types(alloc, rest, end)?;
-            Ok((Some(types), rest))
+        Some((place, rest)) => {
+            let (is_true, rest) = truth(rest, end)?;
+            Ok((Some(Spec::Noexcept(place, is_true)), rest))
         }
     }
+}
+
+// What stands behind `noexcept`: nothing, `(true)` or `(false)`.
+#[tactic(auto, unfolding(crate::specs::Reading::read, crate::specs::Reading::feed))]
+fn truth(tokens: &[Token], end: u32) -> Read<'_, bool>
+    ensures gives { (b : Bool) × ((total place : ℕ) (ps : List Param) (h : HeadingState) → Gives (λ x. read total end x.1.now (have_signature (quiet place b x.0 ps h))) result (read total end tokens.now (after_noexcept place ps h))) }
+    ensures shorter { IfOk result (λ x. length x.1.now ≤ length tokens.now) }
+{
+    let Some(rest) = after_mark(tokens, Mark::OpenParen) else {
+        return Ok((true, tokens));
+    };
+    let (is_true, rest) = match after_word(rest, Keyword::True) {
+        Some(behind) => (true, behind),
+        None => match after_word(rest, Keyword::False) {
+            Some(behind) => (false, behind),
+            None => return Err(ParseError::Unexpected(place_of(rest, end))),
+        },
+    };
+    let rest = expect_mark(rest, Mark::CloseParen, end)?;
+    Ok((is_true, rest))
 }
 
 // The types of an exception specification, from behind `(` to behind `)`.
 #[tactic(auto, using(crate::proofs::Functions::first_type), unfolding(crate::specs::Reading::read, crate::specs::Reading::feed))]
 fn listed_types(alloc: Global, tokens: &[Token], end: u32) -> Read<'_, Vec<Ty>>
-    ensures gives { (total : ℕ) (ps : List Param) (h : HeadingState) → Gives (λ x. read total end x.1.now (have_signature (signature_of h ps (Some x.0.items)))) result (read total end tokens.now (after_throw_open ps h)) }
+    ensures gives { (total : ℕ) (ps : List Param) (h : HeadingState) → Gives (λ x. read total end x.1.now (have_signature (signature_of h ps false (Some (listed x.0.items))))) result (read total end tokens.now (after_throw_open ps h)) }
     ensures shorter { IfOk result (λ x. length x.1.now < length tokens.now) }
 {
     match after_mark(tokens, Mark::CloseParen) {
@@ -115,7 +140,7 @@ fn listed_types(alloc: Global, tokens: &[Token], end: u32) -> Read<'_, Vec<Ty>>
 
 #[tactic(auto, using(crate::proofs::Functions::type_settles), unfolding(crate::specs::Reading::read, crate::specs::Reading::feed))]
 fn some_types(alloc: Global, tokens: &[Token], end: u32) -> Read<'_, Vec<Ty>>
-    ensures gives { (total : ℕ) (ps : List Param) (h : HeadingState) → Gives (λ x. read total end x.1.now (have_signature (signature_of h ps (Some x.0.items)))) result (read total end tokens.now (want_listed (of_specification [] ps h))) }
+    ensures gives { (total : ℕ) (ps : List Param) (h : HeadingState) → Gives (λ x. read total end x.1.now (have_signature (signature_of h ps false (Some (listed x.0.items))))) result (read total end tokens.now (want_listed (of_specification [] ps h))) }
     ensures shorter { IfOk result (λ x. length x.1.now < length tokens.now) }
 {
     let mut types = Vec::new(alloc);

@@ -8,7 +8,7 @@ ghost use Rattle.cxx_parser.specs.Classes.{have_name};
 ghost use Rattle.cxx_parser.specs.Signs.{is_mark, is_word, name_of, class_of, literal_of, operator_of, prefix_of, level_of};
 ghost use Rattle.cxx_parser.specs.States.{want_name};
 ghost use Rattle.cxx_parser.specs.Reading.{read};
-ghost use Rattle.cxx_parser.specs.Gives.{Gives, Behind, BehindName, BehindLiteral, Expects, place_at, Within, OperatorFrom};
+ghost use Rattle.cxx_parser.specs.Gives.{Gives, Behind, BehindName, BehindNamed, BehindLiteral, Expects, place_at, Within, OperatorFrom};
 ghost use Rattle.cxx_ast.specs.Operator.{binary_level};
 
 use crate::NoMemory;
@@ -85,6 +85,23 @@ pub fn after_word(tokens: &[Token], word: Keyword) -> Option<&[Token]>
             }
         }
         None => None,
+    }
+}
+
+// The place of a name that the tokens begin with, and what stands behind it.
+pub fn after_named<'t>(tokens: &'t [Token], text: &[u8]) -> Option<(u32, &'t [Token])>
+    ensures { BehindNamed tokens.now text.now (option_map (λ x. (x.0, x.1.now)) result) }
+{
+    let (first, rest) = tokens.split_first()?;
+    match &first.kind {
+        TokenKind::Name(name) => {
+            if name.as_bytes() == text {
+                Some((first.place, rest))
+            } else {
+                None
+            }
+        }
+        _ => None,
     }
 }
 

@@ -1,6 +1,6 @@
 -- The rules by their numbers.
 use Rattle.std.specs.Prelude.{ℕ}
-use Rattle.cxx_ast.specs.Rule.{unknown_name, redeclared, type_mismatch, arity, incomplete_class, handler_order, const_write, specification_mismatch, no_main, frame_too_large, function_too_long, class_too_large, not_lvalue, not_defined, loop_jump, return_form, no_default, main_use, initialiser_list, handler_form}
+use Rattle.cxx_ast.specs.Rule.{unknown_name, redeclared, type_mismatch, arity, incomplete_class, handler_order, const_write, specification_mismatch, no_main, frame_too_large, function_too_long, class_too_large, not_lvalue, not_defined, loop_jump, return_form, no_default, main_use, initialiser_list, handler_form, new_keyword, noexcept_in_03}
 use Rattle.cxx_rules.specs.declared.rule.Rule.{Rule}
 use Rattle.cxx_rules.specs.declared.rule.Rule.TheVariants as rule
 
@@ -26,3 +26,5 @@ number_of rule.NoDefault = no_default
 number_of rule.MainUse = main_use
 number_of rule.InitialiserList = initialiser_list
 number_of rule.HandlerForm = handler_form
+number_of rule.NewKeyword = new_keyword
+number_of rule.NoexceptIn03 = noexcept_in_03

@@ -25,6 +25,8 @@ pub enum Rule {
     MainUse,
     InitialiserList,
     HandlerForm,
+    NewKeyword,
+    NoexceptIn03,
 }
 
 impl Rule {
@@ -53,6 +55,8 @@ impl Rule {
             Rule::MainUse => 47,
             Rule::InitialiserList => 48,
             Rule::HandlerForm => 49,
+            Rule::NewKeyword => 70,
+            Rule::NoexceptIn03 => 71,
         }
     }
 }

@@ -2,7 +2,7 @@
 ghost use Rattle.std.specs.Prelude.{◌≡◌, IfOk, flat_map, map};
 ghost use Rattle.cxx_ast.specs.Spelling.{is_bad_exception};
 ghost use Rattle.cxx_ast.specs.TypeNames.{class_of_name, class_found, class_meant, class_wanted, type_kind, type_found, is_reference, is_const, passing, allowed_kinds, signature, specification_found, head_types_found};
-ghost use Rattle.cxx_ast.specs.View.{function_of, option_of};
+ghost use Rattle.cxx_ast.specs.View.{function_of, option_of, specification_of};
 ghost use Rattle.cxx_rules.specs.KindOf.{kind_of, kinds_of};
 ghost use Rattle.cxx_rules.specs.MeaningOf.{meaning_of};
 ghost use Rattle.cxx_rules.specs.Summary.{seen};
@@ -16,7 +16,7 @@ use crate::lookup::Meaning;
 use crate::meaning::look;
 use crate::rule::Rule;
 use crate::scope::Scope;
-use cxx_ast::declaration::Func;
+use cxx_ast::declaration::{Func, Spec};
 use cxx_ast::name::Name;
 use cxx_ast::types::{Param, Ty};
 use std::alloc::Global;
@@ -136,18 +136,19 @@ fn kinds<'t>(
     Ok(kinds)
 }
 
-// The types that a specification lists.
+// The types of what a function may throw, or none where it may throw all.
 fn allowed_kinds<'t>(
     alloc: Global,
     env: &Environment<'t>,
     scope: &Scope<'t>,
-    specification: &Option<Vec<Ty>>,
+    specification: &Option<Spec>,
 ) -> Result<Option<Vec<Kind>>, NoMemory>
-    ensures { IfOk result (λ kinds. kinds_of kinds ≡ allowed_kinds env.now scope.now (option_of (λ types. types.items) specification.now)) }
+    ensures { IfOk result (λ kinds. kinds_of kinds ≡ allowed_kinds env.now scope.now (option_of specification_of specification.now)) }
 {
     match specification {
-        None => Ok(None),
-        Some(types) => Ok(Some(kinds(alloc, env, scope, types.as_slice())?)),
+        None | Some(Spec::Noexcept(_, false)) => Ok(None),
+        Some(Spec::Noexcept(_, true)) => Ok(Some(Vec::new(alloc))),
+        Some(Spec::Throw(types)) => Ok(Some(kinds(alloc, env, scope, types.as_slice())?)),
     }
 }
 
@@ -216,13 +217,13 @@ fn params_found<'t>(env: &Environment<'t>, scope: &Scope<'t>, params: &[Param]) 
 fn specification_found<'t>(
     env: &Environment<'t>,
     scope: &Scope<'t>,
-    specification: &Option<Vec<Ty>>,
+    specification: &Option<Spec>,
 ) -> Found
-    ensures { result ≡ seen env.now (specification_found env.now scope.now (option_of (λ types. types.items) specification.now)) }
+    ensures { result ≡ seen env.now (specification_found env.now scope.now (option_of specification_of specification.now)) }
 {
     match specification {
-        None => Found::nothing(),
-        Some(types) => types_found(env, scope, types.as_slice()),
+        None | Some(Spec::Noexcept(_, _)) => Found::nothing(),
+        Some(Spec::Throw(types)) => types_found(env, scope, types.as_slice()),
     }
 }
 

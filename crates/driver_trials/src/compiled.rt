@@ -1,6 +1,8 @@
 // Sources that are compiled, and their images run, in two commands and in one: each prints what the source means, with the events that
 // are asked for, and ends so.
-use crate::mean_rows::{Row, modules, objects, specifications, terminates, throws, values};
+use crate::mean_rows::{
+    Row, modules, noexcept, objects, specifications, terminates, throws, values,
+};
 use command_line::scripts;
 use eh_driver::{Status, ehc};
 use eh_outer::{MemSink, MemStore, Module, Runs};
@@ -55,10 +57,21 @@ pub fn holding(
     Ok(MemStore::new(files, fails.to_vec(alloc)?))
 }
 
+// An option that says how the source is read.
+fn is_of_source(option: &str) -> bool {
+    option.starts_with("--std=")
+}
+
 // What the image of a row's source does, with the row's options, where it is clean.
 fn ran(alloc: Global, row: &Row) -> Result<Answer, Fail> {
     let mut store = holding(alloc, row.source, row.input, &[])?;
-    let compiled = answered(alloc, &["compile", "SRC", "IMG"], &mut store)?;
+    let mut words = vec![in alloc; "compile", "SRC", "IMG"]?;
+    for option in row.options {
+        if is_of_source(*option) {
+            words.push(*option)?;
+        }
+    }
+    let compiled = answered(alloc, words.as_slice(), &mut store)?;
     if compiled.status != Status::Done {
         return Ok(compiled);
     }
@@ -66,20 +79,22 @@ fn ran(alloc: Global, row: &Row) -> Result<Answer, Fail> {
     if judged.status != Status::Done {
         return Ok(judged);
     }
-    run_of(alloc, row, &["exec", "IMG"], &mut store)
+    run_of(alloc, row, &["exec", "IMG"], false, &mut store)
 }
 
-// What a command that runs answers, with the row's options but for the most turns, which are no number of steps.
+// What a command that runs answers, with the row's options but for the most turns, which are no number of steps, and for those of
+// the source, where it compiles none.
 fn run_of(
     alloc: Global,
     row: &Row,
     command: &[&'static str],
+    compiles: bool,
     store: &mut MemStore,
 ) -> Result<Answer, Fail> {
     let mut words = command.to_vec(alloc)?;
     words.push("--in=IN")?;
     for option in row.options {
-        if !option.starts_with("--max=") {
+        if !option.starts_with("--max=") && (compiles || !is_of_source(*option)) {
             words.push(*option)?;
         }
     }
@@ -89,7 +104,7 @@ fn run_of(
 // What the row's source does where it is compiled and run at once.
 fn ran_at_once(alloc: Global, row: &Row) -> Result<Answer, Fail> {
     let mut store = holding(alloc, row.source, row.input, &[])?;
-    run_of(alloc, row, &["run", "SRC"], &mut store)
+    run_of(alloc, row, &["run", "SRC"], true, &mut store)
 }
 
 // The meaning ends as `= stack` at the 129th open call; a compiled program has room for more.
@@ -106,6 +121,7 @@ fn worked_programs(rt: HostRuntime) -> Result<(), Fail> {
         objects(),
         throws(),
         specifications(),
+        noexcept(),
         terminates(),
         modules(),
     ] {

@@ -366,6 +366,114 @@ static SPECIFICATIONS: &[Row] = &[
     },
 ];
 
+// By ISO/IEC 14882:2011.
+static NOEXCEPT: &[Row] = &[
+    Row {
+        options: &["--std=11", "--trace"],
+        input: b"",
+        source: "struct T { int n; T(int k) { n = k; } ~T() { write_int(n); if (n == 2) throw n; } }; int main() { try { T a(1); T b(2); } catch (int e) { write_int(e + 10); } return 0; }",
+        lines: "2\n! make 1\n! enter 1\n= aborted\n",
+        status: Status::Aborted,
+    },
+    Row {
+        options: &["--std=11"],
+        input: b"",
+        source: "struct T { int n; T(int k) { n = k; } ~T() noexcept(false) { write_int(n); if (n == 2) throw n; } }; int main() { try { T a(1); T b(2); } catch (int e) { write_int(e + 10); } return 0; }",
+        lines: "2\n1\n12\n= exit 0\n",
+        status: Status::Done,
+    },
+    Row {
+        options: &["--std=11", "--trace"],
+        input: b"",
+        source: "struct A { int n; A(int k) { n = k; } ~A() { write_int(n); } }; struct T { ~T() { A x(9); throw 8; } }; int main() { try { T t; throw 7; } catch (...) { } return 0; }",
+        lines: "! make 1\n! make 2\n9\n! enter 2\n= aborted\n",
+        status: Status::Aborted,
+    },
+    Row {
+        options: &["--std=11", "--trace"],
+        input: b"",
+        source: "struct A { int n; A(int k) { n = k; } ~A() { write_int(n); } }; void f() noexcept { A x(1); throw 2; } int main() { try { f(); } catch (int) { write_int(3); } return 0; }",
+        lines: "! make 1\n1\n! enter 1\n= aborted\n",
+        status: Status::Aborted,
+    },
+    Row {
+        options: &["--std=11"],
+        input: b"",
+        source: "void f() noexcept { } int main() { f(); return 0; }",
+        lines: "= exit 0\n",
+        status: Status::Done,
+    },
+    // The destructor of a class allows what those of its parts do.
+    Row {
+        options: &["--std=11"],
+        input: b"",
+        source: "struct M { ~M() noexcept(false) { throw 4; } }; struct D { M m; ~D() { write_int(1); } }; int main() { try { D d; } catch (int e) { write_int(e); } return 0; }",
+        lines: "1\n4\n= exit 0\n",
+        status: Status::Done,
+    },
+    Row {
+        options: &["--std=11", "--trace"],
+        input: b"",
+        source: "void t() { write_int(7); } void f() noexcept(true) { throw 1; } int main() { std::set_terminate(t); try { f(); } catch (int) { write_int(2); } return 0; }",
+        lines: "! make 1\n! enter 1\n7\n= aborted\n",
+        status: Status::Aborted,
+    },
+    // Also through a destructor that is not declared.
+    Row {
+        options: &["--std=11"],
+        input: b"",
+        source: "struct M { ~M() noexcept(false) { throw 4; } }; struct N { M m; }; struct D { N n; ~D() { write_int(1); } }; int main() { try { D d; } catch (int e) { write_int(e); } return 0; }",
+        lines: "1\n4\n= exit 0\n",
+        status: Status::Done,
+    },
+    // Its own specification counts before those of its parts.
+    Row {
+        options: &["--std=11"],
+        input: b"",
+        source: "struct M { ~M() noexcept(false) { throw 4; } }; struct D { M m; ~D() noexcept { write_int(1); } }; int main() { try { D d; } catch (int e) { write_int(e); } return 0; }",
+        lines: "1\n= aborted\n",
+        status: Status::Aborted,
+    },
+    // A list is taken over from a part, and `throw()` is no list.
+    Row {
+        options: &["--std=11"],
+        input: b"",
+        source: "struct E { }; struct B { ~B() throw(E) { } }; struct D { B b; ~D() { throw 3; } }; void u() { write_int(5); throw E(); } int main() { std::set_unexpected(u); try { D d; } catch (E) { write_int(6); } return 0; }",
+        lines: "5\n6\n= exit 0\n",
+        status: Status::Done,
+    },
+    Row {
+        options: &["--std=11"],
+        input: b"",
+        source: "struct E { }; struct B { ~B() throw() { } }; struct D { B b; ~D() { throw 3; } }; void u() { write_int(5); throw E(); } int main() { std::set_unexpected(u); try { D d; } catch (E) { write_int(6); } return 0; }",
+        lines: "= aborted\n",
+        status: Status::Aborted,
+    },
+    // The initialisers of a constructor lie within its extent.
+    Row {
+        options: &["--std=11"],
+        input: b"",
+        source: "int t() { throw 1; } struct A { int n; A() noexcept : n(t()) { } }; int main() { try { A a; } catch (int) { write_int(2); } return 0; }",
+        lines: "= aborted\n",
+        status: Status::Aborted,
+    },
+    // A forced unwind goes on.
+    Row {
+        options: &["--std=11"],
+        input: b"",
+        source: "struct A { int n; A(int k) { n = k; } ~A() { write_int(n); } }; void f() noexcept { A x(1); __cancel(4); } int main() { f(); return 0; }",
+        lines: "1\n= exit 4\n",
+        status: Status::Done,
+    },
+    Row {
+        options: &["--std=03"],
+        input: b"",
+        source: "int nullptr; int main() { return 0; }",
+        lines: "= exit 0\n",
+        status: Status::Done,
+    },
+];
+
 static TERMINATES: &[Row] = &[
     Row {
         options: &["--trace"],
@@ -610,6 +718,11 @@ pub fn throws() -> &'static [Row] {
 /// Exception specifications and unexpected handlers.
 pub fn specifications() -> &'static [Row] {
     SPECIFICATIONS
+}
+
+/// Functions that are noexcept, by the standard of 2011.
+pub fn noexcept() -> &'static [Row] {
+    NOEXCEPT
 }
 
 /// What calls terminate, and its handlers.

@@ -1,7 +1,7 @@
 // What `mean` prints of worked programs, with each event and without.
 
 use crate::mean_rows::{
-    Row, modules, objects, specifications, terminates, throws, undefined, values,
+    Row, modules, noexcept, objects, specifications, terminates, throws, undefined, values,
 };
 use crate::outside::{Outside, Seen, answer, answer_with, holding};
 use command_line::scripts;
@@ -57,6 +57,7 @@ fn worked_programs(rt: HostRuntime) -> Result<(), Fail> {
         objects(),
         throws(),
         specifications(),
+        noexcept(),
         terminates(),
         modules(),
         undefined(),

@@ -100,7 +100,7 @@ static BUILT: [(&str, &str); 14] = [
 ];
 
 // Sources that are refused, with the number and the place of what they break.
-static REFUSED: [(&str, u8, u32); 17] = [
+static REFUSED: [(&str, u8, u32); 18] = [
     ("int main() { @ }", 10, 13),
     ("int main() { return 2147483648; }", 11, 20),
     ("int main() { write_int(05); return 0; }", 11, 23),
@@ -122,6 +122,7 @@ static REFUSED: [(&str, u8, u32); 17] = [
     ("int main() { break; }", 44, 13),
     ("void f() { return 1; } int main() { }", 45, 11),
     ("int main() { main(); }", 47, 13),
+    ("void f() noexcept { } int main() { f(); return 0; }", 71, 9),
 ];
 
 #[test]

@@ -2,6 +2,7 @@
 use Rattle.std.proofs.Common.{◌≡◌, ◌≤◌, ◌∙◌, ℕ, List, length, Option, Some, IfSome, Ok, Err, refl, ap, subst}
 use Rattle.std.specs.FinMap.{get, insert}
 use Rattle.cxx_ast.specs.declared.program.Checked.{Checked as CheckedValue}
+use Rattle.cxx_ast.specs.declared.standard.Std.{Std}
 use Rattle.cxx_ast.specs.Checked.{IsChecked}
 use Rattle.cxx_ast.specs.View.{checked_of}
 use Rattle.cxx_front.specs.Fate.{HasOnly, refused}
@@ -20,12 +21,13 @@ use Rattle.eh_commands.specs.Compile.{CompilesTo, ImageStored, SourceCompiles, C
 use Rattle.eh_commands.proofs.Causes.{told_from, refused_since}
 
 -- what the front end answers for a source is checked
-pub is_checked : (source : List ℕ) (c : CheckedValue) → FrontAnswers source (Ok c) → IsChecked (checked_of c)
-is_checked source c a =
+pub is_checked : (std : Std) (source : List ℕ) (c : CheckedValue) → FrontAnswers std source (Ok c) → IsChecked (checked_of c)
+is_checked std source c a =
     let program = a.1.is.0 in
     record {
       source = source;
       tokens = program.tokens;
+      std = std;
       program = a.0;
       lexed = program.lexed;
       tree = program.tree;
@@ -34,15 +36,15 @@ is_checked source c a =
     }
 
 -- what the front end answers decides what becomes of the source
-pub refused_compiles : (name source : List ℕ) (old : StoreView) (e : SourceError) → FrontAnswers source (Err e) → SourceCompiles name source old old (status_of_refusal e)
-refused_compiles name source old (errors.Refused number place) h = (h, refl)
-refused_compiles name source old errors.NoMemory h = refl
+pub refused_compiles : (std : Std) (name source : List ℕ) (old : StoreView) (e : SourceError) → FrontAnswers std source (Err e) → SourceCompiles std name source old old (status_of_refusal e)
+refused_compiles std name source old (errors.Refused number place) h = (h, refl)
+refused_compiles std name source old errors.NoMemory h = refl
 
-module _ (name source : List ℕ) (c : CheckedValue) (a : FrontAnswers source (Ok c)) where
-  compiles : RunsUnit (emitted_for (checked_of c)) (image_for (checked_of c)) → CompilesTo (image_for (checked_of c)) source
+module _ (std : Std) (name source : List ℕ) (c : CheckedValue) (a : FrontAnswers std source (Ok c)) where
+  compiles : RunsUnit (emitted_for (checked_of c)) (image_for (checked_of c)) → CompilesTo std (image_for (checked_of c)) source
   compiles runs = (a.0, a.1, ap image_for a.2, subst (λ p. RunsUnit (emitted_for p) (image_for p)) a.2 runs)
 
-  pub stored_compiles : (old new : StoreView) (status : Status) → ImageStored name (checked_of c) old new status → SourceCompiles name source old new status
+  pub stored_compiles : (old new : StoreView) (status : Status) → ImageStored name (checked_of c) old new status → SourceCompiles std name source old new status
   stored_compiles old new Done (runs, stores) = (image_for (checked_of c), compiles runs, stores)
   stored_compiles old new Usage h = absurd h
   stored_compiles old new (SourceRefused number place) h = absurd h
@@ -60,22 +62,22 @@ module _ (name source : List ℕ) (c : CheckedValue) (a : FrontAnswers source (O
   stored_compiles old new Differs h = absurd h
 
 -- a source that was read names no file
-pub source_compiles_named : (name source file : List ℕ) (old new store : StoreView) (status : Status) → SourceCompiles name source old new status → NamesRefusal status file store
-source_compiles_named name source file old new store Done h = tt
-source_compiles_named name source file old new store Usage h = tt
-source_compiles_named name source file old new store (SourceRefused number place) h = tt
-source_compiles_named name source file old new store (ImageRefused number place location other) h = tt
-source_compiles_named name source file old new store ReadFault h = absurd h
-source_compiles_named name source file old new store TooLong h = absurd h
-source_compiles_named name source file old new store WriteFault h = tt
-source_compiles_named name source file old new store NoMemory h = tt
-source_compiles_named name source file old new store Aborted h = tt
-source_compiles_named name source file old new store Budget h = tt
-source_compiles_named name source file old new store Stack h = tt
-source_compiles_named name source file old new store (MachineFault kind place) h = tt
-source_compiles_named name source file old new store (ScheduleRefused number place) h = tt
-source_compiles_named name source file old new store Undefined h = tt
-source_compiles_named name source file old new store Differs h = tt
+pub source_compiles_named : (std : Std) (name source file : List ℕ) (old new store : StoreView) (status : Status) → SourceCompiles std name source old new status → NamesRefusal status file store
+source_compiles_named std name source file old new store Done h = tt
+source_compiles_named std name source file old new store Usage h = tt
+source_compiles_named std name source file old new store (SourceRefused number place) h = tt
+source_compiles_named std name source file old new store (ImageRefused number place location other) h = tt
+source_compiles_named std name source file old new store ReadFault h = absurd h
+source_compiles_named std name source file old new store TooLong h = absurd h
+source_compiles_named std name source file old new store WriteFault h = tt
+source_compiles_named std name source file old new store NoMemory h = tt
+source_compiles_named std name source file old new store Aborted h = tt
+source_compiles_named std name source file old new store Budget h = tt
+source_compiles_named std name source file old new store Stack h = tt
+source_compiles_named std name source file old new store (MachineFault kind place) h = tt
+source_compiles_named std name source file old new store (ScheduleRefused number place) h = tt
+source_compiles_named std name source file old new store Undefined h = tt
+source_compiles_named std name source file old new store Differs h = tt
 
 pub unread_compiles : (a : Asked) (old new : StoreView) (status : Status) → Unread source_limit a.source old new status → new.files ≡ old.files → CompileCause a old new status
 unread_compiles a old new Done why same = absurd why
@@ -103,14 +105,14 @@ module _ (a : Asked) (source : List ℕ) (old mid new : StoreView) (short : leng
   told : (P : List ℕ → Type 0) → P source → IfSome old.files (λ m. (s : List ℕ) × (get m a.source ≡ Some s) × (length s ≤ source_limit) × P s)
   told P holds = told_from source_limit old.files a.source source P short there holds
 
-  pub source_compiled : (status : Status) → SourceCompiles a.image source mid new status → CompileCause a old new status
-  source_compiled Done (bytes, is, stores) = (bytes, told (CompilesTo bytes) is, stored_since a.image bytes old.files mid.files new.files same stores)
+  pub source_compiled : (status : Status) → SourceCompiles a.std a.image source mid new status → CompileCause a old new status
+  source_compiled Done (bytes, is, stores) = (bytes, told (CompilesTo a.std bytes) is, stored_since a.image bytes old.files mid.files new.files same stores)
   source_compiled Usage h = absurd h
-  source_compiled (SourceRefused number place) (is, kept) = (told (λ s. HasOnly s (refused number place)) is, kept ∙ same)
+  source_compiled (SourceRefused number place) (is, kept) = (told (λ s. HasOnly a.std s (refused number place)) is, kept ∙ same)
   source_compiled (ImageRefused number place location other) h = absurd h
   source_compiled ReadFault h = absurd h
   source_compiled TooLong h = absurd h
-  source_compiled WriteFault (bytes, is, why, kept) = (bytes, told (CompilesTo bytes) is, refused_since _ a.image old mid new later why, kept ∙ same)
+  source_compiled WriteFault (bytes, is, why, kept) = (bytes, told (CompilesTo a.std bytes) is, refused_since _ a.image old mid new later why, kept ∙ same)
   source_compiled NoMemory kept = kept ∙ same
   source_compiled Aborted h = absurd h
   source_compiled Budget h = absurd h

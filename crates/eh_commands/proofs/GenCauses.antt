@@ -6,6 +6,7 @@ use Rattle.eh_outer.specs.Sink.{SinkView}
 use Rattle.eh_outer.specs.declared.sink.SinkError.{SinkError}
 use Rattle.eh_outer.specs.declared.sink.SinkError.TheVariants.{Failed}
 use Rattle.run_items.specs.Output.{TakesAll, FailsAmong, PutsAll}
+use Rattle.cxx_ast.specs.declared.standard.Std.TheVariants.{Cxx03}
 use Rattle.cxx_ast.specs.Plain.{Program, Checked}
 use Rattle.cxx_ast.specs.Checked.{checked}
 use Rattle.cxx_front.specs.Fate.{HasOnly, valid}
@@ -158,15 +159,15 @@ ready_runs turns p program is_ready tokens r (same, runs) = (same, by (runnable 
     by (Ok i) is loaded = (is_ready.0, i, is, subst (λ q. IsRun q [] [] turns r) loaded runs)
     by (Err fault) is loaded = absurd loaded
 
-tokens_kept : (p : Program) → (checked p).program.tokens ≡ p.tokens
+tokens_kept : (p : Program) → (checked Cxx03 p).program.tokens ≡ p.tokens
 unfolding checked
 tokens_kept p = refl
 
 -- a run of the program of a source is one of the source
-pub program_runs : (turns n : ℕ) (source : List ℕ) (c : Checked) (p : Program) → source ≡ generated n → HasOnly source (valid p) → c ≡ checked p → (tokens : ℕ) (r : Ran) → CheckedRuns turns c tokens r →
+pub program_runs : (turns n : ℕ) (source : List ℕ) (c : Checked) (p : Program) → source ≡ generated n → HasOnly Cxx03 source (valid p) → c ≡ checked Cxx03 p → (tokens : ℕ) (r : Ran) → CheckedRuns turns c tokens r →
     SizeRuns turns n tokens r
 program_runs turns n source c p is only resolved tokens r runs =
-    let (same, alone) = subst (λ x. CheckedRuns turns x tokens r) resolved runs in (p, subst (λ s. HasOnly s (valid p)) is only, same ∙ tokens_kept p, alone)
+    let (same, alone) = subst (λ x. CheckedRuns turns x tokens r) resolved runs in (p, subst (λ s. HasOnly Cxx03 s (valid p)) is only, same ∙ tokens_kept p, alone)
 
 -- a run of the source of a size is one of what the operand asks for
 pub size_runs : (a : Asked) (n : ℕ) → Some n ≡ source_size a.source → (tokens : ℕ) (r : Ran) → SizeRuns a.turns n tokens r → GeneratedRuns a tokens r

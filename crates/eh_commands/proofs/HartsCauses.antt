@@ -1,19 +1,16 @@
 -- From what the parts of `harts` say to the cause of a status.
-use Rattle.std.proofs.Common.{Vec, ◌≡◌, ◌≤◌, ◌∙◌, ◌⊎◌, inl, inr, ℕ, Bool, List, [], ◌∷◌, ◌++◌, map, length, None, Result, Ok, Err, refl, sym, ap, subst, arith}
+use Rattle.std.proofs.Common.{◌≡◌, ◌≤◌, ◌∙◌, ℕ, Bool, List, [], ◌∷◌, ◌++◌, map, length, Result, Ok, Err, refl, sym, subst, arith}
 use Rattle.std.specs.Prelude.{⊤, IsErrAnd}
-use Rattle.std.specs.Global.{Global}
 use Rattle.std.proofs.lemmas.List.{map-append, length-map}
 use Rattle.eh_outer.specs.Store.{StoreView}
 use Rattle.eh_outer.specs.Sink.{SinkView}
 use Rattle.table_forms.specs.Fault.{Fault}
 use Rattle.elf_image.specs.Clean.{CleanImage}
-use Rattle.elf_image.specs.Reports.{reported}
 use Rattle.elf_image.specs.Runnable.{runnable}
 use Rattle.elf_image.specs.declared.error.ImageError.{ImageError}
 use Rattle.elf_image.specs.declared.error.ImageError.TheVariants as image_errors
 use Rattle.table_check.specs.Checks.{IsReported}
 use Rattle.rv64_isa.specs.State.{State}
-use Rattle.cxa_runtime.specs.Kept.{Kept}
 use Rattle.cxa_runtime.specs.Raising.{Image}
 use Rattle.eh_run.specs.Loads.{Loads}
 use Rattle.eh_run.specs.Program.{Program, program_of}
@@ -23,7 +20,6 @@ use Rattle.hart_sched.specs.declared.schedule.ScheduleError.{ScheduleError}
 use Rattle.hart_sched.specs.declared.schedule.ScheduleError.TheVariants as errors
 use Rattle.hart_sched.specs.declared.seat.Seat.{Seat}
 use Rattle.hart_sched.specs.Reads.{Reads}
-use Rattle.hart_sched.specs.Run.{Ran}
 use Rattle.hart_sched.specs.Schedule.{Refusal, Slice, schedule}
 use Rattle.hart_sched.specs.Starts.{LoadedIsReady, ReadyIsFresh}
 use Rattle.hart_sched.specs.Turns.{AreFresh}
@@ -33,7 +29,7 @@ use Rattle.eh_commands.specs.declared.status.Status.TheVariants.{Done, Usage, So
 use Rattle.eh_commands.specs.Exec.{RefusesToRun}
 use Rattle.eh_commands.specs.File.{NamesRefusal}
 use Rattle.eh_commands.specs.HartFiles.{AreFiles, HartsAsked, UnreadAmong, files_of}
-use Rattle.eh_commands.specs.Harts.{AllReady, HartsCause, HartsRun, IsRunnable, Readies, ReadyRun, RefusesSchedule, RunsHarts, SeatsRun, status_of_schedule}
+use Rattle.eh_commands.specs.Harts.{AllReady, HartsCause, HartsRun, Readies, ReadyRun, RefusesSchedule, RunsHarts, SeatsRun, status_of_schedule}
 use Rattle.eh_commands.specs.Image.{status_of}
 use Rattle.eh_commands.proofs.ExecCauses.{refuses}
 use Rattle.eh_commands.proofs.HartReading.{among_one, told_harts}

@@ -19,7 +19,7 @@ use Rattle.eh_commands.specs.Mean.{MeanCause, MeansThis, MeaningEnds, SourceMean
 use Rattle.eh_commands.proofs.Causes.{told_both, unread_either}
 
 -- what the front end answers decides what becomes of the source
-pub refused_means : (a : Asked) (source input : List ℕ) (old : SinkView) (e : SourceError) → FrontAnswers source (Err e) → SourceMeans a source input old old (status_of_refusal e)
+pub refused_means : (a : Asked) (source input : List ℕ) (old : SinkView) (e : SourceError) → FrontAnswers a.std source (Err e) → SourceMeans a source input old old (status_of_refusal e)
 refused_means a source input old (errors.Refused number place) h = (h, refl)
 refused_means a source input old errors.NoMemory h = refl
 
@@ -46,7 +46,7 @@ no_length ends.OutOfTurns e = cc
 no_length ends.Deep e = cc
 
 -- a meaning's end is what becomes of its source
-pub program_means : (a : Asked) (source input : List ℕ) (p : Program) (c : Checked) (old new : SinkView) (status : Status) → HasOnly source (valid p) → Resolves p c →
+pub program_means : (a : Asked) (source input : List ℕ) (p : Program) (c : Checked) (old new : SinkView) (status : Status) → HasOnly a.std source (valid p) → Resolves a.std p c →
     MeaningEnds a.trace (meant c input a.modules a.turns) old new status → SourceMeans a source input old new status
 program_means a source input p c old new (SourceRefused number place) only is h = absurd (no_refusal (meant c input a.modules a.turns).end number place h.0)
 program_means a source input p c old new NoMemory only is h = h
@@ -76,7 +76,7 @@ module _ (a : Asked) (source input : List ℕ) (old new : StoreView) (out out' :
   pub source_means : (status : Status) → SourceMeans a source input out out' status → MeanCause a old new out out' status
   source_means Done (m, means, h) = (m, told (MeansThis a m) means, h)
   source_means Usage (m, means, h) = (m, told (MeansThis a m) means, h)
-  source_means (SourceRefused number place) (is, same) = (told (λ s i. HasOnly s (refused number place)) is, same)
+  source_means (SourceRefused number place) (is, same) = (told (λ s i. HasOnly a.std s (refused number place)) is, same)
   source_means (ImageRefused number place location other) (m, means, h) = (m, told (MeansThis a m) means, h)
   source_means ReadFault (m, means, h) = absurd (no_fault m.end h.0)
   source_means TooLong (m, means, h) = absurd (no_length m.end h.0)

@@ -73,11 +73,11 @@ module _ (a : Asked) (p : Checked) (input : List ℕ) (program : ReadyProgram) (
   compiled_runs Differs (r, is, h) = (r, runs r is, h)
 
 -- what the front end answers decides what becomes of the source
-pub refused_source : (a : Asked) (source input : List ℕ) (old : SinkView) (e : SourceError) → FrontAnswers source (Err e) → SourceRuns a source input old old (status_of_refusal e)
+pub refused_source : (a : Asked) (source input : List ℕ) (old : SinkView) (e : SourceError) → FrontAnswers a.std source (Err e) → SourceRuns a source input old old (status_of_refusal e)
 refused_source a source input old (errors.Refused number place) h = (h, refl)
 refused_source a source input old errors.NoMemory h = refl
 
-pub source_runs : (a : Asked) (source input : List ℕ) (p : Program) (only : HasOnly source (valid p)) (old new : SinkView) (status : Status) → CompiledRuns a (checked p) input old new status →
+pub source_runs : (a : Asked) (source input : List ℕ) (p : Program) (only : HasOnly a.std source (valid p)) (old new : SinkView) (status : Status) → CompiledRuns a (checked a.std p) input old new status →
     SourceRuns a source input old new status
 source_runs a source input p only old new Done (r, this, h) = (r, (p, only, this), h)
 source_runs a source input p only old new Usage (r, this, h) = (r, (p, only, this), h)
@@ -107,7 +107,7 @@ module _ (a : Asked) (source input : List ℕ) (old new : StoreView) (out out' :
   pub source_run : (status : Status) → SourceRuns a source input out out' status → RunCause a old new out out' status
   source_run Done (r, this, h) = (r, told (SourceRunsThis a r) this, h)
   source_run Usage (r, this, h) = (r, told (SourceRunsThis a r) this, h)
-  source_run (SourceRefused number place) (is, same) = (told (λ s i. HasOnly s (refused number place)) is, same)
+  source_run (SourceRefused number place) (is, same) = (told (λ s i. HasOnly a.std s (refused number place)) is, same)
   source_run (ImageRefused number place location other) (r, this, h) = (r, told (SourceRunsThis a r) this, h)
   source_run ReadFault (r, this, h) = absurd (no_run_fault r.end h.0)
   source_run TooLong (r, this, h) = absurd (no_run_length r.end h.0)

@@ -2,6 +2,7 @@
 use Rattle.std.proofs.Common.{◌≡◌, ◌≤◌, ◌∙◌, ℕ, List, length, Some, IfSome, sym, subst}
 use Rattle.std.specs.FinMap.{get}
 use Rattle.eh_outer.specs.Store.{Files, StoreView}
+use Rattle.cxx_ast.specs.declared.standard.Std.{Std}
 use Rattle.cxx_ast.specs.Plain.{Program}
 use Rattle.cxx_front.specs.Source.{IsRefused}
 use Rattle.cxx_front.specs.Fate.{HasOnly, refused, valid}
@@ -21,8 +22,8 @@ pub valid_same : {p q : Program} → valid p ≡ valid q → p ≡ q
 valid_same e = cc
 
 -- a source that is valid is not refused
-pub not_refused : (source : List ℕ) (p : Program) (number place : ℕ) → HasOnly source (valid p) → IsRefused source number place → ⊥
-not_refused source p number place only is =
+pub not_refused : (std : Std) (source : List ℕ) (p : Program) (number place : ℕ) → HasOnly std source (valid p) → IsRefused std source number place → ⊥
+not_refused std source p number place only is =
     let same : valid p ≡ refused number place = only.only (refused number place) is in
     cc
 

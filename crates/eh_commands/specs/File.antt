@@ -2,6 +2,7 @@
 use Rattle.std.specs.Prelude.{Vec, ◌≡◌, ◌⊎◌, ◌<◌, ◌≤◌, ⊤, ℕ, ◌^◌, Bool, List, [], length, Option, Some, None, IfSome, IsSomeAnd, Result, Ok, Err}
 use Rattle.std.specs.FinMap.{get}
 use Rattle.std.specs.Global.{Global}
+use Rattle.cxx_ast.specs.declared.standard.Std.{Std}
 use Rattle.eh_outer.specs.Module.{ModuleView}
 use Rattle.eh_outer.specs.Store.{StoreView, Refuses}
 use Rattle.eh_outer.specs.declared.store.RefusalKind.TheVariants.{FailedRead, LongRead}
@@ -18,13 +19,14 @@ abbrev pub input_limit : ℕ
 input_limit = 2 ^ 20
 
 -- what a command asks of a file: its name, that of the image to be stored or of the schedule, that of its input if it has one, those of all inputs, the most turns or steps,
--- whether events are printed, whether steps are counted, and the modules
+-- the standard, whether events are printed, whether steps are counted, and the modules
 pub record Asked : Type 0 where
   pub source : List ℕ
   pub image : List ℕ
   pub input : Option (List ℕ)
   pub inputs : List (List ℕ)
   pub turns : ℕ
+  pub std : Std
   pub trace : Bool
   pub count : Bool
   pub modules : List ModuleView

@@ -1,5 +1,6 @@
 -- When `gen N` gives each status, and what it prints.
 use Rattle.std.specs.Prelude.{◌≡◌, ⊤, ℕ, true, List, [], ◌∷◌, count_by, codes, Some, Ok}
+use Rattle.cxx_ast.specs.declared.standard.Std.TheVariants.{Cxx03}
 use Rattle.cxx_ast.specs.Plain.{Program, Checked}
 use Rattle.cxx_ast.specs.Checked.{checked}
 use Rattle.cxx_front.specs.Fate.{HasOnly, valid}
@@ -61,7 +62,7 @@ CheckedRuns turns p tokens r = (tokens ≡ p.program.tokens) × RunsAlone turns 
 
 -- so of the source of a size, which is a valid program
 abbrev pub SizeRuns : ℕ → ℕ → ℕ → Ran → Type 0
-SizeRuns turns n tokens r = (p : Program) × HasOnly (generated n) (valid p) × (tokens ≡ p.tokens) × RunsAlone turns (checked p) r
+SizeRuns turns n tokens r = (p : Program) × HasOnly Cxx03 (generated n) (valid p) × (tokens ≡ p.tokens) × RunsAlone turns (checked Cxx03 p) r
 
 -- so of the size that the operand is
 abbrev pub GeneratedRuns : Asked → ℕ → Ran → Type 0

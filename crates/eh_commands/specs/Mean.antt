@@ -39,7 +39,7 @@ mean_lines trace items end = lines_of trace items ++ end_line end ∷ []
 
 -- the source is a valid program, which with the input means this
 abbrev pub MeansThis : Asked → Meaning → List ℕ → List ℕ → Type 0
-MeansThis a m source input = (p : Program) × HasOnly source (valid p) × (m ≡ meant (checked p) input a.modules a.turns)
+MeansThis a m source input = (p : Program) × HasOnly a.std source (valid p) × (m ≡ meant (checked a.std p) input a.modules a.turns)
 
 -- how a meaning ends: its lines go out, and the status is that of its end; or a line fails; or memory ran out, and nothing was written
 abbrev pub MeaningEnds : Bool → Meaning → SinkView → SinkView → Status → Type 0
@@ -49,7 +49,7 @@ MeaningEnds trace m old new status = (status ≡ status_of_end m.end) × TakesAl
 
 -- what becomes of a source with an input
 abbrev pub SourceMeans : Asked → List ℕ → List ℕ → SinkView → SinkView → Status → Type 0
-SourceMeans a source input old new (SourceRefused number place) = HasOnly source (refused number place) × (new ≡ old)
+SourceMeans a source input old new (SourceRefused number place) = HasOnly a.std source (refused number place) × (new ≡ old)
 SourceMeans a source input old new NoMemory = new ≡ old
 SourceMeans a source input old new status = (m : Meaning) × MeansThis a m source input × MeaningEnds a.trace m old new status
 
@@ -57,6 +57,6 @@ SourceMeans a source input old new status = (m : Meaning) × MeansThis a m sourc
 abbrev pub MeanCause : Asked → StoreView → StoreView → SinkView → SinkView → Status → Type 0
 MeanCause a old new out out' ReadFault = UnreadEither source_limit a old new ReadFault × (out' ≡ out)
 MeanCause a old new out out' TooLong = UnreadEither source_limit a old new TooLong × (out' ≡ out)
-MeanCause a old new out out' (SourceRefused number place) = ToldBoth source_limit a old (λ source input. HasOnly source (refused number place)) × (out' ≡ out)
+MeanCause a old new out out' (SourceRefused number place) = ToldBoth source_limit a old (λ source input. HasOnly a.std source (refused number place)) × (out' ≡ out)
 MeanCause a old new out out' NoMemory = out' ≡ out
 MeanCause a old new out out' status = (m : Meaning) × ToldBoth source_limit a old (MeansThis a m) × MeaningEnds a.trace m out out' status

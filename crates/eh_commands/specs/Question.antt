@@ -12,6 +12,7 @@ asked_by q modules = record {
   input = option_map (λ name. name.now) q.input;
   inputs = map string_bytes q.inputs.now;
   turns = q.turns;
+  std = q.std;
   trace = q.trace;
   count = q.count;
   modules = modules;

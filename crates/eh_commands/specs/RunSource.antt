@@ -23,7 +23,7 @@ CompiledRunsThis a r p input = RunsUnit (emitted_for p) (image_for p) × RunsThi
 
 -- so of a source, which is a valid program
 abbrev pub SourceRunsThis : Asked → Ran → List ℕ → List ℕ → Type 0
-SourceRunsThis a r source input = (p : Program) × HasOnly source (valid p) × CompiledRunsThis a r (checked p) input
+SourceRunsThis a r source input = (p : Program) × HasOnly a.std source (valid p) × CompiledRunsThis a r (checked a.std p) input
 
 -- a program that is ready to run is that of a checked program's image, which stands for what is emitted for it
 abbrev pub IsReady : Checked → ReadyProgram → Type 0
@@ -36,7 +36,7 @@ CompiledRuns a p input old new status = (r : Ran) × CompiledRunsThis a r p inpu
 
 -- what becomes of a source with an input
 abbrev pub SourceRuns : Asked → List ℕ → List ℕ → SinkView → SinkView → Status → Type 0
-SourceRuns a source input old new (SourceRefused number place) = HasOnly source (refused number place) × (new ≡ old)
+SourceRuns a source input old new (SourceRefused number place) = HasOnly a.std source (refused number place) × (new ≡ old)
 SourceRuns a source input old new NoMemory = new ≡ old
 SourceRuns a source input old new status = (r : Ran) × SourceRunsThis a r source input × RunEnds a r old new status
 
@@ -44,6 +44,6 @@ SourceRuns a source input old new status = (r : Ran) × SourceRunsThis a r sourc
 abbrev pub RunCause : Asked → StoreView → StoreView → SinkView → SinkView → Status → Type 0
 RunCause a old new out out' ReadFault = UnreadEither source_limit a old new ReadFault × (out' ≡ out)
 RunCause a old new out out' TooLong = UnreadEither source_limit a old new TooLong × (out' ≡ out)
-RunCause a old new out out' (SourceRefused number place) = ToldBoth source_limit a old (λ source input. HasOnly source (refused number place)) × (out' ≡ out)
+RunCause a old new out out' (SourceRefused number place) = ToldBoth source_limit a old (λ source input. HasOnly a.std source (refused number place)) × (out' ≡ out)
 RunCause a old new out out' NoMemory = out' ≡ out
 RunCause a old new out out' status = (r : Ran) × ToldBoth source_limit a old (SourceRunsThis a r) × RunEnds a r out out' status

@@ -31,6 +31,7 @@ asked modules command = record {
   input = slice_get command.inputs 0;
   inputs = command.inputs;
   turns = command.max;
+  std = command.std;
   trace = command.trace;
   count = command.count;
   modules = modules;

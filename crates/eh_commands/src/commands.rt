@@ -54,6 +54,7 @@ fn question_of(command: &Command) -> Question<'_>
         input: first_of(command.inputs.as_slice()),
         inputs: command.inputs.as_slice(),
         turns: command.max,
+        std: command.std,
         trace: command.trace,
         count: command.count,
     }

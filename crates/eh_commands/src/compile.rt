@@ -9,6 +9,7 @@ ghost use Rattle.eh_commands.specs.Question.{asked_by};
 use crate::file::{Ended, Question, SOURCE_LIMIT, read};
 use crate::status::Status;
 use cxx_ast::program::Checked;
+use cxx_ast::standard::Std;
 use cxx_front::checked;
 use cxx_image::image_of;
 use eh_outer::{Store, StoreError};
@@ -31,11 +32,17 @@ fn store_image<St: Store>(alloc: Global, program: &Checked, name: &str, store: &
 }
 
 // Compiles a source, and stores its image.
-fn compile_source<St: Store>(alloc: Global, source: &[u8], name: &str, store: &mut St) -> Status
+fn compile_source<St: Store>(
+    alloc: Global,
+    source: &[u8],
+    standard: Std,
+    name: &str,
+    store: &mut St,
+) -> Status
     requires { length source.now ≤ source_limit }
-    ensures { SourceCompiles name.now source.now (St.view store.old) (St.view store.new) result }
+    ensures { SourceCompiles standard name.now source.now (St.view store.old) (St.view store.new) result }
 {
-    match checked(alloc, source) {
+    match checked(alloc, source, standard) {
         Err(error) => error.into(),
         Ok(program) => store_image(alloc, &program, name, store),
     }
@@ -56,7 +63,13 @@ pub fn compile_file<'a, St: Store>(
             file: question.source,
         },
         Ok(source) => Ended {
-            status: compile_source(alloc, source.as_slice(), question.image, store),
+            status: compile_source(
+                alloc,
+                source.as_slice(),
+                question.std,
+                question.image,
+                store,
+            ),
             file: "",
         },
     }

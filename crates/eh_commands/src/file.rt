@@ -4,6 +4,7 @@ ghost use Rattle.eh_commands.specs.File.{NamesRefusal, ReadsBoth, ReadsFile, Rea
 ghost use Rattle.eh_commands.specs.Question.{asked_by};
 
 use crate::status::Status;
+use cxx_ast::standard::Std;
 use eh_outer::{Store, StoreError};
 use std::alloc::Global;
 
@@ -14,7 +15,7 @@ pub const SOURCE_LIMIT: u64 = 0x10_0000;
 pub const INPUT_LIMIT: u64 = 0x10_0000;
 
 /// What is asked of a file: its name, or the size of a source that is generated; that of the image to be stored, or of the schedule; that of
-/// its input if it has one, and those of all inputs; the most turns or steps, whether events are printed, and whether steps are counted.
+/// its input if it has one, and those of all inputs; the most turns or steps, the standard, whether events are printed, and whether steps are counted.
 #[derive(Clone, Copy, Debug)]
 pub struct Question<'a> {
     pub source: &'a str,
@@ -22,6 +23,7 @@ pub struct Question<'a> {
     pub input: Option<&'a str>,
     pub inputs: &'a [String],
     pub turns: u64,
+    pub std: Std,
     pub trace: bool,
     pub count: bool,
 }

@@ -15,6 +15,7 @@ use crate::run_end::{put_last, status_of_run};
 use crate::status::Status;
 use command_line::source_size;
 use cxx_ast::program::Checked;
+use cxx_ast::standard::Std;
 use cxx_front::{SourceError, checked};
 use eh_outer::{Once, Sink, SinkError};
 use eh_run::{Counted, Loaded, run_counted};
@@ -76,7 +77,7 @@ fn count_size<Out: Sink>(alloc: Global, size: u32, turns: u64, out: &mut Out) ->
     let Ok(source) = generate(alloc, size) else {
         return Status::NoMemory;
     };
-    match checked(alloc, source.as_slice()) {
+    match checked(alloc, source.as_slice(), Std::Cxx03) {
         Err(SourceError::Refused(_, _)) => unreachable!(),
         Err(SourceError::NoMemory) => Status::NoMemory,
         Ok(program) => count_program(alloc, &program, turns, out),

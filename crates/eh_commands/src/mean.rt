@@ -105,7 +105,7 @@ fn mean_of_source<Out: Sink, M: Module>(
     requires { length source.now ≤ source_limit }
     ensures { SourceMeans (asked_by question.now (map M.view modules.old.items)) source.now input.now (Out.view out.old) (Out.view out.new) result }
 {
-    match checked(alloc, source) {
+    match checked(alloc, source, question.std) {
         Err(error) => error.into(),
         Ok(program) => mean_of_program(alloc, &program, input, question, modules, out),
     }

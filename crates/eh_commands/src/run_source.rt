@@ -47,7 +47,7 @@ fn run_source<Out: Sink, M: Module>(
     requires short { length source.now ≤ source_limit }
     ensures { SourceRuns (asked_by question.now (map M.view modules.items)) source.now input.now (Out.view out.old) (Out.view out.new) result }
 {
-    match checked(alloc, source) {
+    match checked(alloc, source, question.std) {
         Err(error) => error.into(),
         Ok(program) => run_program(alloc, &program, input, question, modules, out),
     }

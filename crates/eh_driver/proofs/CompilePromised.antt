@@ -23,30 +23,30 @@ module _ (laws : CompilerLaws) (a : Asked) (source : List ℕ) (old new : StoreV
   told : (P : List ℕ → Type 0) → Told source_limit old a.source P → P source
   told P = told_of source_limit old a.source source u.files P u.told u.there
 
-  module _ (p : Program) (program : IsProgram source p) (holds : Valid p) where
+  module _ (p : Program) (program : IsProgram source p) (holds : Valid a.std p) where
     -- the bytes are those of the program's image
-    bytes_so : (bytes : List ℕ) → CompilesTo bytes source → bytes ≡ image_for (checked p)
-    bytes_so bytes (q, only, is, runs) = is ∙ ap (λ x. image_for (checked x)) (valid_same (only.only (valid p) (program, holds)))
+    bytes_so : (bytes : List ℕ) → CompilesTo a.std bytes source → bytes ≡ image_for (checked a.std p)
+    bytes_so bytes (q, only, is, runs) = is ∙ ap (λ x. image_for (checked a.std x)) (valid_same (only.only (valid p) (program, holds)))
 
     -- they are the compiled program
-    compiled_so : (bytes : List ℕ) → CompilesTo bytes source → AreCompiled (checked p) (image_for (checked p))
+    compiled_so : (bytes : List ℕ) → CompilesTo a.std bytes source → AreCompiled (checked a.std p) (image_for (checked a.std p))
     compiled_so bytes (q, only, is, runs) =
-        are_compiled laws source p program holds (subst (λ x. RunsUnit (emitted_for (checked x)) (image_for (checked x))) (valid_same (only.only (valid p) (program, holds))) runs)
+        are_compiled laws a.std source p program holds (subst (λ x. RunsUnit (emitted_for (checked a.std x)) (image_for (checked a.std x))) (valid_same (only.only (valid p) (program, holds))) runs)
 
-    stored_so : (bytes : List ℕ) → CompilesTo bytes source → IfSome old.files (λ files. new.files ≡ Some (insert files a.image bytes)) →
-        new.files ≡ Some (insert u.files a.image (image_for (checked p)))
+    stored_so : (bytes : List ℕ) → CompilesTo a.std bytes source → IfSome old.files (λ files. new.files ≡ Some (insert files a.image bytes)) →
+        new.files ≡ Some (insert u.files a.image (image_for (checked a.std p)))
     stored_so bytes is stores =
         let at : new.files ≡ Some (insert u.files a.image bytes) = subst (λ f. IfSome f (λ files. new.files ≡ Some (insert files a.image bytes))) u.told stores in
         at ∙ ap (λ b. Some (insert u.files a.image b)) (bytes_so bytes is)
 
-    not_refused_so : (number place : ℕ) → HasOnly source (refused number place) → ⊥
+    not_refused_so : (number place : ℕ) → HasOnly a.std source (refused number place) → ⊥
     not_refused_so number place only = let same : refused number place ≡ valid p = only.only (valid p) (program, holds) in cc
 
     stores_so : (status : Status) → CompileCause a old new status →
-        ((status ≡ NoMemory) × (new.files ≡ old.files)) ⊎ ((status ≡ Done) × (new.files ≡ Some (insert u.files a.image (image_for (checked p)))) × AreCompiled (checked p) (image_for (checked p)))
-    stores_so Done (bytes, is, stores) = let this = told (CompilesTo bytes) is in inr (refl, stored_so bytes this stores, compiled_so bytes this)
+        ((status ≡ NoMemory) × (new.files ≡ old.files)) ⊎ ((status ≡ Done) × (new.files ≡ Some (insert u.files a.image (image_for (checked a.std p)))) × AreCompiled (checked a.std p) (image_for (checked a.std p)))
+    stores_so Done (bytes, is, stores) = let this = told (CompilesTo a.std bytes) is in inr (refl, stored_so bytes this stores, compiled_so bytes this)
     stores_so Usage h = absurd h
-    stores_so (SourceRefused number place) (is, kept) = absurd (not_refused_so number place (told (λ s. HasOnly s (refused number place)) is))
+    stores_so (SourceRefused number place) (is, kept) = absurd (not_refused_so number place (told (λ s. HasOnly a.std s (refused number place)) is))
     stores_so (ImageRefused number place location other) h = absurd h
     stores_so ReadFault (why, kept) = absurd (u.store why.rose)
     stores_so TooLong ((n, above, why, long), kept) = absurd (u.store why.rose)
@@ -60,14 +60,14 @@ module _ (laws : CompilerLaws) (a : Asked) (source : List ℕ) (old new : StoreV
     stores_so Undefined h = absurd h
     stores_so Differs h = absurd h
 
-  module _ (number place : ℕ) (is : IsRefused source number place) where
-    compiles_not : (bytes : List ℕ) → CompilesTo bytes source → ⊥
-    compiles_not bytes (q, only, e, runs) = not_refused source q number place only is
+  module _ (number place : ℕ) (is : IsRefused a.std source number place) where
+    compiles_not : (bytes : List ℕ) → CompilesTo a.std bytes source → ⊥
+    compiles_not bytes (q, only, e, runs) = not_refused a.std source q number place only is
 
     refuses_so : (status : Status) → CompileCause a old new status → ((status ≡ NoMemory) ⊎ (status ≡ SourceRefused number place)) × (new.files ≡ old.files)
-    refuses_so Done (bytes, by, stores) = absurd (compiles_not bytes (told (CompilesTo bytes) by))
+    refuses_so Done (bytes, by, stores) = absurd (compiles_not bytes (told (CompilesTo a.std bytes) by))
     refuses_so Usage h = absurd h
-    refuses_so (SourceRefused n at) (by, kept) = (inr (same_refusal ((told (λ s. HasOnly s (refused n at)) by).only (refused number place) is)), kept)
+    refuses_so (SourceRefused n at) (by, kept) = (inr (same_refusal ((told (λ s. HasOnly a.std s (refused n at)) by).only (refused number place) is)), kept)
     refuses_so (ImageRefused n at location other) h = absurd h
     refuses_so ReadFault (why, kept) = absurd (u.store why.rose)
     refuses_so TooLong ((n, above, why, long), kept) = absurd (u.store why.rose)

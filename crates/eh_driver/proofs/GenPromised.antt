@@ -3,6 +3,7 @@ use Rattle.std.proofs.Common.{◌≡◌, ◌⊎◌, ◌∙◌, ◌+◌, ◌*◌,
 use Rattle.eh_outer.specs.Store.{Rose}
 use Rattle.eh_outer.specs.Sink.{SinkView, Gains}
 use Rattle.run_items.specs.Output.{TakesAll, bytes_of}
+use Rattle.cxx_ast.specs.declared.standard.Std.TheVariants.{Cxx03}
 use Rattle.cxx_ast.specs.Plain.{Program}
 use Rattle.cxx_front.specs.Fate.{HasOnly, valid}
 use Rattle.cxa_runtime.specs.Run.{Ran}
@@ -20,7 +21,7 @@ use Rattle.eh_driver.proofs.MeantShown.{CompilerLaws, are_compiled}
 
 module _ (laws : CompilerLaws) (a : Asked) (n : ℕ) (size : source_size a.source ≡ Some n) (out out' : SinkView) where
   -- how many tokens the program has
-  counted : (p : Program) → HasOnly (generated n) (valid p) → p.tokens ≡ 31 * n + 73
+  counted : (p : Program) → HasOnly Cxx03 (generated n) (valid p) → p.tokens ≡ 31 * n + 73
   counted p only =
       let s = laws.generated n (size_bounded a.source n size) in
       ap (λ (q : Program). q.tokens) (valid_same (only.only (valid s.program) (record { tokens = s.tokens; lexed = s.lexed; tree = s.tree }, s.valid))) ∙ s.counted
@@ -31,7 +32,7 @@ module _ (laws : CompilerLaws) (a : Asked) (n : ℕ) (size : source_size a.sourc
       p,
       only.is.0,
       only.is.1,
-      are_compiled laws (generated n) p only.is.0 only.is.1 alone.0,
+      are_compiled laws Cxx03 (generated n) p only.is.0 only.is.1 alone.0,
       r,
       alone,
       ended,

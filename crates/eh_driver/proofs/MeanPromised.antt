@@ -54,27 +54,27 @@ module _ (laws : LawsOfEvents) (a : Asked) (source input : List ℕ) (old new : 
   told_so P told = both_of source_limit a old u.calm.files source input P u.calm.told u.calm.there u.given told
 
   -- what it means is the meaning of the valid program
-  meaning_so : (m : Meaning) (p : Program) → ToldBoth source_limit a old (MeansThis a m) → IsProgram source p → Valid p → m ≡ meant (checked p) input a.modules a.turns
+  meaning_so : (m : Meaning) (p : Program) → ToldBoth source_limit a old (MeansThis a m) → IsProgram source p → Valid a.std p → m ≡ meant (checked a.std p) input a.modules a.turns
   meaning_so m p told program holds = go (told_so (MeansThis a m) told)
     where
-      go : MeansThis a m source input → m ≡ meant (checked p) input a.modules a.turns
-      go (q, only, is) = is ∙ ap (λ x. meant (checked x) input a.modules a.turns) (valid_same (only.only (valid p) (program, holds)))
+      go : MeansThis a m source input → m ≡ meant (checked a.std p) input a.modules a.turns
+      go (q, only, is) = is ∙ ap (λ x. meant (checked a.std x) input a.modules a.turns) (valid_same (only.only (valid p) (program, holds)))
 
-  shown : (m : Meaning) (p : Program) (status : Status) → ToldBoth source_limit a old (MeansThis a m) → IsProgram source p → Valid p → status ≡ status_of_end m.end → TakesAll (mean_lines a.trace m.items m.end) out out' →
-      (status ≡ NoMemory) ⊎ Shows a.trace (meant (checked p) input a.modules a.turns) out out' status
+  shown : (m : Meaning) (p : Program) (status : Status) → ToldBoth source_limit a old (MeansThis a m) → IsProgram source p → Valid a.std p → status ≡ status_of_end m.end → TakesAll (mean_lines a.trace m.items m.end) out out' →
+      (status ≡ NoMemory) ⊎ Shows a.trace (meant (checked a.std p) input a.modules a.turns) out out' status
   shown m p status told program holds is puts =
       let went = subst (λ x. (status ≡ status_of_end x.end) × Gains (bytes_of (mean_lines a.trace x.items x.end)) out out') (meaning_so m p told program holds) (is, puts.gains) in
-      inr (went.0, went.1, meaning_holds laws (checked p) input (rests_of a.modules) a.turns 128)
+      inr (went.0, went.1, meaning_holds laws (checked a.std p) input (rests_of a.modules) a.turns 128)
 
   -- a valid source is not refused
-  refused_valid : (p : Program) (number place : ℕ) → HasOnly source (refused number place) → IsProgram source p → Valid p → ⊥
+  refused_valid : (p : Program) (number place : ℕ) → HasOnly a.std source (refused number place) → IsProgram source p → Valid a.std p → ⊥
   refused_valid p number place only program holds = let same : refused number place ≡ valid p = only.only (valid p) (program, holds) in cc
 
-  shows_so : (p : Program) (status : Status) → IsProgram source p → Valid p → MeanCause a old new out out' status →
-      (status ≡ NoMemory) ⊎ Shows a.trace (meant (checked p) input a.modules a.turns) out out' status
+  shows_so : (p : Program) (status : Status) → IsProgram source p → Valid a.std p → MeanCause a old new out out' status →
+      (status ≡ NoMemory) ⊎ Shows a.trace (meant (checked a.std p) input a.modules a.turns) out out' status
   shows_so p ReadFault program holds (why, rest) = absurd (both_read source_limit a old new u.calm.store why)
   shows_so p TooLong program holds (why, rest) = absurd (both_short source_limit a old new u.calm.store why)
-  shows_so p (SourceRefused number place) program holds (told, rest) = absurd (refused_valid p number place (told_so (λ s i. HasOnly s (refused number place)) told) program holds)
+  shows_so p (SourceRefused number place) program holds (told, rest) = absurd (refused_valid p number place (told_so (λ s i. HasOnly a.std s (refused number place)) told) program holds)
   shows_so p NoMemory program holds h = inl refl
   shows_so p WriteFault program holds (m, told, fails) = absurd (u.calm.sink fails.rose)
   shows_so p Done program holds (m, told, (is, puts)) = shown m p Done told program holds is puts
@@ -89,16 +89,16 @@ module _ (laws : LawsOfEvents) (a : Asked) (source input : List ℕ) (old new : 
   shows_so p Differs program holds (m, told, (is, puts)) = shown m p Differs told program holds is puts
 
   -- what is valid is not refused
-  means_valid : (m : Meaning) (number place : ℕ) → ToldBoth source_limit a old (MeansThis a m) → IsRefused source number place → ⊥
+  means_valid : (m : Meaning) (number place : ℕ) → ToldBoth source_limit a old (MeansThis a m) → IsRefused a.std source number place → ⊥
   means_valid m number place told is = go (told_so (MeansThis a m) told)
     where
       go : MeansThis a m source input → ⊥
-      go (q, only, same) = not_refused source q number place only is
+      go (q, only, same) = not_refused a.std source q number place only is
 
-  refuses_so : (number place : ℕ) (status : Status) → IsRefused source number place → MeanCause a old new out out' status → (status ≡ NoMemory) ⊎ (status ≡ SourceRefused number place)
+  refuses_so : (number place : ℕ) (status : Status) → IsRefused a.std source number place → MeanCause a old new out out' status → (status ≡ NoMemory) ⊎ (status ≡ SourceRefused number place)
   refuses_so number place ReadFault is (why, rest) = absurd (both_read source_limit a old new u.calm.store why)
   refuses_so number place TooLong is (why, rest) = absurd (both_short source_limit a old new u.calm.store why)
-  refuses_so number place (SourceRefused n at) is (told, rest) = inr (same_refusal ((told_so (λ s i. HasOnly s (refused n at)) told).only (refused number place) is))
+  refuses_so number place (SourceRefused n at) is (told, rest) = inr (same_refusal ((told_so (λ s i. HasOnly a.std s (refused n at)) told).only (refused number place) is))
   refuses_so number place NoMemory is h = inl refl
   refuses_so number place WriteFault is (m, told, fails) = absurd (u.calm.sink fails.rose)
   refuses_so number place Done is (m, told, h) = absurd (means_valid m number place told is)

@@ -5,6 +5,7 @@ use Rattle.std.proofs.lemmas.List.{length-map}
 use Rattle.run_items.specs.Output.{TakesAll}
 use Rattle.eh_outer.specs.Module.{ModuleView}
 use Rattle.eh_outer.specs.Sink.{SinkView}
+use Rattle.cxx_ast.specs.declared.standard.Std.{Std}
 use Rattle.cxx_ast.specs.Plain.{Program}
 use Rattle.cxx_ast.specs.Broken.{Valid}
 use Rattle.cxx_ast.specs.Checked.{IsChecked, checked}
@@ -51,10 +52,11 @@ pub record IsAsked (a : Asked) : Type 0 where
   pub ints : GuestsAreInts a.modules
 
 -- a valid program is a checked one
-is_checked : (source : List ℕ) (p : Program) → IsProgram source p → Valid p → IsChecked (checked p)
-is_checked source p program holds = record {
+is_checked : (std : Std) (source : List ℕ) (p : Program) → IsProgram source p → Valid std p → IsChecked (checked std p)
+is_checked std source p program holds = record {
   source = source;
   tokens = program.tokens;
+  std = std;
   program = p;
   lexed = program.lexed;
   tree = program.tree;
@@ -62,46 +64,47 @@ is_checked source p program holds = record {
   resolved = refl;
 }
 
-module _ (laws : CompilerLaws) (source : List ℕ) (p : Program) (program : IsProgram source p) (holds : Valid p) where
+module _ (laws : CompilerLaws) (std : Std) (source : List ℕ) (p : Program) (program : IsProgram source p) (holds : Valid std p) where
   abbrev bytes : List ℕ
-  bytes = image_for (checked p)
+  bytes = image_for (checked std p)
 
   -- the image that is stored
-  pub are_compiled : RunsUnit (emitted_for (checked p)) bytes → AreCompiled (checked p) bytes
+  pub are_compiled : RunsUnit (emitted_for (checked std p)) bytes → AreCompiled (checked std p) bytes
   are_compiled runs = by (runnable bytes) refl runs
     where
-      by : (r : Result CleanImage Fault) → runnable bytes ≡ r → IsOkAnd r (UnitStands (emitted_for (checked p))) → AreCompiled (checked p) bytes
+      by : (r : Result CleanImage Fault) → runnable bytes ≡ r → IsOkAnd r (UnitStands (emitted_for (checked std p))) → AreCompiled (checked std p) bytes
       by (Ok i) read stands =
-          let is = is_checked source p program holds in
-          let linkable = laws.linkable (checked p) is in
+          let is = is_checked std source p program holds in
+          let linkable = laws.linkable (checked std p) is in
           record {
             image = i;
             read = read;
-            words = laws.small.words (emitted_for (checked p)) linkable;
-            small = laws.small.bytes (emitted_for (checked p)) linkable;
-            compiled = laws.compiled (checked p) is bytes i read stands;
-            enough = laws.enough (checked p) is bytes i read stands;
-            events = λ input replies n r means. run_holds laws.events (program_meaning (checked p) input replies n (n + 1)) r (laws.events.right (checked p) input replies n (n + 1)) means;
+            words = laws.small.words (emitted_for (checked std p)) linkable;
+            small = laws.small.bytes (emitted_for (checked std p)) linkable;
+            compiled = laws.compiled (checked std p) is bytes i read stands;
+            enough = laws.enough (checked std p) is bytes i read stands;
+            events = λ input replies n r means. run_holds laws.events (program_meaning (checked std p) input replies n (n + 1)) r (laws.events.right (checked std p) input replies n (n + 1)) means;
           }
       by (Err fault) read stands = absurd stands
 
+module _ (laws : CompilerLaws) (a : Asked) (source : List ℕ) (p : Program) (program : IsProgram source p) (holds : Valid a.std p) where
   -- the run that is shown
-  pub meant_shown : (a : Asked) → IsAsked a → (input : List ℕ) → AreBytes input → ((meaning_for a p input).end ≡ meanings.Undefined → ⊥) → (out out' : SinkView) (status : Status) (r : Ran) → CompiledRunsThis a r (checked p) input →
+  pub meant_shown : IsAsked a → (input : List ℕ) → AreBytes input → ((meaning_for a p input).end ≡ meanings.Undefined → ⊥) → (out out' : SinkView) (status : Status) (r : Ran) → CompiledRunsThis a r (checked a.std p) input →
       status ≡ status_of_run r.end → TakesAll (run_lines a.trace a.count r) out out' → ShowsMeant a p input out out' status
-  meant_shown a asked input ints defined out out' status r (runs, this) end took =
+  meant_shown asked input ints defined out out' status r (runs, this) end took =
       let (i, read, run) = this in
-      let stands : UnitStands (emitted_for (checked p)) i = subst (λ y. IsOkAnd y (UnitStands (emitted_for (checked p)))) read runs in
-      let compiled = laws.compiled (checked p) (is_checked source p program holds) bytes i read stands in
+      let stands : UnitStands (emitted_for (checked a.std p)) i = subst (λ y. IsOkAnd y (UnitStands (emitted_for (checked a.std p)))) read runs in
+      let compiled = laws.compiled (checked a.std p) (is_checked a.std source p program holds) (image_for (checked a.std p)) i read stands in
       let few : length (replies_of a.modules) ≤ 64 = subst (λ n. n ≤ 64) (sym (length-map a.modules (λ (seen : ModuleView). seen.rest))) asked.few in
       let given : IsGiven input (replies_of a.modules) = record { bytes = ints; few = few; ints = asked.ints } in
       let means = compiled.means input (replies_of a.modules) a.turns r given asked.turns run defined in
-      (r, this, means, run_holds laws.events (meaning_for a p input) r (laws.events.right (checked p) input (replies_of a.modules) a.turns (a.turns + 1)) means, end, took.gains)
+      (r, this, means, run_holds laws.events (meaning_for a p input) r (laws.events.right (checked a.std p) input (replies_of a.modules) a.turns (a.turns + 1)) means, end, took.gains)
 
   -- with enough steps for a meaning with fewer turns
-  module _ (a : Asked) (asked : IsAsked a) (input : List ℕ) (ints : AreBytes input) (turns : ℕ) (many : enough_for (checked p) turns ≤ a.turns) (out out' : SinkView) (status : Status) (r : Ran)
-      (this : CompiledRunsThis a r (checked p) input) (end : status ≡ status_of_run r.end) (took : TakesAll (run_lines a.trace a.count r) out out') where
-    enough : HasEnough (checked p) this.1.0
-    enough = laws.enough (checked p) (is_checked source p program holds) bytes this.1.0 this.1.1 (subst (λ y. IsOkAnd y (UnitStands (emitted_for (checked p)))) this.1.1 this.0)
+  module _ (asked : IsAsked a) (input : List ℕ) (ints : AreBytes input) (turns : ℕ) (many : enough_for (checked a.std p) turns ≤ a.turns) (out out' : SinkView) (status : Status) (r : Ran)
+      (this : CompiledRunsThis a r (checked a.std p) input) (end : status ≡ status_of_run r.end) (took : TakesAll (run_lines a.trace a.count r) out out') where
+    enough : HasEnough (checked a.std p) this.1.0
+    enough = laws.enough (checked a.std p) (is_checked a.std source p program holds) (image_for (checked a.std p)) this.1.0 this.1.1 (subst (λ y. IsOkAnd y (UnitStands (emitted_for (checked a.std p)))) this.1.1 this.0)
 
     given : IsGiven input (replies_of a.modules)
     given = record { bytes = ints; few = subst (λ n. n ≤ 64) (sym (length-map a.modules (λ (seen : ModuleView). seen.rest))) asked.few; ints = asked.ints }

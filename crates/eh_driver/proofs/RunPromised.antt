@@ -24,23 +24,23 @@ module _ (a : Asked) (source input : List ℕ) (old new : StoreView) (out out' :
   told_so : (P : List ℕ → List ℕ → Type 0) → ToldBoth source_limit a old P → P source input
   told_so P told = both_of source_limit a old u.calm.files source input P u.calm.told u.calm.there u.given told
 
-  refused_so : (number place : ℕ) → RunCause a old new out out' (SourceRefused number place) → HasOnly source (refused number place)
-  refused_so number place (told, rest) = told_so (λ s i. HasOnly s (refused number place)) told
+  refused_so : (number place : ℕ) → RunCause a old new out out' (SourceRefused number place) → HasOnly a.std source (refused number place)
+  refused_so number place (told, rest) = told_so (λ s i. HasOnly a.std s (refused number place)) told
 
-  module _ (p : Program) (program : IsProgram source p) (holds : Valid p) where
+  module _ (p : Program) (program : IsProgram source p) (holds : Valid a.std p) where
     -- the run is one of the valid program
-    program_so : (r : Ran) → ToldBoth source_limit a old (SourceRunsThis a r) → CompiledRunsThis a r (checked p) input
+    program_so : (r : Ran) → ToldBoth source_limit a old (SourceRunsThis a r) → CompiledRunsThis a r (checked a.std p) input
     program_so r told = go (told_so (SourceRunsThis a r) told)
       where
-        go : SourceRunsThis a r source input → CompiledRunsThis a r (checked p) input
-        go (q, only, runs) = subst (λ x. CompiledRunsThis a r (checked x) input) (valid_same (only.only (valid p) (program, holds))) runs
+        go : SourceRunsThis a r source input → CompiledRunsThis a r (checked a.std p) input
+        go (q, only, runs) = subst (λ x. CompiledRunsThis a r (checked a.std x) input) (valid_same (only.only (valid p) (program, holds))) runs
 
     -- a valid source is not refused
     not_refused_so : (number place : ℕ) → RunCause a old new out out' (SourceRefused number place) → ⊥
     not_refused_so number place h = let same : refused number place ≡ valid p = (refused_so number place h).only (valid p) (program, holds) in cc
 
     -- what the run shows, whatever that means
-    module _ (P : Status → Type 0) (shown : (status : Status) (r : Ran) → CompiledRunsThis a r (checked p) input → status ≡ status_of_run r.end → TakesAll (run_lines a.trace a.count r) out out' → P status) where
+    module _ (P : Status → Type 0) (shown : (status : Status) (r : Ran) → CompiledRunsThis a r (checked a.std p) input → status ≡ status_of_run r.end → TakesAll (run_lines a.trace a.count r) out out' → P status) where
       taken : (status : Status) (r : Ran) → ToldBoth source_limit a old (SourceRunsThis a r) → (status ≡ status_of_run r.end) × TakesAll (run_lines a.trace a.count r) out out' → (status ≡ NoMemory) ⊎ P status
       taken status r told (ended, took) = inr (shown status r (program_so r told) ended took)
 
@@ -62,13 +62,13 @@ module _ (a : Asked) (source input : List ℕ) (old new : StoreView) (out out' :
       printed_so Differs (r, told, h) = taken Differs r told h
 
   -- what is valid is not refused
-  valid_not : (number place : ℕ) (r : Ran) → ToldBoth source_limit a old (SourceRunsThis a r) → IsRefused source number place → ⊥
+  valid_not : (number place : ℕ) (r : Ran) → ToldBoth source_limit a old (SourceRunsThis a r) → IsRefused a.std source number place → ⊥
   valid_not number place r told is = go (told_so (SourceRunsThis a r) told)
     where
       go : SourceRunsThis a r source input → ⊥
-      go (q, only, runs) = not_refused source q number place only is
+      go (q, only, runs) = not_refused a.std source q number place only is
 
-  module _ (number place : ℕ) (is : IsRefused source number place) where
+  module _ (number place : ℕ) (is : IsRefused a.std source number place) where
     refuses_so : (status : Status) → RunCause a old new out out' status → (status ≡ NoMemory) ⊎ (status ≡ SourceRefused number place)
     refuses_so Done (r, told, h) = absurd (valid_not number place r told is)
     refuses_so Usage (r, told, h) = absurd (valid_not number place r told is)
@@ -87,7 +87,7 @@ module _ (a : Asked) (source input : List ℕ) (old new : StoreView) (out out' :
     refuses_so Differs (r, told, h) = absurd (valid_not number place r told is)
 
 -- what a run of a program's image shows
-image_shown : (a : Asked) (p : Program) (input : List ℕ) (out out' : SinkView) (status : Status) (r : Ran) → CompiledRunsThis a r (checked p) input → status ≡ status_of_run r.end →
+image_shown : (a : Asked) (p : Program) (input : List ℕ) (out out' : SinkView) (status : Status) (r : Ran) → CompiledRunsThis a r (checked a.std p) input → status ≡ status_of_run r.end →
     TakesAll (run_lines a.trace a.count r) out out' → ShowsImage a p input out out' status
 image_shown a p input out out' status r (stands, this) ended took = (r, this, ended, took.gains)
 
@@ -96,12 +96,12 @@ run_promised laws a asked old new out out' status cause = record {
   shows = λ source input p u program holds.
       printed_so a source input old new out out' u p program holds (ShowsImage a p input out out') (image_shown a p input out out') status cause;
   means = λ source input p u program holds ints defined.
-      printed_so a source input old new out out' u p program holds (ShowsMeant a p input out out') (meant_shown laws source p program holds a asked input ints defined out out') status cause;
+      printed_so a source input old new out out' u p program holds (ShowsMeant a p input out out') (meant_shown laws a source p program holds asked input ints defined out out') status cause;
   ends = λ source input p turns u program holds ints many some.
       printed_so a source input old new out out' u p program holds (ShowsEnd a p turns input out out')
-      (λ status r this end took. end_shown laws source p program holds a asked input ints turns many out out' status r this end took some) status cause;
+      (λ status r this end took. end_shown laws a source p program holds asked input ints turns many out out' status r this end took some) status cause;
   goes_on = λ source input p turns u program holds ints many gone defined.
       printed_so a source input old new out out' u p program holds (ShowsAll a p turns input out out')
-      (λ status r this end took. all_shown laws source p program holds a asked input ints turns many out out' status r this end took gone defined) status cause;
+      (λ status r this end took. all_shown laws a source p program holds asked input ints turns many out out' status r this end took gone defined) status cause;
   refuses = λ source input number place u is. refuses_so a source input old new out out' u number place is status cause;
 }

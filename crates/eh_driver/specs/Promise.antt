@@ -15,6 +15,7 @@ use Rattle.meaning_forms.specs.Meaning.{Meaning, program_meaning}
 use Rattle.scope_meaning.specs.Mean.{meant}
 use Rattle.eh_commands.specs.Words.{asked}
 use Rattle.eh_commands.specs.Mean.{mean_lines, status_of_end}
+use Rattle.cxx_ast.specs.declared.standard.Std.TheVariants.{Cxx03}
 use Rattle.cxx_ast.specs.Plain.{Program, Checked}
 use Rattle.cxx_ast.specs.Broken.{Valid}
 use Rattle.cxx_ast.specs.Checked.{checked}
@@ -71,9 +72,9 @@ pub record AreCompiled (p : Checked) (bytes : List ℕ) : Type 0 where
 -- Where nothing disturbs: the image of a valid source, which is the compiled program, is stored under its name, and the told files are else as before; a
 -- source that is refused is refused by its number and place, and nothing is stored. Or memory ran out, and nothing is stored either.
 pub record CompilePromise (a : Asked) (old new : StoreView) (out out' : SinkView) (status : Status) : Type 0 where
-  pub stores : (source : List ℕ) (p : Program) (u : Undisturbed source_limit a.source source old new out out') → IsProgram source p → Valid p →
-      ((status ≡ NoMemory) × (new.files ≡ old.files)) ⊎ ((status ≡ Done) × (new.files ≡ Some (insert u.files a.image (image_for (checked p)))) × AreCompiled (checked p) (image_for (checked p)))
-  pub refuses : (source : List ℕ) (number place : ℕ) → Undisturbed source_limit a.source source old new out out' → IsRefused source number place →
+  pub stores : (source : List ℕ) (p : Program) (u : Undisturbed source_limit a.source source old new out out') → IsProgram source p → Valid a.std p →
+      ((status ≡ NoMemory) × (new.files ≡ old.files)) ⊎ ((status ≡ Done) × (new.files ≡ Some (insert u.files a.image (image_for (checked a.std p)))) × AreCompiled (checked a.std p) (image_for (checked a.std p)))
+  pub refuses : (source : List ℕ) (number place : ℕ) → Undisturbed source_limit a.source source old new out out' → IsRefused a.std source number place →
       ((status ≡ NoMemory) ⊎ (status ≡ SourceRefused number place)) × (new.files ≡ old.files)
 
 -- the input is that of the file, or empty where none is named
@@ -89,7 +90,7 @@ pub record MeanUndisturbed (a : Asked) (source input : List ℕ) (old new : Stor
 -- the lines of a run of the program's image went out, and the status is that of its end
 abbrev pub ShowsImage : Asked → Program → List ℕ → SinkView → SinkView → Status → Type 0
 ShowsImage a p input out out' status =
-    (r : Ran) × RunsThis a r (image_for (checked p)) input × (status ≡ status_of_run r.end) × Gains (bytes_of (run_lines a.trace a.count r)) out out'
+    (r : Ran) × RunsThis a r (image_for (checked a.std p)) input × (status ≡ status_of_run r.end) × Gains (bytes_of (run_lines a.trace a.count r)) out out'
 
 -- the input is one of bytes
 abbrev pub AreBytes : List ℕ → Type 0
@@ -97,29 +98,29 @@ AreBytes input = AllByRecursion (λ b. b < 256) input
 
 -- what the program means with the input and the modules, and with as many turns as its run may have steps
 abbrev pub meaning_for : Asked → Program → List ℕ → Meaning
-meaning_for a p input = program_meaning (checked p) input (replies_of a.modules) a.turns (a.turns + 1)
+meaning_for a p input = program_meaning (checked a.std p) input (replies_of a.modules) a.turns (a.turns + 1)
 
 -- so that this run is what the program means, and what it tells of exceptions is as promised
 abbrev pub ShowsMeant : Asked → Program → List ℕ → SinkView → SinkView → Status → Type 0
 ShowsMeant a p input out out' status =
-    (r : Ran) × RunsThis a r (image_for (checked p)) input × RunMeans (meaning_for a p input) r × EventsHold (meaning_for a p input) r.items (IsCut r.end → ⊥) × (status ≡ status_of_run r.end) ×
+    (r : Ran) × RunsThis a r (image_for (checked a.std p)) input × RunMeans (meaning_for a p input) r × EventsHold (meaning_for a p input) r.items (IsCut r.end → ⊥) × (status ≡ status_of_run r.end) ×
     Gains (bytes_of (run_lines a.trace a.count r)) out out'
 
 -- what it means with fewer turns
 abbrev pub shorter_meaning : Asked → Program → (turns : ℕ) → List ℕ → Meaning
-shorter_meaning a p turns input = program_meaning (checked p) input (replies_of a.modules) turns (turns + 1)
+shorter_meaning a p turns input = program_meaning (checked a.std p) input (replies_of a.modules) turns (turns + 1)
 
 -- so that this run comes to the end of that, or the stack is used up, where 4,096 calls were open
 abbrev pub ShowsEnd : Asked → Program → (turns : ℕ) → List ℕ → SinkView → SinkView → Status → Type 0
 ShowsEnd a p turns input out out' status =
-    (r : Ran) × RunsThis a r (image_for (checked p)) input ×
+    (r : Ran) × RunsThis a r (image_for (checked a.std p)) input ×
     (((r.items ≡ (shorter_meaning a p turns input).items) × EndsAs (shorter_meaning a p turns input).end r.end) ⊎ ((r.end ≡ ends.Stack) × (4096 ≤ (shorter_meaning a p turns input).deepest))) ×
     (status ≡ status_of_run r.end) × Gains (bytes_of (run_lines a.trace a.count r)) out out'
 
 -- or so that it has shown all that this shows
 abbrev pub ShowsAll : Asked → Program → (turns : ℕ) → List ℕ → SinkView → SinkView → Status → Type 0
 ShowsAll a p turns input out out' status =
-    (r : Ran) × RunsThis a r (image_for (checked p)) input ×
+    (r : Ran) × RunsThis a r (image_for (checked a.std p)) input ×
     (BeginsWith (shorter_meaning a p turns input).items r.items ⊎ ((r.end ≡ ends.Stack) × (4096 ≤ (meaning_for a p input).deepest))) ×
     (status ≡ status_of_run r.end) × Gains (bytes_of (run_lines a.trace a.count r)) out out'
 
@@ -128,15 +129,15 @@ ShowsAll a p turns input out out' status =
 -- enough steps for a meaning with fewer turns, it is not cut short before that ends, or before it runs out of its turns. One that is refused is refused by its
 -- number and place. Or memory ran out.
 pub record RunPromise (a : Asked) (old new : StoreView) (out out' : SinkView) (status : Status) : Type 0 where
-  pub shows : (source input : List ℕ) (p : Program) → MeanUndisturbed a source input old new out out' → IsProgram source p → Valid p →
+  pub shows : (source input : List ℕ) (p : Program) → MeanUndisturbed a source input old new out out' → IsProgram source p → Valid a.std p →
       (status ≡ NoMemory) ⊎ ShowsImage a p input out out' status
-  pub means : (source input : List ℕ) (p : Program) → MeanUndisturbed a source input old new out out' → IsProgram source p → Valid p → AreBytes input → ((meaning_for a p input).end ≡ Undefined → ⊥) →
+  pub means : (source input : List ℕ) (p : Program) → MeanUndisturbed a source input old new out out' → IsProgram source p → Valid a.std p → AreBytes input → ((meaning_for a p input).end ≡ Undefined → ⊥) →
       (status ≡ NoMemory) ⊎ ShowsMeant a p input out out' status
-  pub ends : (source input : List ℕ) (p : Program) (turns : ℕ) → MeanUndisturbed a source input old new out out' → IsProgram source p → Valid p → AreBytes input → enough_for (checked p) turns ≤ a.turns →
+  pub ends : (source input : List ℕ) (p : Program) (turns : ℕ) → MeanUndisturbed a source input old new out out' → IsProgram source p → Valid a.std p → AreBytes input → enough_for (checked a.std p) turns ≤ a.turns →
       HasEnd (shorter_meaning a p turns input).end → (status ≡ NoMemory) ⊎ ShowsEnd a p turns input out out' status
-  pub goes_on : (source input : List ℕ) (p : Program) (turns : ℕ) → MeanUndisturbed a source input old new out out' → IsProgram source p → Valid p → AreBytes input → enough_for (checked p) turns ≤ a.turns →
+  pub goes_on : (source input : List ℕ) (p : Program) (turns : ℕ) → MeanUndisturbed a source input old new out out' → IsProgram source p → Valid a.std p → AreBytes input → enough_for (checked a.std p) turns ≤ a.turns →
       (shorter_meaning a p turns input).end ≡ OutOfTurns → ((meaning_for a p input).end ≡ Undefined → ⊥) → (status ≡ NoMemory) ⊎ ShowsAll a p turns input out out' status
-  pub refuses : (source input : List ℕ) (number place : ℕ) → MeanUndisturbed a source input old new out out' → IsRefused source number place →
+  pub refuses : (source input : List ℕ) (number place : ℕ) → MeanUndisturbed a source input old new out out' → IsRefused a.std source number place →
       (status ≡ NoMemory) ⊎ (status ≡ SourceRefused number place)
 
 -- the lines of a meaning went out, and the status is that of its end; and what it tells of exceptions is as promised
@@ -146,9 +147,9 @@ Shows trace m out out' status = (status ≡ status_of_end m.end) × Gains (bytes
 -- Where nothing disturbs: what a valid source means goes out, and the status is that of its end; one that is refused is refused by
 -- its number and place. Or memory ran out.
 pub record MeanPromise (a : Asked) (old new : StoreView) (out out' : SinkView) (status : Status) : Type 0 where
-  pub shows : (source input : List ℕ) (p : Program) → MeanUndisturbed a source input old new out out' → IsProgram source p → Valid p →
-      (status ≡ NoMemory) ⊎ Shows a.trace (meant (checked p) input a.modules a.turns) out out' status
-  pub refuses : (source input : List ℕ) (number place : ℕ) → MeanUndisturbed a source input old new out out' → IsRefused source number place →
+  pub shows : (source input : List ℕ) (p : Program) → MeanUndisturbed a source input old new out out' → IsProgram source p → Valid a.std p →
+      (status ≡ NoMemory) ⊎ Shows a.trace (meant (checked a.std p) input a.modules a.turns) out out' status
+  pub refuses : (source input : List ℕ) (number place : ℕ) → MeanUndisturbed a source input old new out out' → IsRefused a.std source number place →
       (status ≡ NoMemory) ⊎ (status ≡ SourceRefused number place)
 
 -- a told image and its told input, where neither the store nor the sink fails
@@ -173,8 +174,8 @@ pub record ExecPromise (a : Asked) (old new : StoreView) (out out' : SinkView) (
 -- how many exception objects that made, and the line of its end went out, and the status is that of the end.
 abbrev pub ShowsCounts : Asked → ℕ → SinkView → SinkView → Status → Type 0
 ShowsCounts a n out out' status =
-    (p : Program) × IsProgram (generated n) p × Valid p × AreCompiled (checked p) (image_for (checked p)) ×
-    (r : Ran) × RunsAlone a.turns (checked p) r × (status ≡ status_of_run r.end) × Gains (bytes_of (gen_lines (31 * n + 73) r)) out out'
+    (p : Program) × IsProgram (generated n) p × Valid Cxx03 p × AreCompiled (checked Cxx03 p) (image_for (checked Cxx03 p)) ×
+    (r : Ran) × RunsAlone a.turns (checked Cxx03 p) r × (status ≡ status_of_run r.end) × Gains (bytes_of (gen_lines (31 * n + 73) r)) out out'
 
 -- where `out` does not fail, of the size that the operand is; or memory ran out
 abbrev pub GenPromise : Asked → SinkView → SinkView → Status → Type 0

@@ -28,6 +28,7 @@ use step_law::laws::{checked_images_are_compiled, checked_images_have_enough};
 /// `dump FILE` read an image of at most 64 MiB, and put how much it has, or its tables, on `out` where it is clean; `frames FILE` puts
 /// whether both forms of its frames say the same. `gen N` generates a source of size N, 1 to 2,000, compiles it and runs it without
 /// input and modules, and puts how many tokens it has, how many lines its run wrote, how many exception objects that made, and its end.
+/// `compile`, `run` and `mean` take the language of ISO/IEC 14882:2003, or with `--std=11` that with clause 15 of 2011.
 /// Whatever else comes is one line on `err`. A program is given at most 64 modules, which are dropped.
 pub fn ehc<St: Store, Out: Sink, Er: Sink>(
     alloc: Global,

@@ -4,13 +4,16 @@ use Rattle.std.specs.Prelude.{nat_le, if◌then◌else◌}
 use Rattle.std.specs.List.{AllByRecursion, list_all}
 use Rattle.std.proofs.lemmas.Bool.{le-leb, and_from}
 use Rattle.cxx_ast.specs.declared.name.Bound.TheVariants.{Func, Method}
-use Rattle.cxx_ast.specs.Plain.{Statements, Initialiser, Function, Class, Declaration, class_declaration, global_declaration, function_declaration, Program, Checked}
-use Rattle.cxx_ast.specs.Checked.{IsChecked, resolve_methods, resolve_declarations, classes_of, functions_of, checked}
+use Rattle.cxx_ast.specs.declared.standard.Std.{Std}
+use Rattle.cxx_ast.specs.Plain.{Specification, Statements, Initialiser, Function, Class, Declaration, class_declaration, global_declaration, function_declaration, Program, Checked}
+use Rattle.cxx_ast.specs.Checked.{IsChecked, bad_exception, resolve_methods, resolve_declarations, classes_of, functions_of, checked}
 use Rattle.cxx_ast.specs.Declare.{next_class, head_environment, head_scope, declare_behind, at_the_start, body_environment, function_scope}
 use Rattle.cxx_ast.specs.Depth.{below_initialisers, below_body, below_function, below_functions, depth}
 use Rattle.cxx_ast.specs.Environment.{Environment}
 use Rattle.cxx_ast.specs.Locals.{outermost, declare_params}
 use Rattle.cxx_ast.specs.Resolve.{function_number, resolve_body, resolve_function}
+use Rattle.cxx_ast.specs.Settled.{settle_function, settle_class}
+use Rattle.cxx_ast.proofs.Settled.{all_classes, all_functions}
 use Rattle.cxx_ast.specs.Sizes.{most_levels}
 use Rattle.cxx_ast.specs.TypeNames.{has_body}
 use Rattle.region_forms.specs.Layout.{Layout, layout_of}
@@ -64,15 +67,23 @@ record ProgramDeep (p : Checked) : Type 0 where
   functions : AreDeep p.functions
   classes : AllByRecursion (λ c. AreDeep c.functions) p.classes
 
-program_deep : (p : Program) → depth p.declarations ≤ 64 → ProgramDeep (checked p)
+-- nothing of this is said of specifications
+function_settled : (own : Option Specification) (f : Function) → IsDeep f → IsDeep (settle_function own f)
+function_settled own f h = h
+
+class_settled : (own : Option Specification) (c : Class) → AreDeep c.functions → AreDeep (settle_class own c).functions
+class_settled own c h = all_functions IsDeep function_settled own c.functions h
+
+program_deep : (std : Std) (p : Program) → depth p.declarations ≤ 64 → ProgramDeep (checked std p)
 unfolding checked
-program_deep p h = record {
-  functions = functions_deep (at_the_start p.declarations) p.declarations h;
-  classes = (tt, classes_deep (at_the_start p.declarations) p.declarations h);
+program_deep std p h = record {
+  functions = all_functions IsDeep function_settled None (functions_of (resolve_declarations (at_the_start p.declarations) p.declarations)) (functions_deep (at_the_start p.declarations) p.declarations h);
+  classes = all_classes (λ c. AreDeep c.functions) class_settled std [] (bad_exception ∷ classes_of (resolve_declarations (at_the_start p.declarations) p.declarations))
+      (tt, classes_deep (at_the_start p.declarations) p.declarations h);
 }
 
 checked_deep : (p : Checked) → IsChecked p → ProgramDeep p
-checked_deep p h = subst ProgramDeep (sym h.resolved) (program_deep h.program h.tree.depth)
+checked_deep p h = subst ProgramDeep (sym h.resolved) (program_deep h.std h.program h.tree.depth)
 
 -- ---- what fits
 

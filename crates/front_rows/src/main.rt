@@ -2,9 +2,10 @@
 //! refused: `front_rows FILE..`.
 //!
 //! A row is a line `NUMBER SOURCE`, and a line `# ..` is of what stands below it. The number and the `@` in the source are what must
-//! come, and are not looked at here.
+//! come, and are not looked at here. The sources of a file whose name ends in `11.txt` are read by ISO/IEC 14882:2011, others by 2003.
 #![tactic(auto)]
 
+use cxx_ast::standard::Std;
 use cxx_front::checked;
 use std::alloc::{AllocError, Global};
 use std::{env, fs, io};
@@ -20,13 +21,22 @@ fn unmarked(alloc: Global, marked: &str) -> Result<String, AllocError> {
     }
 }
 
+// The standard by which the sources of a file are read.
+fn standard_of(file: &str) -> Std {
+    if file.ends_with("11.txt") {
+        Std::Cxx11
+    } else {
+        Std::Cxx03
+    }
+}
+
 // What the front end says of a source.
-fn answer_to(alloc: Global, source: &str) -> Result<String, AllocError> {
+fn answer_to(alloc: Global, source: &str, standard: Std) -> Result<String, AllocError> {
     let bytes = source.as_bytes();
     if bytes.len() > MOST_BYTES {
         return String::from_str(alloc, "too long");
     }
-    match checked(alloc, bytes) {
+    match checked(alloc, bytes, standard) {
         Ok(_) => String::from_str(alloc, "accepted"),
         Err(error) => format!(in alloc; "{error}"),
     }
@@ -41,7 +51,7 @@ fn main(rt: HostRuntime) -> io::Result<()> {
                 && number != "#"
             {
                 let source = unmarked(alloc, marked)?;
-                let answer = answer_to(alloc, source.as_str())?;
+                let answer = answer_to(alloc, source.as_str(), standard_of(file.as_str()))?;
                 println!(rt; "{file}:{} {answer}", before.wrapping_add(1))?;
             }
         }

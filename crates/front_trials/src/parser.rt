@@ -399,7 +399,7 @@ static TREES: &[(&str, &str)] = &[
         "Program { decls: [Class(ClassDecl { name: Name { text: \"A\", place: 1, bound: Free }, base: Some(Name { \
             text: \"B\", place: 3, bound: Free }), members: [Param { ty: Int, name: Some(Name { text: \"n\", place: 6, \
             bound: Free }) }], funcs: [Func { name: Name { text: \"A\", place: 8, bound: Free }, kind: Constructor, \
-            result: Void, params: [], spec: Some([]), inits: [Init { name: Name { text: \"n\", place: 15, bound: Free }, \
+            result: Void, params: [], spec: Some(Throw([])), inits: [Init { name: Name { text: \"n\", place: 15, bound: Free }, \
             args: [Number(1, 17)] }], body: Some([]), tokens: 13 }] }), Global(Name { text: \"x\", place: 24, bound: \
             Free }, -3)], tokens: 29, length: 99999 }",
     ),
@@ -409,6 +409,12 @@ static TREES: &[(&str, &str)] = &[
             params: [], spec: None, inits: [], body: Some([Try([], [Handler { ty: Some(ObjectRef(true, Name { text: \
             \"std::bad_exception\", place: 11, bound: Free })), name: None, body: [], place: 10 }])]), tokens: 19 })], \
             tokens: 19, length: 99999 }",
+    ),
+    (
+        "void f ( ) noexcept ( false ) { }",
+        "Program { decls: [Func(Func { name: Name { text: \"f\", place: 1, bound: Free }, kind: Plain, result: Void, \
+            params: [], spec: Some(Noexcept(4, false)), inits: [], body: Some([]), tokens: 10 })], tokens: 10, \
+            length: 99999 }",
     ),
 ];
 

@@ -1,5 +1,6 @@
 // Sources, and why they are refused. A `@` stands before the token at whose place a source is refused, and is no part of it.
 use cxx_ast::program::Checked;
+use cxx_ast::standard::Std;
 use cxx_front::{SourceError, checked};
 use std::alloc::{AllocError, Global};
 
@@ -8,7 +9,7 @@ pub fn program(alloc: Global, source: &[u8]) -> Result<Checked, SourceError> {
     if source.len() > 1_048_576 {
         return Err(SourceError::NoMemory);
     }
-    checked(alloc, source)
+    checked(alloc, source, Std::Cxx03)
 }
 
 // The number and the place under which a source is refused, where it is.

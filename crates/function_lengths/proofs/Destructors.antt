@@ -1,6 +1,6 @@
 -- What a destructor becomes: a scope for each part of its class, and its statements inside.
 use Rattle.std.proofs.Common.{ℕ, ◌+◌, ◌*◌, ◌≤◌, Bool, true, false, List, [], ◌∷◌, length, Option, Some, None, arith}
-use Rattle.cxx_ast.specs.declared.types.Ty.{Ty}
+use Rattle.cxx_ast.specs.Plain.{Specification, listed, noexcept}
 use Rattle.meaning_forms.specs.Class.{ObjectType, int_type, class_type, parts_of}
 use Rattle.meaning_forms.specs.Call.{statements_in}
 use Rattle.region_forms.specs.Form.{Region}
@@ -9,7 +9,7 @@ use Rattle.region_forms.specs.LowerStatement.{statements}
 use Rattle.region_forms.specs.LowerProgram.{limited, destroy_parts, last_result}
 use Rattle.source_bounds.specs.LeastTokens.{statements_tokens}
 use Rattle.source_bounds.specs.RegionWords.{region_words}
-use Rattle.function_lengths.specs.Lengths.{DestructorsAreShort}
+use Rattle.function_lengths.specs.Lengths.{extent_words, DestructorsAreShort}
 use Rattle.function_lengths.proofs.Statements.{words, RestIs, statements_cost}
 
 module _ (l : Lowering) where
@@ -18,9 +18,10 @@ module _ (l : Lowering) where
   destroyed k j (int_type ∷ types) body m d r = omega (arith, destroyed k (j + 1) types body m d r)
   destroyed k j (class_type c ∷ types) body m d r = omega (arith, destroyed k (j + 1) types body m (d + 2) r)
 
-  limited_cost : (o : Option (List Ty)) (act : ℕ → List Region) (m d : ℕ) → RestIs m act → region_words (limited o act d) ≤ m + 273
+  limited_cost : (o : Option Specification) (act : ℕ → List Region) (m d : ℕ) → RestIs m act → region_words (limited l o act d) ≤ m + extent_words o
   limited_cost None act m d h = omega (arith, h (d + 1))
-  limited_cost (Some types) act m d h = omega (arith, h (d + 2))
+  limited_cost (Some (listed types)) act m d h = omega (arith, h (d + 2))
+  limited_cost (Some (noexcept place b)) act m d h = omega (arith, h (d + 2))
 
   last_cost : (is_main : Bool) → words (last_result l is_main) ≤ 4
   last_cost true = omega arith

@@ -1,10 +1,9 @@
 -- Each function of a checked program has fewer than 2^18 words.
 use Rattle.std.proofs.Common.{◌≡◌, ℕ, zero, suc, ◌+◌, ◌*◌, ◌<◌, ◌≤◌, ◌==◌, Bool, true, false, List, [], ◌∷◌, map, length, Option, Some, None, if◌then◌else◌, arith}
 use Rattle.std.specs.List.{AllByRecursion}
-use Rattle.cxx_ast.specs.declared.types.Ty.{Ty}
 use Rattle.cxx_ast.specs.declared.declaration.FuncKind.{FuncKind}
 use Rattle.cxx_ast.specs.declared.declaration.FuncKind.TheVariants.{Plain, Method, Constructor, Destructor}
-use Rattle.cxx_ast.specs.Plain.{Function, Class, Checked}
+use Rattle.cxx_ast.specs.Plain.{Function, Class, Checked, Specification, listed, noexcept}
 use Rattle.cxx_ast.specs.Checked.{IsChecked}
 use Rattle.meaning_forms.specs.Class.{class_at, no_class, parts_of}
 use Rattle.meaning_forms.specs.Call.{statements_in}
@@ -29,20 +28,26 @@ use Rattle.source_bounds.proofs.Parts.{checked_parts}
 use Rattle.source_bounds.proofs.Regions.{functions_are_short}
 use Rattle.source_bounds.proofs.Rows.{checked_named}
 use Rattle.source_bounds.proofs.Units.{body_counted, no_own_parts, checked_fine}
-use Rattle.function_lengths.specs.Lengths.{CheckedFunctionsAreShort}
+use Rattle.function_lengths.specs.Lengths.{extent_words, CheckedFunctionsAreShort}
 use Rattle.function_lengths.proofs.Destructors.{destructors_are_short}
 
 -- a region so short that its function, with what stands around the body, is short
 abbrev pub IsShort : RegionFunction → Type 0
 IsShort f = region_words f.body + 10 < 262144
 
-specification_small : (o : Option (List Ty)) → specification_words o ≤ 273
+specification_small : (o : Option Specification) → specification_words o ≤ 573
 specification_small None = omega arith
-specification_small (Some types) = omega arith
+specification_small (Some (listed types)) = omega arith
+specification_small (Some (noexcept place b)) = omega arith
+
+extent_small : (o : Option Specification) → extent_words o ≤ 573
+extent_small None = omega arith
+extent_small (Some (listed types)) = omega arith
+extent_small (Some (noexcept place b)) = omega arith
 
 -- the region of a declared function's body
 abbrev body_words : Lowering → Bool → ℕ → Function → FuncKind → ℕ
-body_words l is_main k f kind = region_words (in_order (limited f.specification (body_of l kind k f) 1 ∷ last_result l is_main))
+body_words l is_main k f kind = region_words (in_order (limited l f.specification (body_of l kind k f) 1 ∷ last_result l is_main))
 
 short_by_kind : (l : Lowering) (is_main : Bool) (k : ℕ) (f : Function) (kind : FuncKind) → length (parts_of l.program k) ≤ 256 → function_tokens f ≤ 2000 →
     body_words l is_main k f kind ≤ 4 + (kind_words kind (length (parts_of l.program k)) f + 128 * statements_tokens (statements_in f.body) + specification_words f.specification) →
@@ -50,7 +55,7 @@ short_by_kind : (l : Lowering) (is_main : Bool) (k : ℕ) (f : Function) (kind :
 short_by_kind l is_main k f Plain parts few h = omega (arith, h, few, body_counted f.body, specification_small f.specification)
 short_by_kind l is_main k f Method parts few h = omega (arith, h, few, body_counted f.body, specification_small f.specification)
 short_by_kind l is_main k f Constructor parts few h = omega (arith, h, few, parts, body_counted f.body, specification_small f.specification)
-short_by_kind l is_main k f Destructor parts few h = omega (arith, destructors_are_short l is_main k f, few, parts, body_counted f.body)
+short_by_kind l is_main k f Destructor parts few h = omega (arith, destructors_are_short l is_main k f, few, parts, body_counted f.body, extent_small f.specification)
 
 module _ (rows : ℕ) (p : Checked) (layout : Layout) where
   -- a declared function of at most 2,000 tokens

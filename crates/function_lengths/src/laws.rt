@@ -2,7 +2,8 @@
 ghost use Rattle.function_lengths.specs.Lengths.{CheckedFunctionsAreShort, DestructorsAreShort};
 
 /// The region of a declared destructor takes at most 47 words for each part of its class, at most 104 for each token of its statements,
-/// and at most 277 beside them, though a call of one of the runtime's own functions counts as 257.
+/// and beside them at most 4, 277 where it lists types, and 577 where it is `noexcept`, though a call of one of the runtime's own functions
+/// counts as 257.
 pub fn destructors_are_short()
     ensures { DestructorsAreShort }
 {}

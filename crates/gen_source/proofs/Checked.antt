@@ -6,6 +6,7 @@ use Rattle.std.specs.List.{AllByRecursion}
 use Rattle.std.proofs.lemmas.Bool.Decides.{nat_tests}
 use Rattle.cxx_ast.specs.declared.name.Name.{Name}
 use Rattle.cxx_ast.specs.declared.name.Bound.TheVariants.{Free}
+use Rattle.cxx_ast.specs.declared.standard.Std.TheVariants.{Cxx03}
 use Rattle.cxx_ast.specs.Broken.{broken, pairs, used_found, declaration_found, declarations_found, has_main}
 use Rattle.cxx_ast.specs.ClassRules.{stands_before}
 use Rattle.cxx_ast.specs.Declare.{definitions, declare_behind}
@@ -14,6 +15,7 @@ use Rattle.cxx_ast.specs.Environment.{Entry, Environment, Signature}
 use Rattle.cxx_ast.specs.Finding.{Finding, breaks, uses, breaks_if}
 use Rattle.cxx_ast.specs.FunctionRules.{has_text}
 use Rattle.cxx_ast.specs.Plain.{function_declaration}
+use Rattle.cxx_ast.specs.Standards.{noexcepts_found, standard_found}
 use Rattle.cxx_ast.specs.Written.{Written, written_function, declared}
 use Rattle.cxx_lexer.proofs.ByteTests.{bytes_eq_self, or_true}
 use Rattle.gen_source.specs.Laws.{SourcesAreValid}
@@ -161,12 +163,23 @@ all_once n =
     ap (λ (classes : List (List ℕ)). once_found (codes "main" ∷ codes "A" ∷ classes) all all) (levels_classes levels_place 0 n last) ∙
     rw (levels_no_class 7 levels_place 0 n last) (levels_once all levels_place 0 n last ∙ main_alone n)
 
-nothing_broken : (n : ℕ) → n ≤ 2000 → broken (program n) ≡ []
+-- ---- no specification
+levels_without : (place j count : ℕ) (ws : List Written) → flat_map noexcepts_found (map declared (levels_written place j count ws)) ≡ flat_map noexcepts_found (map declared ws)
+levels_without place j zero ws = refl
+levels_without place j (suc count) ws = levels_without (next_place place j) (j + 1) count ws
+
+all_without : (n : ℕ) → standard_found Cxx03 (map declared (all_written n)) ≡ []
+all_without n = levels_without levels_place 0 n (written_function (main_function n) ∷ [])
+
+nothing_broken : (n : ℕ) → n ≤ 2000 → broken Cxx03 (program n) ≡ []
 unfolding broken
 nothing_broken n few =
     let ds = map declared (all_written n) in
     let found = declarations_found (start (definitions ds)) ds in
-    ap (λ (fs : List Finding). pairs (definitions ds) (found ++ fs ++ breaks_if (not (has_main ds)) 38 (length (generated n)))) (all_once n) ∙
+    let main = breaks_if (not (has_main ds)) 38 (length (generated n)) in
+    ap (λ (fs : List Finding). pairs (definitions ds) (found ++ once_only_found ds ++ main ++ fs)) (all_without n) ∙
+    ap (pairs (definitions ds)) (append-nil (found ++ once_only_found ds ++ main)) ∙
+    ap (λ (fs : List Finding). pairs (definitions ds) (found ++ fs ++ main)) (all_once n) ∙
     ap (λ b. pairs (definitions ds) (found ++ [] ++ breaks_if (not b) 38 (length (generated n)))) (main_there n) ∙
     ap (pairs (definitions ds)) (append-nil (found ++ [])) ∙ ap (pairs (definitions ds)) (append-nil found) ∙
     no_pairs (definitions ds) found (all_sound (definitions ds) n few (all_defined n))

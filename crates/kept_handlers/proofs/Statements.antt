@@ -9,7 +9,7 @@ use Rattle.cxx_ast.specs.declared.types.Ty.{Ty}
 use Rattle.cxx_ast.specs.declared.types.Ty.TheVariants.{Int, Object}
 use Rattle.cxx_ast.specs.declared.declaration.FuncKind.{FuncKind}
 use Rattle.cxx_ast.specs.declared.declaration.FuncKind.TheVariants.{Plain, Method, Constructor, Destructor}
-use Rattle.cxx_ast.specs.Plain.{Function, Expression, call, std_call, Expressions, no_expressions, expression_then, Statement, block, empty, if_else, while, return, break, continue, throw, try, assign, evaluate, local_int, local_ref, local_object, Else, no_else, else_do, Statements, no_statements, statement_then, Handlers, no_handlers, handler_then}
+use Rattle.cxx_ast.specs.Plain.{Function, Specification, listed, noexcept, Expression, call, std_call, Expressions, no_expressions, expression_then, Statement, block, empty, if_else, while, return, break, continue, throw, try, assign, evaluate, local_int, local_ref, local_object, Else, no_else, else_do, Statements, no_statements, statement_then, Handlers, no_handlers, handler_then}
 use Rattle.meaning_forms.specs.Class.{ObjectType, int_type, class_type, class_named, parts_of}
 use Rattle.meaning_forms.specs.Frame.{local_number}
 use Rattle.meaning_forms.specs.Call.{initialiser_for, statements_in}
@@ -19,7 +19,7 @@ use Rattle.meaning_forms.specs.Running.{destructor}
 use Rattle.region_forms.specs.Numbering.{number_of, declared_in, all_declared_in}
 use Rattle.region_forms.specs.LowerExpression.{exception_slot, Lowering, result_slot, first_temporary, slot_place, place_of, lvalue_type, has_call, Lowered, lower, dropped, lower_construct}
 use Rattle.region_forms.specs.LowerStatement.{variable_slot, copied, thrown_place, thrown_as, int_thrown, object_thrown, call_thrown, part_thrown, lvalue_thrown, operand_thrown, throwing, with_value, returning, initialised, bound_to, looping, scoped, caught_parameter, with_caught, handler, nothing_more, clause_type, statement, otherwise, statements, clauses}
-use Rattle.region_forms.specs.LowerProgram.{part_place, limited, build_parts, destroy_parts, default_part, copy_part, initial_part, last_result, body_of}
+use Rattle.region_forms.specs.LowerProgram.{part_place, ending, limited, build_parts, destroy_parts, default_part, copy_part, initial_part, last_result, body_of}
 use Rattle.kept_handlers.specs.Left.{leaves_one, is_even, region_in_step, regions_in_step, clauses_in_step}
 use Rattle.kept_handlers.proofs.Scanning.{Even}
 use Rattle.kept_handlers.proofs.Lowered.{both_true, even_test, Good, then_good, then_in_step, good_in_step, simply, even_order, even_branch, held, valued, dropped_good, built_good}
@@ -212,17 +212,22 @@ module _ (l : Lowering) where
   bodied Plain k f d = statements_good (statements_in f.body) 0 (length f.parameters) d
   bodied Method k f d = statements_good (statements_in f.body) 0 (length f.parameters) d
 
-  limited_good : (o : Option (List Ty)) (act : ℕ → List Region) (d : ℕ) → Others act → Even (limited o act d)
+  -- what is noexcept leaves the handler that it opens
+  limited_good : (o : Option Specification) (act : ℕ → List Region) (d : ℕ) → Others act → Even (limited l o act d)
   limited_good None act d h = even_order (act (d + 1)) (h (d + 1))
-  limited_good (Some types) act d h = simply (limited (Some types) act d) refl refl (good_in_step (act (d + 2)) (h (d + 2)))
+  limited_good (Some (listed types)) act d h = simply (limited l (Some (listed types)) act d) refl refl (good_in_step (act (d + 2)) (h (d + 2)))
+  limited_good (Some (noexcept place b)) act d h =
+      let body = in_order (act (d + 2)) in
+      let steps = both_true (is_even body && region_in_step body) (clauses_in_step (ending l)) (even_test body (even_order (act (d + 2)) (h (d + 2)))) refl in
+      simply (limited l (Some (noexcept place b)) act d) refl refl steps
 
   last_good : (is_main : Bool) → Good (last_result l is_main)
   last_good false = tt
   last_good true = (simply _ refl refl refl, tt)
 
-  pub body_good : (is_main : Bool) (k : ℕ) (f : Function) → Even (in_order (limited f.specification (body_of l f.kind k f) 1 ∷ last_result l is_main))
+  pub body_good : (is_main : Bool) (k : ℕ) (f : Function) → Even (in_order (limited l f.specification (body_of l f.kind k f) 1 ∷ last_result l is_main))
   body_good is_main k f =
-      even_order (limited f.specification (body_of l f.kind k f) 1 ∷ last_result l is_main) (limited_good f.specification (body_of l f.kind k f) 1 (λ d. bodied f.kind k f d), last_good is_main)
+      even_order (limited l f.specification (body_of l f.kind k f) 1 ∷ last_result l is_main) (limited_good f.specification (body_of l f.kind k f) 1 (λ d. bodied f.kind k f d), last_good is_main)
 
   pub default_whole_good : (is_declared : Bool) (k : ℕ) → Even (in_order (if is_declared then [] else build_parts l k (default_part l k) 0 (parts_of l.program k) nothing_more 1))
   default_whole_good true k = even_order [] tt

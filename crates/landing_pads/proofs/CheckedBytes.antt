@@ -22,10 +22,14 @@ use Rattle.cxx_ast.specs.FunctionRules.{function_found}
 use Rattle.cxx_ast.specs.Declare.{at_the_start, definitions, declare_behind, body_environment, function_scope, head_environment, head_scope, next_class, class_entry, name_of}
 use Rattle.cxx_ast.specs.ClassRules.{is_taken, base_found, field_found, method_names, twice_among, specials_found, size_found, method_found, class_rules_found}
 use Rattle.cxx_ast.specs.DeclaredNames.{once_only_found}
+use Rattle.cxx_ast.specs.Standards.{standard_found}
+use Rattle.cxx_ast.specs.declared.standard.Std.{Std}
+use Rattle.cxx_ast.proofs.Settled.{all_classes, all_functions}
 use Rattle.cxx_ast.specs.Broken.{Valid, broken, declaration_found, declarations_found, has_main, function_name_found}
 use Rattle.cxx_ast.specs.Checked.{resolve_methods, resolve_class_tree, resolve_declarations, classes_of, functions_of, checked, bad_exception, IsChecked}
 use Rattle.region_forms.specs.Layout.{ClassLayout, Layout, layout_at, no_layout, class_layout, layouts_behind, layout_of}
 use Rattle.linear_forms.proofs.Lists.{in_front}
+use Rattle.class_layout.proofs.Settled.{layouts_settled}
 use Rattle.class_layout.proofs.Sound.{front_sound, back_sound, nothing_refused}
 use Rattle.class_layout.proofs.Declared.{Matches, kept, named_classes, named_known, behind_function, behind_class}
 use Rattle.landing_pads.specs.Frames.{VariablesAreSmall, laid_bytes}
@@ -161,18 +165,25 @@ module _ (l : Layout) where
         methods = rest.methods;
       }
 
-program_within : (p : Program) (ws : List Written) → map declared ws ≡ p.declarations → Each IsGrammatical ws → Valid p → VariablesAreSmall (checked p) (layout_of (checked p))
+program_within : (std : Std) (p : Program) (ws : List Written) → map declared ws ≡ p.declarations → Each IsGrammatical ws → Valid std p → VariablesAreSmall (checked std p) (layout_of (checked std p))
 unfolding checked broken
-program_within p ws e g valid =
+program_within std p ws e g valid =
     let walked = declarations_found (at_the_start p.declarations) p.declarations in
     let once = once_only_found p.declarations in
     let main = breaks_if (not (has_main p.declarations)) no_main p.length in
-    let sound = front_sound walked once (front_sound (walked ++ once) main (nothing_refused (definitions p.declarations) (walked ++ once ++ main) valid)) in
-    let l = layout_of (checked p) in
+    let own = standard_found std p.declarations in
+    let right = nothing_refused (definitions p.declarations) (walked ++ once ++ main ++ own) valid in
+    let sound = front_sound walked once (front_sound (walked ++ once) main (front_sound (walked ++ once ++ main) own right)) in
+    let l = layout_of (checked std p) in
     let env = at_the_start p.declarations in
     let start : Matches env (class_layout [] bad_exception ∷ []) = record { sizes = refl; count = refl; known = tt; some = omega arith } in
-    let all = go p.declarations env l e start refl sound in
-    record { functions = all.own; methods = (tt, all.methods) }
+    let ds = resolve_declarations env p.declarations in
+    let all = go p.declarations env l e start (layouts_settled std [] [] (bad_exception ∷ classes_of ds)) sound in
+    record {
+      functions = all_functions (λ f. laid_bytes l f ≤ 1536) (λ own f h. h) None (functions_of ds) all.own;
+      methods = all_classes (λ c. Within l c.functions) (λ own c. all_functions (λ f. laid_bytes l f ≤ 1536) (λ o f h. h) own c.functions) std [] (bad_exception ∷ classes_of ds)
+          (tt, all.methods);
+    }
   where
     go : (ds : List Declaration) (env : Environment) (l : Layout) → map declared ws ≡ ds → Matches env (class_layout [] bad_exception ∷ []) →
         GoOn l (class_layout [] bad_exception ∷ []) (classes_of (resolve_declarations env ds)) → is_sound (declarations_found env ds) ≡ true → AllWithin l (resolve_declarations env ds)
@@ -182,4 +193,4 @@ program_within p ws e g valid =
 
 pub checked_within : (p : Checked) → IsChecked p → VariablesAreSmall p (layout_of p)
 checked_within p h =
-    subst (λ q. VariablesAreSmall q (layout_of q)) (sym h.resolved) (program_within h.program h.tree.written h.tree.declarations h.tree.grammatical h.valid)
+    subst (λ q. VariablesAreSmall q (layout_of q)) (sym h.resolved) (program_within h.std h.program h.tree.written h.tree.declarations h.tree.grammatical h.valid)

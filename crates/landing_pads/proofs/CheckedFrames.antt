@@ -1,15 +1,18 @@
 -- The frames of a checked program's functions.
-use Rattle.std.proofs.Common.{◌+◌, ◌≤◌, ℕ, zero, suc, Bool, true, false, ◌==◌, List, [], ◌∷◌, ◌++◌, map, length, Some, None, if◌then◌else◌, refl, sym, subst, arith}
+use Rattle.std.proofs.Common.{◌+◌, ◌≤◌, ℕ, zero, suc, Bool, true, false, ◌==◌, List, [], ◌∷◌, ◌++◌, map, length, Option, Some, None, if◌then◌else◌, refl, sym, subst, arith}
 use Rattle.std.specs.Prelude.{slice_get, unwrap_or}
 use Rattle.std.specs.List.{AllByRecursion}
 use Rattle.cxx_ast.specs.declared.name.Bound.TheVariants.{Func, Method}
-use Rattle.cxx_ast.specs.Plain.{Function, Class, Declaration, class_declaration, global_declaration, function_declaration, Program, Checked}
+use Rattle.cxx_ast.specs.declared.standard.Std.{Std}
+use Rattle.cxx_ast.specs.Settled.{settle_function}
+use Rattle.cxx_ast.proofs.Settled.{all_classes, all_functions}
+use Rattle.cxx_ast.specs.Plain.{Specification, Function, Class, Declaration, class_declaration, global_declaration, function_declaration, Program, Checked}
 use Rattle.cxx_ast.specs.Environment.{Environment}
 use Rattle.cxx_ast.specs.Locals.{outermost, declare_params}
 use Rattle.cxx_ast.specs.TypeNames.{has_body}
 use Rattle.cxx_ast.specs.Resolve.{function_number, resolve_body, resolve_function}
 use Rattle.cxx_ast.specs.Declare.{at_the_start, declare_behind, body_environment, function_scope, head_environment, head_scope, next_class}
-use Rattle.cxx_ast.specs.Checked.{resolve_methods, resolve_declarations, classes_of, functions_of, checked, IsChecked}
+use Rattle.cxx_ast.specs.Checked.{resolve_methods, resolve_declarations, classes_of, functions_of, bad_exception, checked, IsChecked}
 use Rattle.meaning_forms.specs.Class.{class_at, no_class}
 use Rattle.region_forms.specs.Form.{RegionFunction}
 use Rattle.region_forms.specs.Layout.{Layout, layout_of}
@@ -64,15 +67,22 @@ record ProgramNumbered (p : Checked) : Type 0 where
   functions : Numbered p.functions
   classes : ClassesNumbered p.classes
 
-program_numbered : (p : Program) → ProgramNumbered (checked p)
+-- so they are with the specifications that count
+numbered_settled : (own : Option Specification) (f : Function) → VariablesAreNumbered f → VariablesAreNumbered (settle_function own f)
+numbered_settled own f h = record { initialisers = h.initialisers; body = h.body }
+
+program_numbered : (std : Std) (p : Program) → ProgramNumbered (checked std p)
 unfolding checked
-program_numbered p = record {
-  functions = functions_numbered (at_the_start p.declarations) p.declarations;
-  classes = (tt, classes_numbered (at_the_start p.declarations) p.declarations);
-}
+program_numbered std p =
+    let ds = resolve_declarations (at_the_start p.declarations) p.declarations in
+    record {
+      functions = all_functions VariablesAreNumbered numbered_settled None (functions_of ds) (functions_numbered (at_the_start p.declarations) p.declarations);
+      classes = all_classes (λ c. Numbered c.functions) (λ own c. all_functions VariablesAreNumbered numbered_settled own c.functions) std [] (bad_exception ∷ classes_of ds)
+          (tt, classes_numbered (at_the_start p.declarations) p.declarations);
+    }
 
 checked_numbered : (p : Checked) → IsChecked p → ProgramNumbered p
-checked_numbered p h = subst ProgramNumbered (sym h.resolved) (program_numbered h.program)
+checked_numbered p h = subst ProgramNumbered (sym h.resolved) (program_numbered h.std h.program)
 
 -- frames
 

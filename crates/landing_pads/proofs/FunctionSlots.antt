@@ -1,11 +1,10 @@
 -- The slots that the body of a function mentions.
-use Rattle.std.proofs.Common.{◌≡◌, ◌+◌, ◌≤◌, ℕ, Bool, true, false, ◌==◌, List, [], ◌∷◌, ◌++◌, map, length, Option, Some, None, if◌then◌else◌, arith}
+use Rattle.std.proofs.Common.{◌≡◌, ◌+◌, ◌≤◌, ℕ, Bool, true, false, ◌==◌, List, [], ◌∷◌, map, length, Option, Some, None, if◌then◌else◌, arith}
 use Rattle.std.proofs.lemmas.List.{length-append, length-map}
 use Rattle.std.specs.Prelude.{⊤}
-use Rattle.cxx_ast.specs.declared.types.Ty.{Ty}
 use Rattle.cxx_ast.specs.declared.declaration.FuncKind.{FuncKind}
 use Rattle.cxx_ast.specs.declared.declaration.FuncKind.TheVariants.{Constructor, Destructor}
-use Rattle.cxx_ast.specs.Plain.{Checked, Function, Initialiser, Expressions, no_expressions, expression_then, Statements}
+use Rattle.cxx_ast.specs.Plain.{Checked, Specification, listed, noexcept, Function, Initialiser, Expressions, no_expressions, expression_then, Statements}
 use Rattle.cxx_ast.specs.Sizes.{most_levels, arguments_of, initialisers_most, body_most}
 use Rattle.meaning_forms.specs.Class.{ObjectType, int_type, class_type, class_at, parts_of}
 use Rattle.meaning_forms.specs.Call.{initialiser_for, statements_in, place_named}
@@ -93,18 +92,19 @@ module _ (l : Lowering) (m : ℕ) (room : first_temporary l ≤ m) where
         destroyed_below k 0 (parts_of l.program k) (statements l (statements_in f.body) 0 (length f.parameters)) d body_statements
     body_below kind k d = body_statements d
 
-    limited_below : (types : Option (List Ty)) (act : ℕ → List Region) (d : ℕ) → Rest l m room act → slots_of (limited types act d) ≤ m
+    limited_below : (s : Option Specification) (act : ℕ → List Region) (d : ℕ) → Rest l m room act → slots_of (limited l s act d) ≤ m
     limited_below None act d h = h (d + 1)
-    limited_below (Some types) act d h = h (d + 2)
+    limited_below (Some (listed types)) act d h = h (d + 2)
+    limited_below (Some (noexcept place b)) act d h = let inside = h (d + 2) in omega (arith, inside, room)
 
     last_below : (is_main : Bool) → Below m (last_result l is_main)
     last_below false = omega arith
     last_below true = omega (arith, room)
 
-    pub whole_below : (is_main : Bool) (k : ℕ) → Below m (limited f.specification (body_of l f.kind k f) 1 ∷ last_result l is_main)
+    pub whole_below : (is_main : Bool) (k : ℕ) → Below m (limited l f.specification (body_of l f.kind k f) 1 ∷ last_result l is_main)
     whole_below is_main k =
         let whole = limited_below f.specification (body_of l f.kind k f) 1 (body_below f.kind k) in
-        behind m (limited f.specification (body_of l f.kind k f) 1 ∷ []) (last_result l is_main) (omega (arith, whole)) (last_below is_main)
+        behind m (limited l f.specification (body_of l f.kind k f) 1 ∷ []) (last_result l is_main) (omega (arith, whole)) (last_below is_main)
 
 variables_counted : (f : Function) → length (variables_of f) ≡ length f.parameters + length (declared_in_body f.body)
 variables_counted f =

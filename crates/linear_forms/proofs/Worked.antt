@@ -6,7 +6,7 @@ use Rattle.cxx_ast.specs.declared.name.Builtin.TheVariants.{WriteInt, Cancel, Se
 use Rattle.cxx_ast.specs.declared.types.Ty.TheVariants.{Int, Void, Object, ObjectRef}
 use Rattle.cxx_ast.specs.declared.declaration.FuncKind.TheVariants.{Plain, Constructor, Destructor}
 use Rattle.cxx_ast.specs.declared.expression.BinaryOp.TheVariants.{Add, Less, Equal}
-use Rattle.cxx_ast.specs.Plain.{Class as ClassTree, Checked, Expression, number, path, binary, call, std_call, Expressions, no_expressions, expression_then, Statement, if_else, block, while, return, break, throw, try, assign, evaluate, local_int, local_object, no_else, Statements, no_statements, statement_then, no_handlers, handler_then}
+use Rattle.cxx_ast.specs.Plain.{Class as ClassTree, Checked, Expression, number, path, binary, call, std_call, Expressions, no_expressions, expression_then, Statement, if_else, block, while, return, break, throw, try, assign, evaluate, local_int, local_object, no_else, Statements, no_statements, statement_then, no_handlers, handler_then, listed}
 use Rattle.eh_bytes.specs.Spelling.{uleb_spelling, uleb_spelling_within}
 use Rattle.run_items.specs.declared.item.Item.TheVariants.{Line, Make, Enter, Leave, Destroy, Free}
 use Rattle.meaning_forms.specs.declared.ending.MeanEnd.TheVariants.{Exit, Aborted}
@@ -134,7 +134,7 @@ thrown_again-shows = (refl, refl)
 --     int main() { std::set_unexpected(u); try { f(); } catch (std::bad_exception&) { write_int(6); } return 0; }
 bad_exception_thrown : Checked
 bad_exception_thrown = ck classes [] (
-    fn Plain Void [] (Some (Object (nm (Class 0)) ∷ [])) [] (rows (object 0 (int 1) ∷ throws 3 ∷ [])) ∷
+    fn Plain Void [] (Some (listed (Object (nm (Class 0)) ∷ []))) [] (rows (object 0 (int 1) ∷ throws 3 ∷ [])) ∷
     fn Plain Void [] None [] (rows (throw 0 None ∷ [])) ∷
     fn Plain Int [] None [] (rows (
     evaluate (std_call (nm (Builtin SetUnexpected)) (arguments (var (Func 1) ∷ [])) 0) ∷

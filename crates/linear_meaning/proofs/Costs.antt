@@ -105,11 +105,11 @@ later (stopped_by out_of_turns) m turns few more code first le h = record {
 later (stopped_by deep) m turns few more code first le h = λ n enough. h n (omega (arith, le, enough))
 
 pub sources_run_in_time : ValidSourcesRunInTime
-sources_run_in_time source tokens p lexed tree valid =
-    let r = regions_of (checked p) (layout_of (checked p)) in
-    let c : IsChecked (checked p) = record { source = source; tokens = tokens; program = p; lexed = lexed; tree = tree; valid = valid; resolved = refl } in
-    let few : program_cost r ≤ steps_for (length tokens) = costs_fit (checked p) (layout_of (checked p)) c in
-    let runs = sources_run source tokens p lexed tree valid in
+sources_run_in_time source tokens std p lexed tree valid =
+    let r = regions_of (checked std p) (layout_of (checked std p)) in
+    let c : IsChecked (checked std p) = record { std = std; source = source; tokens = tokens; program = p; lexed = lexed; tree = tree; valid = valid; resolved = refl } in
+    let few : program_cost r ≤ steps_for (length tokens) = costs_fit (checked std p) (layout_of (checked std p)) c in
+    let runs = sources_run source tokens std p lexed tree valid in
     record {
       watched = λ limit input replies turns. later _ _ _ _ _ _ _ (mul-le-mul_left (turns + 1) few) (runs.watched limit input replies turns);
       meant = λ limit input replies turns shallow. later _ _ _ _ _ _ _ (mul-le-mul_left (turns + 1) few) (runs.meant limit input replies turns shallow);

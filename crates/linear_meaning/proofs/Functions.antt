@@ -3,10 +3,9 @@ use Rattle.std.proofs.Common.{◌≡◌, ◌+◌, ℕ, Bool, true, false, List, 
 use Rattle.std.proofs.lemmas.Bool.{and_parts}
 use Rattle.std.specs.Cmp.Derive.{both_true}
 use Rattle.std.specs.Prelude.{◌&&◌}
-use Rattle.cxx_ast.specs.declared.types.Ty.{Ty}
 use Rattle.cxx_ast.specs.declared.declaration.FuncKind.{FuncKind}
 use Rattle.cxx_ast.specs.declared.declaration.FuncKind.TheVariants.{Constructor, Destructor}
-use Rattle.cxx_ast.specs.Plain.{Checked, Class, Function, Expressions, no_expressions, expression_then}
+use Rattle.cxx_ast.specs.Plain.{Checked, Class, Function, Expressions, no_expressions, expression_then, Specification, listed, noexcept}
 use Rattle.meaning_forms.specs.Class.{ObjectType, int_type, class_type, class_at, no_class, parts_of}
 use Rattle.meaning_forms.specs.Call.{initialiser_for, statements_in}
 use Rattle.region_forms.specs.Form.{Place, Region, RegionFunction}
@@ -80,9 +79,10 @@ body_row l Destructor k f h d =
     destroyed_row l k 0 (parts_of l.program k) (statements l (statements_in f.body) 0 (length f.parameters)) (body_statements l f h) d
 body_row l kind k f h d = body_statements l f h d
 
-limited_row : (types : Option (List Ty)) (act : ℕ → List Region) (d : ℕ) → Rest act → Row (limited types act d ∷ [])
-limited_row None act d h = both_true (h (d + 1)) refl
-limited_row (Some types) act d h = both_true (h (d + 2)) refl
+limited_row : (l : Lowering) (s : Option Specification) (act : ℕ → List Region) (d : ℕ) → Rest act → Row (limited l s act d ∷ [])
+limited_row l None act d h = both_true (h (d + 1)) refl
+limited_row l (Some (listed types)) act d h = both_true (h (d + 2)) refl
+limited_row l (Some (noexcept place b)) act d h = both_true (both_true (h (d + 2)) refl) refl
 
 last_row : (l : Lowering) (is_main : Bool) → Row (last_result l is_main)
 last_row l false = refl
@@ -96,8 +96,8 @@ declared_row : (p : Checked) (layout : Layout) (is_member is_main : Bool) (k : �
     test (declared_function p layout is_member is_main k f) ≡ true
 declared_row p layout is_member is_main k f h =
     let l = lowering p layout is_member (variables_of f) in
-    behind (limited f.specification (body_of l f.kind k f) 1 ∷ []) (last_result l is_main)
-    (limited_row f.specification (body_of l f.kind k f) 1 (body_row l f.kind k f h)) (last_row l is_main)
+    behind (limited l f.specification (body_of l f.kind k f) 1 ∷ []) (last_result l is_main)
+    (limited_row l f.specification (body_of l f.kind k f) 1 (body_row l f.kind k f h)) (last_row l is_main)
 
 -- the implicit functions of a class
 unless_declared : (is_declared : Bool) (rs : List Region) → Row rs → Row (if is_declared then [] else rs)

@@ -1,5 +1,5 @@
 -- Each try block of a checked program has a handler, since the grammar wants one, also where names are bound.
-use Rattle.std.proofs.Common.{◌≡◌, ◌+◌, ℕ, Bool, true, false, List, [], ◌∷◌, map, Option, Some, None, if◌then◌else◌, refl, sym, subst}
+use Rattle.std.proofs.Common.{◌≡◌, ◌∙◌, ◌+◌, ℕ, Bool, true, false, List, [], ◌∷◌, map, Option, Some, None, if◌then◌else◌, refl, sym, subst}
 use Rattle.std.specs.Cmp.Derive.{both_true}
 use Rattle.cxx_ast.specs.declared.name.Bound.TheVariants.{Func}
 use Rattle.cxx_ast.specs.Plain.{Function, Class, Program, class_declaration, Checked, Statement, block, empty, if_else, while, return, break, continue, throw, try, assign, evaluate, local_int, local_ref, local_object, Else, no_else, else_do, Statements, no_statements, statement_then, Handlers, no_handlers, handler_then}
@@ -10,12 +10,14 @@ use Rattle.cxx_ast.specs.Resolve.{resolve_statement, resolve_else, resolve_state
 use Rattle.cxx_ast.specs.Grammatical.{Each, Where, SomeHandler, IsStatement, IsElse, AreStatements, AreHandlers, IsMember, IsGrammatical}
 use Rattle.cxx_ast.specs.Written.{Member, data_member, function_member, Written, written_class, written_global, written_function, data_members, functions, declared}
 use Rattle.cxx_ast.specs.Declare.{at_the_start, declare_behind, body_environment, function_scope, next_class}
-use Rattle.cxx_ast.specs.Checked.{resolve_methods, resolve_declarations, classes_of, functions_of, checked, IsChecked}
+use Rattle.cxx_ast.specs.Checked.{resolve_methods, resolve_declarations, classes_of, functions_of, checked, IsChecked, bad_exception}
 use Rattle.meaning_forms.specs.Call.{statements_in}
 use Rattle.region_forms.specs.WellFormed.{every}
 use Rattle.linear_meaning.specs.Clauses.{CheckedCatchesHaveClauses}
 use Rattle.linear_meaning.proofs.Statements.{some_handler, handled, else_handled, all_handled, handlers_handled}
 use Rattle.linear_meaning.proofs.Functions.{function_handled, class_handled, program_handled, regions_have_clauses}
+use Rattle.cxx_ast.specs.declared.standard.Std.{Std}
+use Rattle.region_ir.proofs.Settled.{every_settled, classes_settled}
 
 module _ (env : Environment) where
   handler_there : (sc : Scope) (hs : Handlers) → SomeHandler hs → some_handler (resolve_handlers env sc hs) ≡ true
@@ -97,15 +99,19 @@ functions_handled env (written_function f ∷ ws) h =
     (body_handled here there f.body h.0.0.body)
     (functions_handled (declare_behind env (declared (written_function f))) ws h.1)
 
-tree_handled : (p : Program) (ws : List Written) → map declared ws ≡ p.declarations → Each IsGrammatical ws → program_handled (checked p) ≡ true
+tree_handled : (std : Std) (p : Program) (ws : List Written) → map declared ws ≡ p.declarations → Each IsGrammatical ws → program_handled (checked std p) ≡ true
 unfolding checked
-tree_handled p ws e h =
+tree_handled std p ws e h =
     let env = at_the_start p.declarations in
-    both_true (subst (λ ds. every function_handled (functions_of (resolve_declarations env ds)) ≡ true) e (functions_handled env ws h))
-    (both_true refl (subst (λ ds. every class_handled (classes_of (resolve_declarations env ds)) ≡ true) e (classes_handled env ws h)))
+    let ds = resolve_declarations env p.declarations in
+    both_true
+    (every_settled function_handled (λ own f. refl) None (functions_of ds)
+    ∙ subst (λ ds. every function_handled (functions_of (resolve_declarations env ds)) ≡ true) e (functions_handled env ws h))
+    (classes_settled class_handled (λ own c. every_settled function_handled (λ o f. refl) own c.functions) std [] (bad_exception ∷ classes_of ds)
+    ∙ both_true refl (subst (λ ds. every class_handled (classes_of (resolve_declarations env ds)) ≡ true) e (classes_handled env ws h)))
 
 pub checked_handled : (p : Checked) → IsChecked p → program_handled p ≡ true
-checked_handled p c = subst (λ q. program_handled q ≡ true) (sym c.resolved) (tree_handled c.program c.tree.written c.tree.declarations c.tree.grammatical)
+checked_handled p c = subst (λ q. program_handled q ≡ true) (sym c.resolved) (tree_handled c.std c.program c.tree.written c.tree.declarations c.tree.grammatical)
 
 pub checked_clauses : CheckedCatchesHaveClauses
 checked_clauses p l c = regions_have_clauses p l (checked_handled p c)

@@ -17,6 +17,6 @@ checked_programs_run_as_meant laws runs p is_checked input replies turns limit d
     ((runs p is_checked).watched limit input replies turns)
 
 pub valid_sources_run_as_meant : CaughtListFollows → CheckedProgramsRun → ValidSourcesRunAsMeant
-valid_sources_run_as_meant laws runs source tokens p lexed tree valid =
-    checked_programs_run_as_meant laws runs (checked p)
-    (record { source = source; tokens = tokens; program = p; lexed = lexed; tree = tree; valid = valid; resolved = refl })
+valid_sources_run_as_meant laws runs source tokens std p lexed tree valid =
+    checked_programs_run_as_meant laws runs (checked std p)
+    (record { std = std; source = source; tokens = tokens; program = p; lexed = lexed; tree = tree; valid = valid; resolved = refl })

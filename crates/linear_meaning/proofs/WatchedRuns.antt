@@ -21,6 +21,6 @@ pub checked_runs : CheckedProgramsRun
 checked_runs p c = regions_run (regions_of p (layout_of p)) (source_well_formed p c) (checked_clauses p (layout_of p) c)
 
 pub sources_run : ValidSourcesRun
-sources_run source tokens p lexed tree valid =
-    checked_runs (checked p)
-    (record { source = source; tokens = tokens; program = p; lexed = lexed; tree = tree; valid = valid; resolved = refl })
+sources_run source tokens std p lexed tree valid =
+    checked_runs (checked std p)
+    (record { std = std; source = source; tokens = tokens; program = p; lexed = lexed; tree = tree; valid = valid; resolved = refl })

@@ -1,9 +1,8 @@
 -- What functions become weighs at most 40 for each token, and 49 for each part of an object that is built or destroyed.
 use Rattle.std.proofs.Common.{◌≡◌, ℕ, ◌+◌, ◌*◌, ◌≤◌, Bool, true, false, List, [], ◌∷◌, length, Option, Some, None, if◌then◌else◌, arith}
-use Rattle.cxx_ast.specs.declared.types.Ty.{Ty}
 use Rattle.cxx_ast.specs.declared.declaration.FuncKind.{FuncKind}
 use Rattle.cxx_ast.specs.declared.declaration.FuncKind.TheVariants.{Plain, Method, Constructor, Destructor}
-use Rattle.cxx_ast.specs.Plain.{Checked, Function, Expressions, no_expressions, expression_then, Initialiser}
+use Rattle.cxx_ast.specs.Plain.{Checked, Function, Expressions, no_expressions, expression_then, Initialiser, Specification, listed, noexcept}
 use Rattle.meaning_forms.specs.Class.{ObjectType, int_type, class_type, class_at, parts_of}
 use Rattle.meaning_forms.specs.Running.{destructor}
 use Rattle.meaning_forms.specs.Call.{initialiser_for, statements_in}
@@ -13,7 +12,7 @@ use Rattle.region_forms.specs.Numbering.{number_of, variables_of}
 use Rattle.region_forms.specs.LowerExpression.{Lowering, first_temporary}
 use Rattle.region_forms.specs.LowerStatement.{statements, nothing_more}
 use Rattle.region_forms.specs.LowerProgram.{part_place, limited, build_parts, destroy_parts, default_part, copy_part, initial_value, initial_part, lowering, last_result, body_of, copied_type, some_constructor, declared_function, implicit_default_function, implicit_copy_function, implicit_destructor_function}
-use Rattle.source_bounds.specs.LeastTokens.{tokens_in_all, tokens_given, initialisers_tokens, specification_tokens, statements_tokens, function_tokens}
+use Rattle.source_bounds.specs.LeastTokens.{tokens_in_all, tokens_given, initialisers_tokens, statements_tokens, function_tokens}
 use Rattle.source_bounds.proofs.Functions.{given_tokens}
 use Rattle.source_bounds.proofs.Units.{body_counted}
 use Rattle.source_bounds.proofs.Sums.{sum_from}
@@ -48,13 +47,16 @@ kind_counted Plain parts f = omega arith
 kind_counted Method parts f = omega arith
 
 -- a specification
-abbrev specification_weight : Option (List Ty) → ℕ
+abbrev specification_weight : Option Specification → ℕ
 specification_weight None = 2
-specification_weight (Some types) = 98
+specification_weight (Some (listed types)) = 98
+specification_weight (Some (noexcept place b)) = 79
 
-specification_counted : (o : Option (List Ty)) → specification_weight o ≤ 40 * specification_tokens o + 2
-specification_counted None = omega arith
-specification_counted (Some types) = omega arith
+-- a function's name, its parentheses and its body pay for it
+specification_small : (o : Option Specification) → specification_weight o ≤ 98
+specification_small None = omega arith
+specification_small (Some (listed types)) = omega arith
+specification_small (Some (noexcept place b)) = omega arith
 
 module _ (l : Lowering) where
   built : (k : ℕ) (build : ℕ → ObjectType → List Region) (w : ℕ → ℕ) (j : ℕ) (types : List ObjectType) (left : ℕ → List Region) (m d : ℕ) →
@@ -116,21 +118,22 @@ module _ (l : Lowering) where
   bodied Plain k f d = upto (0 + written f) (own_statements f d) (omega arith)
   bodied Method k f d = upto (0 + written f) (own_statements f d) (omega arith)
 
-  limited_weighs : (o : Option (List Ty)) (act : ℕ → List Region) (m d : ℕ) → Others l m act → Weighs (m + specification_weight o) (limited o act d)
+  limited_weighs : (o : Option Specification) (act : ℕ → List Region) (m d : ℕ) → Others l m act → Weighs (m + specification_weight o) (limited l o act d)
   limited_weighs None act m d r = let k = r (d + 1) in record { few = omega (arith, k.few) }
-  limited_weighs (Some types) act m d r = let k = r (d + 2) in record { few = omega (arith, k.few) }
+  limited_weighs (Some (listed types)) act m d r = let k = r (d + 2) in record { few = omega (arith, k.few) }
+  limited_weighs (Some (noexcept place b)) act m d r = let k = r (d + 2) in record { few = omega (arith, k.few) }
 
   last_weighs : (is_main : Bool) → Weigh 16 (last_result l is_main)
   last_weighs false = no_weight 16
   last_weighs true = single (an_op _)
 
   body_weighs : (is_main : Bool) (k : ℕ) (f : Function) →
-      weight (in_order (limited f.specification (body_of l f.kind k f) 1 ∷ last_result l is_main)) + 2 ≤ 40 * function_tokens f + 49 * length (parts_of l.program k)
+      weight (in_order (limited l f.specification (body_of l f.kind k f) 1 ∷ last_result l is_main)) + 2 ≤ 40 * function_tokens f + 49 * length (parts_of l.program k)
   body_weighs is_main k f =
       let whole = first_of
       (limited_weighs f.specification (body_of l f.kind k f) (kind_weight f.kind (length (parts_of l.program k)) f + written f) 1 (λ d. bodied f.kind k f d))
       (last_weighs is_main) in
-      omega (arith, whole.few, kind_counted f.kind (length (parts_of l.program k)) f, specification_counted f.specification, body_counted f.body)
+      omega (arith, whole.few, kind_counted f.kind (length (parts_of l.program k)) f, specification_small f.specification, body_counted f.body)
 
   default_body : (is_declared : Bool) (k : ℕ) →
       weight (in_order (if is_declared then [] else build_parts l k (default_part l k) 0 (parts_of l.program k) nothing_more 1)) ≤ 49 * length (parts_of l.program k) + 2

@@ -10,6 +10,7 @@ use Rattle.region_forms.specs.Layout.{Layout, layout_of}
 use Rattle.region_forms.specs.LowerProgram.{regions_of}
 use Rattle.linear_simulation.specs.FunctionsRun.{program_cost}
 use Rattle.linear_meaning.specs.WatchedRuns.{RunAsMeant}
+use Rattle.cxx_ast.specs.declared.standard.Std.{Std}
 
 -- so many steps for so many tokens
 abbrev pub steps_for : ℕ → ℕ
@@ -21,5 +22,5 @@ CheckedCostsFit = (p : Checked) (l : Layout) (c : IsChecked p) → program_cost 
 
 -- so in as many steps, for each turn and one more, the run of a valid source's linear code shows what its regions mean
 abbrev pub ValidSourcesRunInTime : Type 0
-ValidSourcesRunInTime = (source : List ℕ) (tokens : List Token) (p : Program) → Lex source tokens → Tree tokens (length source) p → Valid p →
-    RunAsMeant (regions_of (checked p) (layout_of (checked p))) (steps_for (length tokens))
+ValidSourcesRunInTime = (source : List ℕ) (tokens : List Token) (std : Std) (p : Program) → Lex source tokens → Tree tokens (length source) p → Valid std p →
+    RunAsMeant (regions_of (checked std p) (layout_of (checked std p))) (steps_for (length tokens))

@@ -13,6 +13,7 @@ use Rattle.region_forms.specs.Layout.{layout_of}
 use Rattle.region_forms.specs.LowerProgram.{regions_of}
 use Rattle.linear_simulation.specs.FunctionsRun.{program_cost}
 use Rattle.linear_simulation.specs.ProgramRuns.{RunShows}
+use Rattle.cxx_ast.specs.declared.standard.Std.{Std}
 
 -- The run of a program's linear code shows what the program means, for every limit of open calls, every input, all replies and every number of
 -- turns, where that is not undefined: for each turn and one more so many steps are enough as its regions cost.
@@ -26,6 +27,6 @@ RunsAsMeant p =
 abbrev pub CheckedProgramsRunAsMeant : Type 0
 CheckedProgramsRunAsMeant = (p : Checked) → IsChecked p → RunsAsMeant p
 
--- and of each valid source: of the checked program of the tree of its tokens
+-- and of each source that is valid by a standard: of the checked program of the tree of its tokens
 abbrev pub ValidSourcesRunAsMeant : Type 0
-ValidSourcesRunAsMeant = (source : List ℕ) (tokens : List Token) (p : Program) → Lex source tokens → Tree tokens (length source) p → Valid p → RunsAsMeant (checked p)
+ValidSourcesRunAsMeant = (source : List ℕ) (tokens : List Token) (std : Std) (p : Program) → Lex source tokens → Tree tokens (length source) p → Valid std p → RunsAsMeant (checked std p)

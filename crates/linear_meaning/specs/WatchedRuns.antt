@@ -16,6 +16,7 @@ use Rattle.region_forms.specs.Meaning.{regions_meaning}
 use Rattle.linear_simulation.specs.Watched.{watched_meaning}
 use Rattle.linear_simulation.specs.FunctionsRun.{program_cost}
 use Rattle.linear_simulation.specs.ProgramRuns.{RunShows}
+use Rattle.cxx_ast.specs.declared.standard.Std.{Std}
 
 -- The run of the linear code of regions shows what their watched meaning shows, for every limit of open calls, every input, all replies and
 -- every number of turns: for each turn and one more `most` steps are enough. Where the watched meaning does not stop as a call that is too deep,
@@ -35,7 +36,7 @@ RunAtCost r = RunAsMeant r (program_cost r)
 abbrev pub CheckedProgramsRun : Type 0
 CheckedProgramsRun = (p : Checked) → IsChecked p → RunAtCost (regions_of p (layout_of p))
 
--- and of each valid source: of the checked program of the tree of its tokens
+-- and of each source that is valid by a standard: of the checked program of the tree of its tokens
 abbrev pub ValidSourcesRun : Type 0
-ValidSourcesRun = (source : List ℕ) (tokens : List Token) (p : Program) → Lex source tokens → Tree tokens (length source) p → Valid p →
-    RunAtCost (regions_of (checked p) (layout_of (checked p)))
+ValidSourcesRun = (source : List ℕ) (tokens : List Token) (std : Std) (p : Program) → Lex source tokens → Tree tokens (length source) p → Valid std p →
+    RunAtCost (regions_of (checked std p) (layout_of (checked std p)))

@@ -8,7 +8,7 @@ use Rattle.cxx_ast.specs.declared.types.Ty.{Ty}
 use Rattle.cxx_ast.specs.declared.types.Ty.TheVariants.{Int, Object}
 use Rattle.cxx_ast.specs.declared.declaration.FuncKind.{FuncKind}
 use Rattle.cxx_ast.specs.declared.declaration.FuncKind.TheVariants.{Plain, Method, Constructor, Destructor}
-use Rattle.cxx_ast.specs.Plain.{Function, Expression, call, std_call, Expressions, no_expressions, expression_then, Statement, block, empty, if_else, while, return, break, continue, throw, try, assign, evaluate, local_int, local_ref, local_object, Else, no_else, else_do, Statements, no_statements, statement_then, Handlers, no_handlers, handler_then}
+use Rattle.cxx_ast.specs.Plain.{Function, Specification, listed, noexcept, Expression, call, std_call, Expressions, no_expressions, expression_then, Statement, block, empty, if_else, while, return, break, continue, throw, try, assign, evaluate, local_int, local_ref, local_object, Else, no_else, else_do, Statements, no_statements, statement_then, Handlers, no_handlers, handler_then}
 use Rattle.meaning_forms.specs.Class.{ObjectType, int_type, class_type, class_named, parts_of}
 use Rattle.meaning_forms.specs.Frame.{local_number}
 use Rattle.meaning_forms.specs.Call.{initialiser_for, statements_in}
@@ -186,15 +186,16 @@ module _ (l : Lowering) where
   bodied Plain k f d = statements_good (statements_in f.body) 0 (length f.parameters) d
   bodied Method k f d = statements_good (statements_in f.body) 0 (length f.parameters) d
 
-  limited_good : (o : Option (List Ty)) (act : ℕ → List Region) (d : ℕ) → Others act → One (limited o act d)
+  limited_good : (o : Option Specification) (act : ℕ → List Region) (d : ℕ) → Others act → One (limited l o act d)
   limited_good None act d r = r (d + 1)
-  limited_good (Some types) act d r = r (d + 2)
+  limited_good (Some (listed types)) act d r = r (d + 2)
+  limited_good (Some (noexcept place b)) act d r = (r (d + 2), (tt, (tt, (((tt, tt), tt), tt)), tt))
 
   last_good : (is_main : Bool) → Good (last_result l is_main)
   last_good false = tt
   last_good true = (tt, tt)
 
-  pub body_good : (is_main : Bool) (k : ℕ) (f : Function) → One (in_order (limited f.specification (body_of l f.kind k f) 1 ∷ last_result l is_main))
+  pub body_good : (is_main : Bool) (k : ℕ) (f : Function) → One (in_order (limited l f.specification (body_of l f.kind k f) 1 ∷ last_result l is_main))
   body_good is_main k f = (limited_good f.specification (body_of l f.kind k f) 1 (λ d. bodied f.kind k f d), last_good is_main)
 
   pub default_whole_good : (is_declared : Bool) (k : ℕ) → One (in_order (if is_declared then [] else build_parts l k (default_part l k) 0 (parts_of l.program k) nothing_more 1))

@@ -6,7 +6,7 @@ use Rattle.cxx_ast.specs.declared.name.Bound.TheVariants.{Local, Field, Class, F
 use Rattle.cxx_ast.specs.declared.name.Builtin.TheVariants.{WriteInt, SetUnexpected}
 use Rattle.cxx_ast.specs.declared.types.Ty.TheVariants.{Int, Void, Object, ObjectRef}
 use Rattle.cxx_ast.specs.declared.declaration.FuncKind.TheVariants.{Plain, Constructor, Destructor}
-use Rattle.cxx_ast.specs.Plain.{Class as ClassTree, Checked, Expression, number, path, call, std_call, Expressions, no_expressions, expression_then, Statement, return, throw, try, assign, evaluate, local_object, Statements, no_statements, statement_then, no_handlers, handler_then}
+use Rattle.cxx_ast.specs.Plain.{Class as ClassTree, Checked, Expression, number, path, call, std_call, Expressions, no_expressions, expression_then, Statement, return, throw, try, assign, evaluate, local_object, Statements, no_statements, statement_then, no_handlers, handler_then, listed}
 use Rattle.eh_bytes.specs.Spelling.{uleb_spelling, uleb_spelling_within}
 use Rattle.meaning_forms.specs.Outcome.{undefined}
 use Rattle.meaning_forms.specs.Meaning.{stopped_by}
@@ -76,7 +76,7 @@ thrown_again-watched = (refl, refl, refl)
 --     int main() { std::set_unexpected(u); try { f(); } catch (std::bad_exception&) { write_int(6); } return 0; }
 bad_exception_thrown : Checked
 bad_exception_thrown = ck classes [] (
-    fn Plain Void [] (Some (Object (nm (Class 0)) ∷ [])) [] (rows (object 0 (int 1) ∷ throw 0 (Some (int 3)) ∷ [])) ∷
+    fn Plain Void [] (Some (listed (Object (nm (Class 0)) ∷ []))) [] (rows (object 0 (int 1) ∷ throw 0 (Some (int 3)) ∷ [])) ∷
     fn Plain Void [] None [] (rows (throw 0 None ∷ [])) ∷
     fn Plain Int [] None [] (rows (
     evaluate (std_call (nm (Builtin SetUnexpected)) (arguments (var (Func 1) ∷ [])) 0) ∷

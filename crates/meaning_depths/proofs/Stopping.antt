@@ -3,6 +3,7 @@ use Rattle.std.specs.Prelude.{ℕ, Bool, true, false, [], ◌∷◌, Option, Som
 use Rattle.cxx_ast.specs.declared.types.Ty.{Ty}
 use Rattle.cxx_ast.specs.declared.types.Ty.TheVariants.{Int, Object}
 use Rattle.cxx_ast.specs.declared.name.Name.{Name}
+use Rattle.cxx_ast.specs.Plain.{Specification, listed, noexcept}
 use Rattle.eh_outer.specs.declared.module.Reply.{Reply}
 use Rattle.eh_outer.specs.declared.module.Reply.TheVariants.{Value, Raise}
 use Rattle.run_items.specs.declared.item.Item.TheVariants.{Clean}
@@ -19,7 +20,7 @@ use Rattle.meaning_forms.specs.Guard.{allows}
 use Rattle.meaning_forms.specs.Statement.{◌then◌}
 use Rattle.meaning_forms.specs.Frame.{Frame}
 use Rattle.meaning_forms.specs.Handler.{enter, after_destructor, give_back, let_go, while_handled, new_copy, catch_parameter, destroy_parameter, handle, goes_on}
-use Rattle.meaning_forms.specs.Specification.{new_bad_exception, pass_on, after_unexpected, run_unexpected_handler, unexpected, after_extent, under_specification}
+use Rattle.meaning_forms.specs.Specification.{new_bad_exception, pass_on, after_unexpected, run_unexpected_handler, unexpected, after_extent, under_specification, end_noexcept, after_specification}
 use Rattle.meaning_forms.specs.Class.{ObjectType, int_type, class_type}
 use Rattle.meaning_depths.specs.Shallow.{IsBelow, StopsBelow, ComesBelow, Shallow, CallsAreShallow}
 
@@ -262,7 +263,16 @@ after_extent_below {L} A r types c (stopped (thrown e) w) h g =
     p.at w g
 after_extent_below A r types c m h g = g
 
-pub under_specification_below : {L : ℕ} (A : Type 0) (r : Running) (o : Option (List Ty)) (act : Context → Action A) (c : Context) → CallsAreShallow L r → ((d : Context) → Shallow L A (act d))
+-- what comes out of what is noexcept ends
+after_noexcept_below : {L : ℕ} (A : Type 0) (r : Running) (place : ℕ) (b : Bool) (c : Context) (m : Result A) → CallsAreShallow L r → ComesBelow L m
+    → ComesBelow L (after_specification r (noexcept place b) c m)
+after_noexcept_below {L} A r place b c (stopped (thrown e) w) h g =
+    let p : Shallow L A (end_noexcept r c e) = search (bind_below, enter_below, terminate_below) in
+    p.at w g
+after_noexcept_below A r place b c m h g = g
+
+pub under_specification_below : {L : ℕ} (A : Type 0) (r : Running) (o : Option Specification) (act : Context → Action A) (c : Context) → CallsAreShallow L r → ((d : Context) → Shallow L A (act d))
     → Shallow L A (under_specification r o act c)
 under_specification_below A r None act c h k = k c
-under_specification_below A r (Some listed) act c h k = record { at = λ w l. after_extent_below A r _ c (act _ w) h ((k _).at w l) }
+under_specification_below A r (Some (listed types)) act c h k = record { at = λ w l. after_extent_below A r _ c (act _ w) h ((k _).at w l) }
+under_specification_below A r (Some (noexcept place b)) act c h k = record { at = λ w l. after_noexcept_below A r place b c (act _ w) h ((k _).at w l) }

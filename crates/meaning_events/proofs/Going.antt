@@ -5,6 +5,7 @@ use Rattle.std.proofs.lemmas.List.{append_assoc, append-nil}
 use Rattle.cxx_ast.specs.declared.types.Ty.{Ty}
 use Rattle.cxx_ast.specs.declared.types.Ty.TheVariants.{Int, Object}
 use Rattle.cxx_ast.specs.declared.name.Name.{Name}
+use Rattle.cxx_ast.specs.Plain.{Specification, listed, noexcept}
 use Rattle.eh_outer.specs.declared.module.Reply.{Reply}
 use Rattle.eh_outer.specs.declared.module.Reply.TheVariants.{Value, Raise}
 use Rattle.run_items.specs.declared.item.Item.{Item}
@@ -22,7 +23,7 @@ use Rattle.meaning_forms.specs.Guard.{allows}
 use Rattle.meaning_forms.specs.Statement.{◌then◌}
 use Rattle.meaning_forms.specs.Frame.{Frame}
 use Rattle.meaning_forms.specs.Handler.{enter, after_destructor, give_back, let_go, while_handled, new_copy, catch_parameter, destroy_parameter, handle, goes_on}
-use Rattle.meaning_forms.specs.Specification.{new_bad_exception, pass_on, after_unexpected, run_unexpected_handler, unexpected, after_extent, under_specification}
+use Rattle.meaning_forms.specs.Specification.{new_bad_exception, pass_on, after_unexpected, run_unexpected_handler, unexpected, after_extent, under_specification, end_noexcept, after_specification}
 use Rattle.meaning_forms.specs.Class.{ObjectType, int_type, class_type}
 use Rattle.meaning_events.specs.Going.{Follows, items_left, GoesOn, CallsGoOn}
 
@@ -261,7 +262,16 @@ after_extent_goes A r types c n (stopped (thrown e) w) h g =
     follows_on g (p.at w)
 after_extent_goes A r types c n m h g = g
 
-pub under_specification_goes : (A : Type 0) (r : Running) (o : Option (List Ty)) (act : Context → Action A) (c : Context) → CallsGoOn r → ((d : Context) → GoesOn A (act d))
+-- what comes out of what is noexcept ends
+after_noexcept_goes : (A : Type 0) (r : Running) (place : ℕ) (b : Bool) (c : Context) (n : List Item) (m : Result A) → CallsGoOn r → Follows n (items_left m)
+    → Follows n (items_left (after_specification r (noexcept place b) c m))
+after_noexcept_goes A r place b c n (stopped (thrown e) w) h g =
+    let p : GoesOn A (end_noexcept r c e) = search (bind_goes, enter_goes, terminate_goes) in
+    follows_on g (p.at w)
+after_noexcept_goes A r place b c n m h g = g
+
+pub under_specification_goes : (A : Type 0) (r : Running) (o : Option Specification) (act : Context → Action A) (c : Context) → CallsGoOn r → ((d : Context) → GoesOn A (act d))
     → GoesOn A (under_specification r o act c)
 under_specification_goes A r None act c h k = k c
-under_specification_goes A r (Some listed) act c h k = record { at = λ w. after_extent_goes A r _ c _ (act _ w) h ((k _).at w) }
+under_specification_goes A r (Some (listed types)) act c h k = record { at = λ w. after_extent_goes A r _ c _ (act _ w) h ((k _).at w) }
+under_specification_goes A r (Some (noexcept place b)) act c h k = record { at = λ w. after_noexcept_goes A r place b c _ (act _ w) h ((k _).at w) }

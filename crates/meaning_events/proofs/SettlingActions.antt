@@ -1,8 +1,7 @@
 -- Actions that settle what they make, one after the other and in scopes, specifications and try blocks.
-use Rattle.std.proofs.Common.{◌≡◌, ℕ, zero, suc, ℤ, Bool, true, false, List, ◌∷◌, Option, Some, refl, sym, ap, ◌∙◌, subst}
+use Rattle.std.proofs.Common.{◌≡◌, ℕ, zero, suc, ℤ, Bool, true, false, ◌∷◌, Option, Some, refl, sym, ap, ◌∙◌, subst}
 use Rattle.std.specs.Prelude.{find, cond, if◌then◌else◌}
-use Rattle.cxx_ast.specs.declared.types.Ty.{Ty}
-use Rattle.cxx_ast.specs.Plain.{Checked, Handlers}
+use Rattle.cxx_ast.specs.Plain.{Checked, Handlers, Specification}
 use Rattle.run_items.specs.declared.item.Item.TheVariants.{Line}
 use Rattle.meaning_forms.specs.Class.{ObjectType, some_of, contains}
 use Rattle.meaning_forms.specs.Part.{Part}
@@ -110,7 +109,7 @@ rethrow_in A r c h = record { at = rethrow_settles_at r h c A }
 pub throw_in : (A : Type 0) (r : Running) (c : Context) (build : Action ℕ) → CallsSettle r → SettlesAct r.program c ℕ build → SettlesAct r.program c A (throw_new r c build)
 throw_in A r c build h k = record { at = throw_settles r h c A build k.at }
 
-pub specified_in : {A : Type 0} (r : Running) → CallsSettle r → (o : Option (List Ty)) (act : Context → Action A) (c : Context) → ((d : Context) → SettlesAct r.program d A (act d))
+pub specified_in : {A : Type 0} (r : Running) → CallsSettle r → (o : Option Specification) (act : Context → Action A) (c : Context) → ((d : Context) → SettlesAct r.program d A (act d))
     → SettlesAct r.program c A (under_specification r o act c)
 specified_in r h o act c k = record { at = specified_settles r h o act (λ d. (k d).at) c }
 

@@ -1,8 +1,7 @@
 -- What specifications and the unexpected handler settle.
 use Rattle.std.proofs.Common.{◌≡◌, ℕ, ◌<◌, ◌⊎◌, inl, inr, ℤ, Bool, true, false, List, [], ◌∷◌, ◌++◌, Option, Some, None, refl, sym, ap, ◌∙◌, arith, length}
 use Rattle.std.specs.Prelude.{not, find, cond, map, if◌then◌else◌}
-use Rattle.cxx_ast.specs.declared.types.Ty.{Ty}
-use Rattle.cxx_ast.specs.Plain.{Checked}
+use Rattle.cxx_ast.specs.Plain.{Checked, Specification, listed, noexcept}
 use Rattle.meaning_forms.specs.Class.{ObjectType, class_type, some_of, contains, object_type}
 use Rattle.meaning_forms.specs.Part.{unset}
 use Rattle.meaning_forms.specs.World.{World, Installed, Reference, whole, nowhere, exception_at, type_at}
@@ -11,15 +10,15 @@ use Rattle.meaning_forms.specs.Guard.{allows, stops, dooms, is_doomed}
 use Rattle.meaning_forms.specs.Outcome.{Result, done, stopped, thrown, cancelled, ended, undefined, out_of_turns, deep, Action, pure, stop, continued}
 use Rattle.meaning_forms.specs.Running.{Running, function, constructor}
 use Rattle.meaning_forms.specs.Construct.{constructor_for, default_object}
-use Rattle.meaning_forms.specs.Terminate.{terminate_with}
+use Rattle.meaning_forms.specs.Terminate.{terminate_with, terminate}
 use Rattle.meaning_forms.specs.Throw.{throw_new, raise_exception}
 use Rattle.meaning_forms.specs.Handler.{enter, while_handled}
-use Rattle.meaning_forms.specs.Specification.{kept_with, is_bad_exception, new_bad_exception, pass_on, after_unexpected, run_unexpected_handler, unexpected, after_extent, under_specification}
+use Rattle.meaning_forms.specs.Specification.{kept_with, is_bad_exception, new_bad_exception, pass_on, after_unexpected, run_unexpected_handler, unexpected, after_extent, under_specification, after_specification}
 use Rattle.meaning_events.specs.Fates.{Story, story, fate, IsWhole, Tells}
 use Rattle.meaning_events.specs.Settles.{Nobody, Unless, IsOwn, Spares, Settles, SettlesIn, AlwaysSettles, CallsSettle}
 use Rattle.meaning_events.proofs.Sparing.{never, spares_none, spares_out, spares_caught}
 use Rattle.meaning_events.proofs.Telling.{held_first, handled_old}
-use Rattle.meaning_events.proofs.Settling.{settled_same, settled_out, settles_map, settles_then, ends_settle, terminates_with, raise_settles}
+use Rattle.meaning_events.proofs.Settling.{settled_same, settled_out, settles_map, settles_then, ends_settle, terminates_with, raise_settles, terminates}
 use Rattle.meaning_events.proofs.SettlingThrows.{throw_settles}
 use Rattle.meaning_events.proofs.SettlingHandlers.{while_handled_settles, entered_settles}
 
@@ -128,8 +127,25 @@ module _ (r : Running) (calls : CallsSettle r) where
   extent_settles types c s tells (stopped out_of_turns w2) h = h
   extent_settles types c s tells (stopped deep w2) h = h
 
-  pub specified_settles : {A : Type 0} (listed : Option (List Ty)) (act : Context → Action A) → AlwaysSettles r.program act → AlwaysSettles r.program (under_specification r listed act)
+  -- what comes out of what is noexcept is entered, and ends
+  noexcept_settles : {A : Type 0} (place : ℕ) (b : Bool) (c : Context) (s : Story) → Tells c.handled s → (x : Result A)
+      → Settles r.program c.handled (try_block (catch_all ∷ []) ∷ c.guards) Nobody s x → Settles r.program c.handled c.guards Nobody s (after_specification r (noexcept place b) c x)
+  noexcept_settles place b c s tells (done u w2) h = h
+  noexcept_settles {A} place b c s tells (stopped (thrown e) w2) h =
+      caught_on r.program c.handled c.guards s (story w2) e (continued (enter r e c w2) (λ u. terminate {A = A} r (handling e c))) tells h.0.spares h.1.known
+      (entered_settles r calls c (Unless (contains c.handled e) e) w2 e (λ u. terminate {A = A} r (handling e c)) h.0.tells h.1.whole
+      (λ w3 more same.
+      ends_settle r.program c.handled c.guards (Unless (contains c.handled e) e) (story w3) (terminate {A = A} r (handling e c) w3) (terminates r calls A (handling e c) w3 more)))
+  noexcept_settles place b c s tells (stopped (cancelled v) w2) h = h
+  noexcept_settles place b c s tells (stopped undefined w2) h = h
+  noexcept_settles place b c s tells (stopped (ended x) w2) h = h
+  noexcept_settles place b c s tells (stopped out_of_turns w2) h = h
+  noexcept_settles place b c s tells (stopped deep w2) h = h
+
+  pub specified_settles : {A : Type 0} (o : Option Specification) (act : Context → Action A) → AlwaysSettles r.program act → AlwaysSettles r.program (under_specification r o act)
   specified_settles None act settles c w tells = settles c w tells
-  specified_settles (Some listed) act settles c w tells =
-      let types = map object_type listed in
+  specified_settles (Some (listed listing)) act settles c w tells =
+      let types = map object_type listing in
       extent_settles types c (story w) tells (act (guarded_by (specification types) c) w) (settles (guarded_by (specification types) c) w tells)
+  specified_settles (Some (noexcept place b)) act settles c w tells =
+      noexcept_settles place b c (story w) tells (act (guarded_by (try_block (catch_all ∷ [])) c) w) (settles (guarded_by (try_block (catch_all ∷ [])) c) w tells)

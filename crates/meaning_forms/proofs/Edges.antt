@@ -6,7 +6,7 @@ use Rattle.cxx_ast.specs.declared.name.Bound.TheVariants.{Local, Class, Func, Bu
 use Rattle.cxx_ast.specs.declared.name.Builtin.TheVariants.{WriteInt, Module, Cancel, Terminate, SetTerminate}
 use Rattle.cxx_ast.specs.declared.types.Ty.TheVariants.{Int, Void, ObjectRef}
 use Rattle.cxx_ast.specs.declared.declaration.FuncKind.TheVariants.{Plain, Destructor}
-use Rattle.cxx_ast.specs.Plain.{Checked, Expression, number, path, call, std_call, no_expressions, expression_then, Statement, return, throw, try, evaluate, local_object, Statements, no_statements, statement_then, Handlers, no_handlers, handler_then}
+use Rattle.cxx_ast.specs.Plain.{Checked, listed, Expression, number, path, call, std_call, no_expressions, expression_then, Statement, return, throw, try, evaluate, local_object, Statements, no_statements, statement_then, Handlers, no_handlers, handler_then}
 use Rattle.eh_outer.specs.declared.module.Reply.TheVariants.{Raise}
 use Rattle.run_items.specs.declared.item.Item.TheVariants.{Line, Make, Foreign, Enter, Leave, Destroy, Free}
 use Rattle.meaning_forms.specs.declared.ending.MeanEnd.TheVariants.{Exit, Aborted}
@@ -49,7 +49,7 @@ return_0 = return 0 (Some (number (pos 0) 0))
 --     void f() throw(int) { A x(1); throw 7; } int main() { f(); return 0; }
 allowed_and_uncaught : Checked
 allowed_and_uncaught = ck (bad_exception ∷ class_a ∷ []) [] (
-    fn Plain Void [] (Some (Int ∷ [])) [] (statements (object_1 ∷ throw 0 (Some (number (pos 7) 0)) ∷ []))
+    fn Plain Void [] (Some (listed (Int ∷ []))) [] (statements (object_1 ∷ throw 0 (Some (number (pos 7) 0)) ∷ []))
     ∷ fn Plain Int [] None [] (statements (calls (Func 0) ∷ return_0 ∷ [])) ∷ []) 1
 
 allowed_and_uncaught-means : told (program_meaning allowed_and_uncaught [] [] 100 128) ≡ ((Make 1 ∷ Enter 1 ∷ []), Aborted)
@@ -60,7 +60,7 @@ allowed_and_uncaught-means = refl
 --     void f() throw(int) { A x(1); __module(0, 0); } int main() { try { f(); } catch (...) { write_int(2); } return 0; }
 foreign_at_a_specification : Checked
 foreign_at_a_specification = ck (bad_exception ∷ class_a ∷ []) [] (
-    fn Plain Void [] (Some (Int ∷ [])) [] (statements (object_1 ∷ asks_module ∷ []))
+    fn Plain Void [] (Some (listed (Int ∷ []))) [] (statements (object_1 ∷ asks_module ∷ []))
     ∷ fn Plain Int [] None [] (statements (try (statements (calls (Func 0) ∷ [])) (catch_all (calls_with (Builtin WriteInt) (number (pos 2) 0) ∷ [])) ∷ return_0 ∷ [])) ∷ []) 1
 
 foreign_at_a_specification-means : told (program_meaning foreign_at_a_specification [] ((Raise 9 ∷ []) ∷ []) 100 128) ≡ ((Foreign 1 0 9 ∷ []), Aborted)

@@ -23,9 +23,9 @@ use Rattle.cxx_ast.specs.declared.name.Builtin.{Builtin}
 use Rattle.cxx_ast.specs.declared.name.Builtin.TheVariants.{WriteInt, ReadByte, Exit, Module, Cancel, Terminate, SetTerminate, SetUnexpected, Uncaught, BadException}
 use Rattle.cxx_ast.specs.declared.expression.BinaryOp.{BinaryOp}
 use Rattle.cxx_ast.specs.Plain.{Expression, number, path, paren, unary, binary, call, std_call, Expressions, no_expressions, expression_then, Statement, block, empty, if_else, while, return, break, continue, throw, try, assign, evaluate, local_int, local_ref, local_object, Else, no_else, else_do, Statements, no_statements, statement_then, Handlers, no_handlers, handler_then}
-use Rattle.meaning_forms.specs.Context.{try_block, specification, catch_all}
+use Rattle.meaning_forms.specs.Context.{try_block, catch_all}
 use Rattle.meaning_forms.specs.World.{Installed}
-use Rattle.cxx_ast.specs.Plain.{Checked, Function}
+use Rattle.cxx_ast.specs.Plain.{Checked, Specification, listed, noexcept, Function}
 use Rattle.meaning_forms.specs.Guard.{allows}
 use Rattle.meaning_forms.specs.World.{type_at}
 use Rattle.meaning_forms.specs.Outcome.{Flow, normal, breaks, continues, returns}
@@ -34,10 +34,10 @@ use Rattle.meaning_forms.specs.Statement.{spend as spend_one, spend_turn, follow
 use Rattle.meaning_forms.specs.Call.{run_function, build_parts, default_part, copy_part, initial_value, initial_part, construction, run_constructor, destroy_parts, run_destructor, run_callee, opened, after_call, open_call, call_with}
 use Rattle.meaning_forms.specs.Frame.{Frame}
 use Rattle.meaning_forms.specs.Handler.{enter, after_destructor, give_back, let_go, after_handler, while_handled, new_copy, catch_parameter, destroy_parameter, handle, goes_on}
-use Rattle.meaning_forms.specs.Specification.{new_bad_exception, pass_on, after_unexpected, run_unexpected_handler, unexpected, after_extent, under_specification}
+use Rattle.meaning_forms.specs.Specification.{new_bad_exception, pass_on, after_unexpected, run_unexpected_handler, unexpected, after_extent, guard_of, end_noexcept, after_specification, under_specification}
 use Rattle.meaning_forms.specs.Expression.{passed, builtin, called, with_right_side, value_of, arguments, construct}
 use Rattle.meaning_forms.specs.Class.{ObjectType, int_type, class_type, object_type}
-use Rattle.meaning_forms.proofs.Turns.{Spends, CallsSpend, after_barrier-spends, after_building-spends, after_destructor-spends, after_extent-spends, after_part-spends, after_scope-spends, after_terminate_handler-spends, after_try-spends, after_unexpected-spends, binary_value-spends, bind-spends, call_with-spends, calling-spends, change-spends, emit-spends, keep-spends, new_exception-spends, new_object-spends, next_byte-spends, open_call-spends, pure-spends, read-spends, spend_turn-spends, stop-spends, unary_value-spends, value_returned-spends, with_arguments-spends, world-spends, write-spends}
+use Rattle.meaning_forms.proofs.Turns.{Spends, CallsSpend, after_barrier-spends, after_building-spends, after_destructor-spends, after_part-spends, after_scope-spends, after_specification-spends, after_terminate_handler-spends, after_try-spends, after_unexpected-spends, binary_value-spends, bind-spends, call_with-spends, calling-spends, change-spends, emit-spends, keep-spends, new_exception-spends, new_object-spends, next_byte-spends, open_call-spends, pure-spends, read-spends, spend_turn-spends, stop-spends, unary_value-spends, value_returned-spends, with_arguments-spends, world-spends, write-spends}
 
 -- two computations give the same where fewer than `lim` turns are left, and the first gives no turn back
 pub record Same (lim : ℕ) (A : Type 0) (x y : Action A) : Type 0 where
@@ -249,11 +249,19 @@ module _ (p : Checked) (lim : ℕ) (calls calls' : Calls) (agree : Agree lim cal
       p.same w l
   extent_result-same A types c m l = refl
 
-  pub under_specification-same : (A : Type 0) (o : Option (List Ty)) (act act' : Context → Action A) (c : Context) → ((d : Context) → Same lim A (act d) (act' d)) → Same lim A (under_specification R o act c) (under_specification S o act' c)
+  end_noexcept-same : (A : Type 0) (c : Context) (e : ℕ) → Same lim A (end_noexcept R c e) (end_noexcept S c e)
+  end_noexcept-same A c e = search (bind-same, enter-same, terminate-same)
+
+  specification_result-same : (A : Type 0) (s : Specification) (c : Context) (m : Result A) → turns_left m < lim → after_specification R s c m ≡ after_specification S s c m
+  specification_result-same A (listed types) c m l = extent_result-same A (map object_type types) c m l
+  specification_result-same A (noexcept place b) c (stopped (thrown e) w) l = (end_noexcept-same A c e).same w l
+  specification_result-same A (noexcept place b) c m l = refl
+
+  pub under_specification-same : (A : Type 0) (o : Option Specification) (act act' : Context → Action A) (c : Context) → ((d : Context) → Same lim A (act d) (act' d)) → Same lim A (under_specification R o act c) (under_specification S o act' c)
   under_specification-same A None act act' c k = k c
-  under_specification-same A (Some listed) act act' c k =
-      mapped-same (after_extent R (map object_type listed) c) (after_extent S (map object_type listed) c) _ _ (k (guarded_by (specification (map object_type listed)) c)) (extent_result-same A (map object_type listed) c)
-      (λ n m g. after_extent-spends A R (map object_type listed) c n m spend g)
+  under_specification-same A (Some s) act act' c k =
+      mapped-same (after_specification R s c) (after_specification S s c) _ _ (k (guarded_by (guard_of s) c)) (specification_result-same A s c)
+      (λ n m g. after_specification-spends A R s c n m spend g)
 
   pub passed-same : (f : Frame) (types : List Ty) (e : Expression) (x y : Action ℤ) → Same lim ℤ x y → Same lim Argument (passed R f types e x) (passed S f types e y)
   passed-same f [] e x y k = search (bind-same, own-same, pure-spends)

@@ -4,3 +4,4 @@ pub mod Turns
 pub mod Fuel
 pub mod Worked
 pub mod Edges
+pub mod Noexcept

@@ -6,7 +6,7 @@ use Rattle.cxx_ast.specs.declared.name.Name.{Name}
 use Rattle.cxx_ast.specs.declared.types.Ty.{Ty}
 use Rattle.cxx_ast.specs.declared.types.Param.{Param}
 use Rattle.cxx_ast.specs.declared.declaration.FuncKind.{FuncKind}
-use Rattle.cxx_ast.specs.Plain.{Expressions, Statements, Initialiser, Function, Class, Checked}
+use Rattle.cxx_ast.specs.Plain.{Expressions, Statements, Initialiser, Specification, Function, Class, Checked}
 use Rattle.run_items.specs.declared.item.Item.{Item}
 use Rattle.run_items.specs.declared.item.Item.TheVariants.{Line}
 
@@ -19,7 +19,7 @@ pa t n = record { ty = t; name = n }
 abbrev pub ini : Name → Expressions → Initialiser
 ini n es = record { name = n; arguments = es }
 
-abbrev pub fn : FuncKind → Ty → List Param → Option (List Ty) → List Initialiser → Statements → Function
+abbrev pub fn : FuncKind → Ty → List Param → Option Specification → List Initialiser → Statements → Function
 fn k t ps spec is body = record { name = nm Free; kind = k; result = t; parameters = ps; specification = spec; initialisers = is; body = Some body; tokens = 0 }
 
 abbrev pub cl : Option Name → List Param → List Function → Class

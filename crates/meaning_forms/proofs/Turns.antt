@@ -1,6 +1,7 @@
 -- No computation gives turns back.
 use Rattle.std.specs.Prelude.{◌≡◌, ◌≤◌, ℕ, zero, suc, Bool, true, false, [], ◌∷◌, Option, Some, None, if◌then◌else◌, List}
-use Rattle.std.proofs.Common.{arith}
+use Rattle.std.proofs.Common.{arith, map}
+use Rattle.meaning_forms.specs.Class.{object_type}
 use Rattle.meaning_forms.specs.World.{World, Reference, Exception, building, native, foreign}
 use Rattle.meaning_forms.specs.Context.{Context, barrier, guarded_by, handling}
 use Rattle.meaning_forms.specs.Outcome.{turns_left, Action, Result, done, stopped, Stop, thrown, cancelled, out_of_turns, pure, stop, world, continued, ◌>>=◌, ◌>>◌, change, emit}
@@ -30,7 +31,7 @@ use Rattle.cxx_ast.specs.declared.expression.BinaryOp.TheVariants.{Add, Subtract
 use Rattle.cxx_ast.specs.Plain.{Expression, number, path, paren, unary, binary, call, std_call, Expressions, no_expressions, expression_then, Statement, block, empty, if_else, while, return, break, continue, throw, try, assign, evaluate, local_int, local_ref, local_object, Else, no_else, else_do, Statements, no_statements, statement_then, Handlers, no_handlers, handler_then}
 use Rattle.meaning_forms.specs.World.{Installed}
 use Rattle.meaning_forms.specs.Running.{by_value, by_reference}
-use Rattle.cxx_ast.specs.Plain.{Checked, Function}
+use Rattle.cxx_ast.specs.Plain.{Checked, Specification, listed, noexcept, Function}
 use Rattle.meaning_forms.specs.Guard.{allows}
 use Rattle.meaning_forms.specs.World.{type_at}
 use Rattle.meaning_forms.specs.Outcome.{Flow, normal, breaks, continues, returns}
@@ -39,7 +40,7 @@ use Rattle.meaning_forms.specs.Statement.{spend, spend_turn, followed, ◌then�
 use Rattle.meaning_forms.specs.Call.{value_returned, run_function, build_parts, default_part, copy_part, initial_value, initial_part, construction, run_constructor, destroy_parts, run_destructor, run_callee, after_call, open_call, running}
 use Rattle.meaning_forms.specs.Frame.{Frame, with_argument, with_arguments}
 use Rattle.meaning_forms.specs.Handler.{enter, after_destructor, give_back, let_go, while_handled, new_copy, catch_parameter, destroy_parameter, handle, goes_on}
-use Rattle.meaning_forms.specs.Specification.{new_bad_exception, pass_on, after_unexpected, run_unexpected_handler, unexpected, after_extent, under_specification}
+use Rattle.meaning_forms.specs.Specification.{new_bad_exception, pass_on, after_unexpected, run_unexpected_handler, unexpected, after_extent, end_noexcept, after_specification, under_specification}
 use Rattle.meaning_forms.specs.Arithmetic.{in_range, dividing, unary_value, binary_value}
 use Rattle.meaning_forms.specs.Expression.{passed, next_byte, builtin, called, with_right_side, value_of, arguments, construct}
 use Rattle.meaning_forms.specs.Class.{ObjectType, int_type, class_type}
@@ -266,9 +267,20 @@ after_extent-spends A r types c n (stopped (thrown e) w) h g =
     omega (arith, p.at w, g)
 after_extent-spends A r types c n m h g = g
 
-pub under_specification-spends : (A : Type 0) (r : Running) (o : Option (List Ty)) (act : Context → Action A) (c : Context) → CallsSpend r → ((d : Context) → Spends A (act d)) → Spends A (under_specification r o act c)
+pub after_try-spends : (A : Type 0) (handler : ℕ → Action A) (n : ℕ) (m : Result A) → ((e : ℕ) → Spends A (handler e)) → turns_left m ≤ n → turns_left (after_try handler m) ≤ n
+after_try-spends A handler n (stopped (thrown e) w) k g = omega (arith, (k e).at w, g)
+after_try-spends A handler n m k g = g
+
+pub end_noexcept-spends : (A : Type 0) (r : Running) (c : Context) (e : ℕ) → CallsSpend r → Spends A (end_noexcept r c e)
+end_noexcept-spends A r c e h = search (bind-spends, enter-spends, terminate-spends)
+
+pub after_specification-spends : (A : Type 0) (r : Running) (s : Specification) (c : Context) (n : ℕ) (m : Result A) → CallsSpend r → turns_left m ≤ n → turns_left (after_specification r s c m) ≤ n
+after_specification-spends A r (listed types) c n m h g = after_extent-spends A r (map object_type types) c n m h g
+after_specification-spends A r (noexcept place b) c n m h g = after_try-spends A (end_noexcept r c) n m (λ e. end_noexcept-spends A r c e h) g
+
+pub under_specification-spends : (A : Type 0) (r : Running) (o : Option Specification) (act : Context → Action A) (c : Context) → CallsSpend r → ((d : Context) → Spends A (act d)) → Spends A (under_specification r o act c)
 under_specification-spends A r None act c h k = k c
-under_specification-spends A r (Some listed) act c h k = record { at = λ w. after_extent-spends A r _ c _ (act _ w) h ((k _).at w) }
+under_specification-spends A r (Some s) act c h k = record { at = λ w. after_specification-spends A r s c _ (act _ w) h ((k _).at w) }
 
 pub with_argument-spends : (x : Param) (a : Argument) (f : Frame) → Spends Frame (with_argument x a f)
 with_argument-spends x (by_value v) f = search (bind-spends, new_object-spends, pure-spends)
@@ -413,10 +425,6 @@ returning-spends r f (Some e) c h = search (bind-spends, value_of-spends, pure-s
 pub local_cell-spends : (r : Running) (f : Frame) (o : Option Expression) (c : Context) → CallsSpend r → Spends ℕ (local_cell r f o c)
 local_cell-spends r f None c h = search new_object-spends
 local_cell-spends r f (Some e) c h = search (bind-spends, value_of-spends, new_object-spends)
-
-pub after_try-spends : (A : Type 0) (handler : ℕ → Action A) (n : ℕ) (m : Result A) → ((e : ℕ) → Spends A (handler e)) → turns_left m ≤ n → turns_left (after_try handler m) ≤ n
-after_try-spends A handler n (stopped (thrown e) w) k g = omega (arith, (k e).at w, g)
-after_try-spends A handler n m k g = g
 
 pub try-spends : (A : Type 0) (handler : ℕ → Action A) (m : Action A) → ((e : ℕ) → Spends A (handler e)) → Spends A m → Spends A (λ w. after_try handler (m w))
 try-spends A handler m k g = record { at = λ w. after_try-spends A handler _ (m w) k (g.at w) }

@@ -6,7 +6,7 @@ use Rattle.cxx_ast.specs.declared.types.Ty.TheVariants.{Int, Void, Object, IntRe
 use Rattle.cxx_ast.specs.declared.declaration.FuncKind.TheVariants.{Plain, Constructor, Destructor}
 use Rattle.cxx_ast.specs.declared.expression.BinaryOp.TheVariants.{Remainder, Add, Divide, Equal}
 use Rattle.cxx_ast.specs.declared.expression.UnaryOp.TheVariants.{Minus}
-use Rattle.cxx_ast.specs.Plain.{Class as ClassTree, Checked, number, path, unary, binary, call, std_call, no_expressions, expression_then, if_else, return, throw, try, assign, evaluate, local_object, no_else, no_statements, statement_then, no_handlers, handler_then}
+use Rattle.cxx_ast.specs.Plain.{Class as ClassTree, listed, Checked, number, path, unary, binary, call, std_call, no_expressions, expression_then, if_else, return, throw, try, assign, evaluate, local_object, no_else, no_statements, statement_then, no_handlers, handler_then}
 use Rattle.eh_outer.specs.declared.module.Reply.TheVariants.{Value, Raise}
 use Rattle.run_items.specs.declared.item.Item.{Item}
 use Rattle.run_items.specs.declared.item.Item.TheVariants.{Line, Make, Foreign, Enter, Leave, Destroy, Free, Clean}
@@ -136,7 +136,7 @@ no_unexpected_handler = ck (
     bad_exception
     ∷ class_a
     ∷ cl None [] [] ∷ []) [] (
-    fn Plain Void [] (Some (Int ∷ [])) [] (statement_then (local_object (nm (Class 1)) (nm (Local 0)) (expression_then (number (pos 1) 0) no_expressions)) (statement_then (throw 0 (Some (call (nm (Class 2) ∷ []) no_expressions))) no_statements))
+    fn Plain Void [] (Some (listed (Int ∷ []))) [] (statement_then (local_object (nm (Class 1)) (nm (Local 0)) (expression_then (number (pos 1) 0) no_expressions)) (statement_then (throw 0 (Some (call (nm (Class 2) ∷ []) no_expressions))) no_statements))
     ∷ fn Plain Int [] None [] (statement_then (try (statement_then (evaluate (call (nm (Func 0) ∷ []) no_expressions)) no_statements) (handler_then None None (statement_then (evaluate (call (nm (Builtin WriteInt) ∷ []) (expression_then (number (pos 2) 0) no_expressions))) no_statements) 0 no_handlers)) (statement_then (return 0 (Some (number (pos 0) 0))) no_statements)) ∷ []) 1
 
 no_unexpected_handler-means : told (program_meaning no_unexpected_handler [] [] 100 128) ≡ ((Make 1 ∷ Line (pos 1) ∷ Enter 1 ∷ []), Aborted)
@@ -150,7 +150,7 @@ unexpected_replaces = ck (
     bad_exception
     ∷ class_a
     ∷ cl None [] [] ∷ []) [] (
-    fn Plain Void [] (Some (Int ∷ [])) [] (statement_then (local_object (nm (Class 1)) (nm (Local 0)) (expression_then (number (pos 1) 0) no_expressions)) (statement_then (throw 0 (Some (call (nm (Class 2) ∷ []) no_expressions))) no_statements))
+    fn Plain Void [] (Some (listed (Int ∷ []))) [] (statement_then (local_object (nm (Class 1)) (nm (Local 0)) (expression_then (number (pos 1) 0) no_expressions)) (statement_then (throw 0 (Some (call (nm (Class 2) ∷ []) no_expressions))) no_statements))
     ∷ fn Plain Void [] None [] (statement_then (throw 0 (Some (number (pos 4) 0))) no_statements)
     ∷ fn Plain Int [] None [] (statement_then (evaluate (std_call (nm (Builtin SetUnexpected)) (expression_then (path (nm (Func 1) ∷ [])) no_expressions) 0)) (statement_then (try (statement_then (evaluate (call (nm (Func 0) ∷ []) no_expressions)) no_statements) (handler_then (Some Int) (Some (nm (Local 0))) (statement_then (evaluate (call (nm (Builtin WriteInt) ∷ []) (expression_then (path (nm (Local 0) ∷ [])) no_expressions))) no_statements) 0 no_handlers)) (statement_then (return 0 (Some (number (pos 0) 0))) no_statements))) ∷ []) 2
 
@@ -163,7 +163,7 @@ unexpected_replaces-means = refl
 bad_exception_in_its_place : Checked
 bad_exception_in_its_place = ck (
     bad_exception ∷ []) [] (
-    fn Plain Void [] (Some ((Object (nm (Class 0))) ∷ [])) [] (statement_then (throw 0 (Some (number (pos 3) 0))) no_statements)
+    fn Plain Void [] (Some (listed ((Object (nm (Class 0))) ∷ []))) [] (statement_then (throw 0 (Some (number (pos 3) 0))) no_statements)
     ∷ fn Plain Void [] None [] (statement_then (throw 0 None) no_statements)
     ∷ fn Plain Int [] None [] (statement_then (evaluate (std_call (nm (Builtin SetUnexpected)) (expression_then (path (nm (Func 1) ∷ [])) no_expressions) 0)) (statement_then (try (statement_then (evaluate (call (nm (Func 0) ∷ []) no_expressions)) no_statements) (handler_then (Some (ObjectRef false (nm (Class 0)))) None (statement_then (evaluate (call (nm (Builtin WriteInt) ∷ []) (expression_then (number (pos 6) 0) no_expressions))) no_statements) 0 no_handlers)) (statement_then (return 0 (Some (number (pos 0) 0))) no_statements))) ∷ []) 2
 

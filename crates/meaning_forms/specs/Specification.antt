@@ -1,17 +1,18 @@
 -- Exception specifications, and the unexpected handler.
 use Rattle.std.specs.Prelude.{ℕ, ℤ, Bool, false, ◌==◌, List, [], ◌∷◌, map, Option, Some, None, if◌then◌else◌}
-use Rattle.cxx_ast.specs.declared.types.Ty.{Ty}
+use Rattle.cxx_ast.specs.Plain.{Specification, listed, noexcept}
 use Rattle.meaning_forms.specs.Class.{ObjectType, int_type, class_type, some_of, object_type}
 use Rattle.meaning_forms.specs.Part.{unset}
 use Rattle.meaning_forms.specs.World.{Installed, Exception, native, exception_at, type_at, whole, nowhere}
-use Rattle.meaning_forms.specs.Context.{Context, catch_all, try_block, specification, guarded_by}
+use Rattle.meaning_forms.specs.Context.{Context, Guard, catch_all, try_block, specification, handling, guarded_by}
 use Rattle.meaning_forms.specs.Outcome.{Action, Result, done, stopped, thrown, pure, stop, world, new_object, ◌>>=◌, ◌>>◌}
 use Rattle.meaning_forms.specs.Guard.{allows}
 use Rattle.meaning_forms.specs.Running.{Running, function}
-use Rattle.meaning_forms.specs.Terminate.{terminate_with}
+use Rattle.meaning_forms.specs.Terminate.{terminate, terminate_with}
 use Rattle.meaning_forms.specs.Throw.{throw_new, raise_exception}
 use Rattle.meaning_forms.specs.Construct.{default_object}
 use Rattle.meaning_forms.specs.Handler.{enter, while_handled}
+use Rattle.meaning_forms.specs.Statement.{after_try}
 
 -- the handlers kept with a native exception
 abbrev pub kept_with : Exception → Installed
@@ -63,8 +64,23 @@ abbrev pub after_extent : {A : Type 0} → Running → List ObjectType → Conte
 after_extent r types c (stopped (thrown e) w) = (if allows r.program types (type_at w e) then stop (thrown e) else unexpected r types e c) w
 after_extent r types c result = result
 
+-- `noexcept` stops every exception, as a try block does whose one clause is `...`; in a checked program it is true
+abbrev pub guard_of : Specification → Guard
+guard_of (listed types) = specification (map object_type types)
+guard_of (noexcept place b) = try_block (catch_all ∷ [])
+
+-- an exception that comes out of what is `noexcept` is entered, and the terminate handler in effect is called
+abbrev pub end_noexcept : {A : Type 0} → Running → Context → ℕ → Action A
+end_noexcept r c e = do
+  enter r e c
+  terminate r (handling e c)
+
+-- what is done with what a specification stops
+abbrev pub after_specification : {A : Type 0} → Running → Specification → Context → Result A → Result A
+after_specification r (listed types) c result = after_extent r (map object_type types) c result
+after_specification r (noexcept place b) c result = after_try (end_noexcept r c) result
+
 -- the extent of a function's specification; without one the function has no guard
-abbrev pub under_specification : {A : Type 0} → Running → Option (List Ty) → (Context → Action A) → Context → Action A
+abbrev pub under_specification : {A : Type 0} → Running → Option Specification → (Context → Action A) → Context → Action A
 under_specification r None act c = act c
-under_specification r (Some listed) act c =
-    let types = map object_type listed in λ w. after_extent r types c (act (guarded_by (specification types) c) w)
+under_specification r (Some s) act c = λ w. after_specification r s c (act (guarded_by (guard_of s) c) w)

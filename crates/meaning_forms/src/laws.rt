@@ -1,5 +1,5 @@
 // Laws of the meaning: calls of no effect, whose contracts state what holds of every program.
-ghost use Rattle.meaning_forms.specs.Laws.{FuelIsEnough, TurnsDoNotRise};
+ghost use Rattle.meaning_forms.specs.Laws.{FuelIsEnough, NoexceptIsATry, TurnsDoNotRise};
 
 /// No call gives turns back.
 pub fn turns_do_not_rise()
@@ -9,4 +9,9 @@ pub fn turns_do_not_rise()
 /// One unit of fuel above the turns is as good as any more, so the fuel is no part of the meaning.
 pub fn fuel_is_enough()
     ensures { FuelIsEnough }
+{}
+
+/// What is `noexcept` is done as in a try block with the one handler `catch (...) { std::terminate(); }`.
+pub fn noexcept_is_a_try()
+    ensures { NoexceptIsATry }
 {}

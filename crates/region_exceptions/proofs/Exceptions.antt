@@ -30,7 +30,8 @@ leaves p c act fares w w2 n sound is e made unbuilt =
     let h = subst (Fares p 0 c w) is (fares 0 w (omega arith) (orderly_sound c w sound)) in
     (h.later, h.unbuilt e made unbuilt)
 
-enterable : {A : Type 0} (p : Checked) (c : Context) (act : Action A) → FaresIn p c act → CanBeCaught c act
+-- what comes out of an action that keeps what is known of exceptions can be entered
+pub enterable : {A : Type 0} (p : Checked) (c : Context) (act : Action A) → FaresIn p c act → CanBeCaught c act
 enterable p c act fares w w2 e sound is =
     let h = subst (Fares p w.last_number c w) is (fares w.last_number w (omega arith) (orderly_sound c w sound)) in
     (record { rests = h.1.raised.rests; front = h.1.raised.front }, h.1.known)

@@ -1,5 +1,5 @@
 -- Actions of a source that keep what is known of exceptions, one after the other and in scopes, specifications and try blocks.
-use Rattle.std.proofs.Common.{◌≡◌, ℕ, zero, suc, ◌<◌, ◌≤◌, ◌⊎◌, ℤ, Bool, true, false, List, [], ◌∷◌, ◌++◌, Option, Some, refl, sym, ap, ◌∙◌, arith}
+use Rattle.std.proofs.Common.{◌≡◌, ℕ, zero, suc, ◌<◌, ◌≤◌, ◌⊎◌, ℤ, Bool, true, false, [], ◌∷◌, ◌++◌, Option, Some, refl, sym, ap, ◌∙◌, arith}
 use Rattle.std.specs.Prelude.{find, cond, if◌then◌else◌}
 use Rattle.meaning_forms.specs.World.{World, Reference}
 use Rattle.meaning_forms.specs.Context.{Context, guarded_by}
@@ -11,8 +11,7 @@ use Rattle.meaning_forms.specs.Outcome.{new_object, read, write}
 use Rattle.meaning_forms.specs.Throw.{throw_new}
 use Rattle.meaning_forms.specs.Scope.{scope, until_complete}
 use Rattle.meaning_forms.specs.Construct.{destroy}
-use Rattle.cxx_ast.specs.declared.types.Ty.{Ty}
-use Rattle.cxx_ast.specs.Plain.{Handlers}
+use Rattle.cxx_ast.specs.Plain.{Specification, Handlers}
 use Rattle.cxx_ast.specs.Plain.{Checked}
 use Rattle.meaning_forms.specs.World.{type_at}
 use Rattle.meaning_forms.specs.Outcome.{Flow}
@@ -108,7 +107,7 @@ rethrow_in {A} r c = record { at = λ n w few order. rethrow_fares_at r n c w fe
 pub throw_in : {A : Type 0} (r : Running) (c : Context) (build : Action ℕ) → KeepsIn r.program c ℕ build → KeepsIn r.program c A (throw_new r c build)
 throw_in {A} r c build h = record { at = λ n w few order. throw_fares r n c w few order A build h.at }
 
-pub specified_in : {A : Type 0} (r : Running) → CallsFare r → (o : Option (List Ty)) (act : Context → Action A) (c : Context) → ((d : Context) → KeepsIn r.program d A (act d)) → KeepsIn r.program c A (under_specification r o act c)
+pub specified_in : {A : Type 0} (r : Running) → CallsFare r → (o : Option Specification) (act : Context → Action A) (c : Context) → ((d : Context) → KeepsIn r.program d A (act d)) → KeepsIn r.program c A (under_specification r o act c)
 specified_in r h o act c k = record { at = specified_fares r h o act (λ d. (k d).at) c }
 
 -- what handlers do with an exception that came out, of which no clause that was tried before matches

@@ -1,7 +1,6 @@
 -- What specifications and try blocks keep.
 use Rattle.std.proofs.Common.{◌≡◌, ℕ, ◌<◌, ◌≤◌, ◌⊎◌, inl, ℤ, Bool, true, false, List, [], ◌∷◌, ◌++◌, Option, Some, None, refl, sym, ap, ◌∙◌, arith, length}
 use Rattle.std.specs.Prelude.{not, find, cond, map, if◌then◌else◌}
-use Rattle.cxx_ast.specs.declared.types.Ty.{Ty}
 use Rattle.meaning_forms.specs.Class.{ObjectType, class_type, some_of, contains, object_type}
 use Rattle.meaning_forms.specs.Part.{unset}
 use Rattle.meaning_forms.specs.World.{World, Installed, Reference, whole, nowhere, exception_at, type_at}
@@ -10,17 +9,19 @@ use Rattle.meaning_forms.specs.Guard.{allows, stops, dooms}
 use Rattle.meaning_forms.specs.Outcome.{Result, done, stopped, thrown, cancelled, ended, undefined, out_of_turns, deep, Action, pure, stop, continued}
 use Rattle.meaning_forms.specs.Running.{Running, function, constructor}
 use Rattle.meaning_forms.specs.Construct.{constructor_for, default_object}
-use Rattle.meaning_forms.specs.Terminate.{terminate_with}
+use Rattle.meaning_forms.specs.Terminate.{terminate_with, terminate}
 use Rattle.meaning_forms.specs.Throw.{throw_new, raise_exception}
 use Rattle.meaning_forms.specs.Handler.{enter, while_handled}
-use Rattle.meaning_forms.specs.Specification.{kept_with, is_bad_exception, new_bad_exception, pass_on, after_unexpected, run_unexpected_handler, unexpected, after_extent, under_specification}
+use Rattle.meaning_forms.specs.Specification.{kept_with, is_bad_exception, new_bad_exception, pass_on, after_unexpected, run_unexpected_handler, unexpected, after_extent, under_specification, end_noexcept}
 use Rattle.region_exceptions.specs.Raises.{CanBeRaised}
 use Rattle.region_exceptions.specs.Fares.{IsOrderly, GoesOn, Fares, FaresIn, AlwaysFares, CallsFare}
 use Rattle.region_exceptions.proofs.Caught.{front_newest}
-use Rattle.region_exceptions.proofs.Faring.{goes_same, goes_live, goes_as, orderly_on, orderly_as, fares_on, fares_then, fares_seq, fares_pure, terminates_with_fares, raise_fares}
+use Rattle.region_exceptions.proofs.Faring.{goes_same, goes_live, goes_as, orderly_on, orderly_as, fares_on, fares_then, fares_seq, fares_pure, terminates_with_fares, raise_fares, terminate_fares}
 use Rattle.region_exceptions.proofs.FaringScopes.{contains_first}
 use Rattle.region_exceptions.proofs.FaringThrows.{throw_fares}
 use Rattle.region_exceptions.proofs.FaringHandlers.{entry_fares, while_handled_fares, entered_fares}
+use Rattle.cxx_ast.specs.Plain.{Specification, listed, noexcept}
+use Rattle.meaning_forms.specs.Statement.{after_try}
 
 module _ (r : Running) (fare : CallsFare r) where
   pub default_fares : (k : ℕ) (target : Reference) → AlwaysFares r.program (default_object r k target)
@@ -115,9 +116,27 @@ module _ (r : Running) (fare : CallsFare r) where
   extent_fares types n c w few order (stopped out_of_turns w2) h = tt
   extent_fares types n c w few order (stopped deep w2) h = tt
 
-  pub specified_fares : {A : Type 0} (listed : Option (List Ty)) (act : Context → Action A) → AlwaysFares r.program act → AlwaysFares r.program (under_specification r listed act)
+  -- the extent of what is `noexcept`
+  pub noexcept_fares : {A : Type 0} (n : ℕ) (c : Context) (w : World) → n ≤ w.last_number → IsOrderly c w → (x : Result A)
+      → Fares r.program n (guarded_by (try_block (catch_all ∷ [])) c) w x → Fares r.program n c w (after_try (end_noexcept r c) x)
+  noexcept_fares n c w few order (done u w2) h = goes_as c (try_block (catch_all ∷ []) ∷ c.guards) w w2 h
+  noexcept_fares {A} n c w few order (stopped (thrown e) w2) h =
+      let g = goes_as c (try_block (catch_all ∷ []) ∷ c.guards) w w2 h.0 in
+      fares_on r.program n c w w2 (end_noexcept {A = A} r c e w2) g
+      (fares_seq r.program n c w2 (enter r e c w2) (λ u. terminate {A = A} r (handling e c)) (entry_fares r fare n c w2 e (orderly_on c w w2 order g))
+      (λ u w3 k. terminate_fares A r r.program n (handling e c) c w3 w3))
+  noexcept_fares n c w few order (stopped (cancelled v) w2) h = goes_as c (try_block (catch_all ∷ []) ∷ c.guards) w w2 h
+  noexcept_fares n c w few order (stopped undefined w2) h = tt
+  noexcept_fares n c w few order (stopped (ended x) w2) h = tt
+  noexcept_fares n c w few order (stopped out_of_turns w2) h = tt
+  noexcept_fares n c w few order (stopped deep w2) h = tt
+
+  pub specified_fares : {A : Type 0} (s : Option Specification) (act : Context → Action A) → AlwaysFares r.program act → AlwaysFares r.program (under_specification r s act)
   specified_fares None act fares c n w few order = fares c n w few order
-  specified_fares (Some listed) act fares c n w few order =
-      let types = map object_type listed in
+  specified_fares (Some (listed names)) act fares c n w few order =
+      let types = map object_type names in
       extent_fares types n c w few order (act (guarded_by (specification types) c) w)
       (fares (guarded_by (specification types) c) n w few (orderly_as c w (specification types ∷ c.guards) c.ending order))
+  specified_fares (Some (noexcept place b)) act fares c n w few order =
+      noexcept_fares n c w few order (act (guarded_by (try_block (catch_all ∷ [])) c) w)
+      (fares (guarded_by (try_block (catch_all ∷ [])) c) n w few (orderly_as c w (try_block (catch_all ∷ []) ∷ c.guards) c.ending order))

@@ -46,5 +46,6 @@ pub mod ScopesDo
 pub mod Leading
 pub mod BadExceptions
 pub mod Specifications
+pub mod Ending
 pub mod Extents
 pub mod Keeping

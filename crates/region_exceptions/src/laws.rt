@@ -188,7 +188,7 @@ pub fn bad_exceptions_alike()
     caught_list_follows();
 }
 
-/// What is done under an exception specification does the same: an exception that it does not allow is entered, the unexpected handler kept with it is
+/// What is done under an exception specification that lists types does the same: an exception that it does not allow is entered, the unexpected handler kept with it is
 /// called, and what comes out of that is thrown on, or a bad_exception in its place, or terminate is called.
 pub fn extents_alike()
     ensures { ExtentsAlike }
@@ -196,7 +196,8 @@ pub fn extents_alike()
     caught_list_follows();
 }
 
-/// So the extent of a specification in a function does the same, over whatever is done in it.
+/// So the extent of each specification in a function does the same, over whatever is done in it. What comes out of one that is `noexcept` is entered, and
+/// terminate is called.
 pub fn extents_do_alike()
     ensures { ExtentsDoAlike }
 {

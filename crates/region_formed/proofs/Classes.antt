@@ -1,4 +1,4 @@
--- A class that is declared without breaking a rule is that of the program, and is known behind its declaration.
+-- A class that is declared without breaking a rule is that of the program, but for its specifications, and is known behind its declaration.
 use Rattle.std.proofs.Common.{◌≡◌, ◌∙◌, ◌+◌, ◌<◌, ◌==◌, ◌&&◌, ℕ, zero, suc, Bool, true, false, List, [], ◌∷◌, ◌++◌, map, length, Option, Some, None, option_map, bytes_eq, find, if◌then◌else◌, inl, inr, refl, sym, ap, subst, arith}
 use Rattle.std.specs.Prelude.{slice_get, flat_map, ◌⊎◌}
 use Rattle.std.proofs.lemmas.Slice.Eq.{bytes_eq-Decides}
@@ -10,7 +10,7 @@ use Rattle.cxx_ast.specs.declared.declaration.FuncKind.{FuncKind}
 use Rattle.cxx_ast.specs.declared.declaration.FuncKind.TheVariants.{Plain, Method, Constructor, Destructor}
 use Rattle.cxx_ast.specs.Rule.{redeclared, unknown_name, incomplete_class}
 use Rattle.cxx_ast.specs.Finding.{breaks_if}
-use Rattle.cxx_ast.specs.Plain.{Checked, Function, Class, class_declaration}
+use Rattle.cxx_ast.specs.Plain.{Checked, Specification, Function, Class, class_declaration}
 use Rattle.cxx_ast.specs.Environment.{Kind, int_kind, void_kind, truth_kind, class_kind, no_kind, same_kind, Signature, Field, Thing, class_thing, Entry, Environment, Scope, a_method}
 use Rattle.cxx_ast.specs.Lookup.{is_method, method_named, entry_of}
 use Rattle.cxx_ast.specs.TypeNames.{class_of_name, class_found, type_kind, type_found, specification_found, head_types_found}
@@ -23,6 +23,7 @@ use Rattle.cxx_ast.specs.ClassRules.{is_taken, base_found, type_place, field_fou
 use Rattle.cxx_ast.specs.Resolve.{resolve_function}
 use Rattle.cxx_ast.specs.Grammatical.{Each, IsMemberType, IsDataMember, IsResult, HasForm, IsFunction}
 use Rattle.cxx_ast.specs.Checked.{resolve_base, resolve_fields, resolve_methods, resolve_class_tree}
+use Rattle.cxx_ast.specs.Settled.{settle_function, settle_class}
 use Rattle.meaning_forms.specs.Class.{ObjectType, class_named, class_at}
 use Rattle.class_layout.proofs.Declared.{named_classes}
 use Rattle.region_formed.proofs.Fine.{Fine, fine_parts, fine_sound, not_broken}
@@ -149,8 +150,8 @@ constructor_named defined k text before more s f h = go (bytes_eq s.name.text te
     go true e q = e
     go false e q = absurd (cc (sym (kind s.form h) ∙ not_broken defined (has_class_name s.form) unknown_name s.name.place q))
 
-module _ (p : Checked) (defined special : List (List ℕ)) (env : Environment) (m : Meant p defined special env) (c : Class)
-    (is : class_at p (length env.classes) ≡ resolve_class_tree env c) (below : length env.classes < length p.classes)
+module _ (p : Checked) (defined special : List (List ℕ)) (env : Environment) (m : Meant p defined special env) (c : Class) (own : Option Specification)
+    (is : class_at p (length env.classes) ≡ settle_class own (resolve_class_tree env c)) (below : length env.classes < length p.classes)
     (named : has_text c.name.text special ≡ true) (w : Each IsDataMember c.members) (fs : Each IsFunction c.functions) (alone : ClassAlone special c)
     (fine : Fine defined (class_rules_found env c)) where
   found : Found defined env c
@@ -188,7 +189,7 @@ module _ (p : Checked) (defined special : List (List ℕ)) (env : Environment) (
 
   methods_are : (i : ℕ) (before : List Signature) (gs : List Function) → Each IsFunction gs → Fine defined (flat_map (method_found env c) gs) →
       Fine defined (specials_found (next_class env) c.name.text before (map (method_of env c) gs)) →
-      MethodsMeant (length p.classes) c.name.text (map (method_of env c) gs) (resolve_methods env c i gs)
+      MethodsMeant (length p.classes) c.name.text (map (method_of env c) gs) (map (settle_function own) (resolve_methods env c i gs))
   methods_are i before [] v f s = tt
   methods_are i before (x ∷ gs) v f s =
       let both = fine_parts defined (method_found env c x) (flat_map (method_found env c) gs) f in (

@@ -11,7 +11,8 @@ use Rattle.cxx_ast.specs.declared.types.Ty.TheVariants.{Int, Void, Object, IntRe
 use Rattle.cxx_ast.specs.declared.types.Param.{Param}
 use Rattle.cxx_ast.specs.declared.declaration.FuncKind.{FuncKind}
 use Rattle.cxx_ast.specs.declared.declaration.FuncKind.TheVariants.{Plain, Method, Constructor, Destructor}
-use Rattle.cxx_ast.specs.Plain.{Function, Class, Declaration, class_declaration, global_declaration, function_declaration, Checked}
+use Rattle.cxx_ast.specs.declared.standard.Std.{Std}
+use Rattle.cxx_ast.specs.Plain.{Specification, Function, Class, Declaration, class_declaration, global_declaration, function_declaration, Checked}
 use Rattle.cxx_ast.specs.Environment.{Signature, Thing, global_thing, class_thing, function_thing, Entry, Environment}
 use Rattle.cxx_ast.specs.Lookup.{entry_of}
 use Rattle.cxx_ast.specs.TypeNames.{has_body, signature}
@@ -24,6 +25,8 @@ use Rattle.cxx_ast.specs.Broken.{function_name_found, declaration_found, declara
 use Rattle.cxx_ast.specs.Grammatical.{Each, IsResult, HasForm, IsDataMember, IsMember, IsFunction, IsGrammatical}
 use Rattle.cxx_ast.specs.Written.{Member, data_member, function_member, Written, written_class, written_global, written_function, data_members, functions, declared, start_value}
 use Rattle.cxx_ast.specs.Checked.{IsChecked, resolve_methods, resolve_class_tree, resolve_declarations, classes_of, globals_of, functions_of}
+use Rattle.cxx_ast.specs.Settled.{Allowed, allowed_by, destructor_of, given, settle_class, settle_classes}
+use Rattle.cxx_ast.proofs.Settled.{OfTypes}
 use Rattle.meaning_forms.specs.Class.{no_class, class_at}
 use Rattle.region_forms.specs.Layout.{layout_of}
 use Rattle.region_forms.specs.LowerProgram.{declared_function, regions_of}
@@ -33,7 +36,7 @@ use Rattle.region_formed.proofs.Fine.{Fine, fine_parts}
 use Rattle.region_formed.proofs.Meant.{SignatureMeant, ThingMeant, Meant}
 use Rattle.region_formed.proofs.Slots.{behind}
 use Rattle.region_formed.proofs.Heads.{Names, NameAlone}
-use Rattle.region_formed.proofs.Functions.{OfClass, HasClass, declared_passes}
+use Rattle.region_formed.proofs.Functions.{OfClass, HasClass, HasRow, own_rows, declared_passes}
 use Rattle.region_formed.proofs.Classes.{ClassAlone, names_more, named_definitions, head_names, entry_last, behind_class, methods_found}
 use Rattle.region_formed.proofs.Definitions.{named, first_kept}
 use Rattle.region_formed.proofs.Classes.{with_entry}
@@ -105,13 +108,15 @@ function_keeps p special env s names = go (entry_of env s.name.text)
     }
     go (Some e) = old e.thing
 
--- each function of a class, and each class from the k-th on, passes
+-- each function of a class, and each class from the k-th on, passes, with its own specification or another whose types have rows
 module _ (p : Checked) where
   abbrev pub MethodPasses : ℕ → Function → Type 0
-  MethodPasses k f = body_passes (regions_of p (layout_of p)) (declared_function p (layout_of p) true false k f) ≡ true
+  MethodPasses k f = OfTypes (HasRow p) f.specification × ((s : Option Specification) → OfTypes (HasRow p) s →
+      body_passes (regions_of p (layout_of p)) (declared_function p (layout_of p) true false k (record f { specification = s })) ≡ true)
 
   abbrev pub FunctionPasses : Function → Type 0
-  FunctionPasses f = (is_main : Bool) → body_passes (regions_of p (layout_of p)) (declared_function p (layout_of p) false is_main 0 f) ≡ true
+  FunctionPasses f = OfTypes (HasRow p) f.specification × ((s : Option Specification) → OfTypes (HasRow p) s → (is_main : Bool) →
+      body_passes (regions_of p (layout_of p)) (declared_function p (layout_of p) false is_main 0 (record f { specification = s })) ≡ true)
 
   abbrev pub ClassesPass : ℕ → List Class → Type 0
   ClassesPass k [] = Unit {0}
@@ -119,33 +124,39 @@ module _ (p : Checked) where
 
 module _ (p : Checked) (checked : IsChecked p) (defined special : List (List ℕ)) where
   -- the functions of a class
-  methods_pass : (env : Environment) → Meant p defined special env → (c : Class) → class_at p (length env.classes) ≡ resolve_class_tree env c →
+  methods_pass : (env : Environment) → Meant p defined special env → (c : Class) (own : Option Specification) → class_at p (length env.classes) ≡ settle_class own (resolve_class_tree env c) →
       (below : length env.classes < length p.classes) (name : has_text c.name.text special ≡ true) → Each IsDataMember c.members → Each IsFunction c.functions → ClassAlone special c →
       Fine defined (class_rules_found env c) → (i : ℕ) (fs : List Function) → Each IsFunction fs →
       Each (λ (f : Function). Each (λ (x : Param). NameAlone special x.name) f.parameters) fs → Fine defined (flat_map (method_found env c) fs) →
       Each (MethodPasses p (length env.classes)) (resolve_methods env c i fs)
-  methods_pass env m c is below name w v alone fine i [] ws ns f = tt
-  methods_pass env m c is below name w v alone fine i (x ∷ fs) ws ns f =
+  methods_pass env m c own is below name w v alone fine i [] ws ns f = tt
+  methods_pass env m c own is below name w v alone fine i (x ∷ fs) ws ns f =
       let parts = fine_parts defined (method_found env c x) (flat_map (method_found env c) fs) f in
       let k = length env.classes in
-      let next = declare_behind env (class_declaration c) in (
-        declared_passes p checked defined special next (behind_class p defined special env m c is below name w v alone fine) (head_environment env c) (Some k) (Some x.name.place)
-            (head_names p defined special env m c is below name w v alone fine) (λ text e q. q) true false k (Some k) (λ j q. refl) (MethodBound k i) x ws.0 ns.0 parts.0
-            (class_for x.kind (OfClass p next true (Some k) k) (record {
-              is_member = refl;
-              below = below;
-              own = refl;
-              entry = class_entry env c;
-              is = entry_last p defined special env m c is below name w v alone fine;
-            })),
-        methods_pass env m c is below name w v alone fine (i + 1) fs ws.1 ns.1 parts.1,
-      )
+      let next = declare_behind env (class_declaration c) in
+      let here = behind_class p defined special env m c own is below name w v alone fine in
+      let names = head_names p defined special env m c own is below name w v alone fine in
+      let rows =
+      own_rows p checked defined special next here (head_environment env c) (Some k) (Some x.name.place) names (λ text e q. q) true false k (Some k) (λ j q. refl) (MethodBound k i) x
+      ws.0 ns.0 parts.0 None in
+      let passes = λ (s : Option Specification) (h : OfTypes (HasRow p) s).
+      declared_passes p checked defined special next here (head_environment env c) (Some k) (Some x.name.place) names (λ text e q. q) true false k (Some k) (λ j q. refl) (MethodBound k i) x
+      ws.0 ns.0 parts.0 s h
+      (class_for x.kind (OfClass p next true (Some k) k) (record {
+        is_member = refl;
+        below = below;
+        own = refl;
+        entry = class_entry env c;
+        is = entry_last p defined special env m c own is below name w v alone fine;
+      })) in
+      ((rows, passes), methods_pass env m c own is below name w v alone fine (i + 1) fs ws.1 ns.1 parts.1)
 
   -- what is left of a program
-  pub record Left (last : List Signature) (env : Environment) (ds : List Declaration) : Type 0 where
+  pub record Left (std : Std) (last : List Signature) (env : Environment) (ds : List Declaration) : Type 0 where
     pub meant : Meant p defined special env
     pub done : List Class
-    pub classes : p.classes ≡ done ++ classes_of (resolve_declarations env ds)
+    pub allowed : List Allowed
+    pub classes : p.classes ≡ done ++ settle_classes std allowed (classes_of (resolve_declarations env ds))
     pub count : length done ≡ length env.classes
     pub before : List ℤ
     pub globals : p.globals ≡ before ++ globals_of (resolve_declarations env ds)
@@ -169,18 +180,22 @@ module _ (p : Checked) (checked : IsChecked p) (defined special : List (List ℕ
         omega (arith, all, size, count),
       )
 
-  behind_a_class : (last : List Signature) (env : Environment) (c : Class) (ds : List Declaration) → Left last env (class_declaration c ∷ ds) →
-      Meant p defined special (declare_behind env (class_declaration c)) → Left last (declare_behind env (class_declaration c)) ds
-  behind_a_class last env c ds l m =
+  behind_a_class : (std : Std) (last : List Signature) (env : Environment) (c : Class) (ds : List Declaration) → Left std last env (class_declaration c ∷ ds) →
+      Meant p defined special (declare_behind env (class_declaration c)) → Left std last (declare_behind env (class_declaration c)) ds
+  behind_a_class std last env c ds l m =
+      let own = given std l.allowed (resolve_class_tree env c) in
+      let next = l.allowed ++ allowed_by (destructor_of own (resolve_class_tree env c).functions) ∷ [] in
       let known = named_classes env c.name.text (class_thing (next_class env)) in
       let size = ap length known in
       let more = length-append (with_name env c.name.text (class_thing (next_class env))).classes (class_entry env c ∷ []) in
-      let longer = length-append l.done (resolve_class_tree env c ∷ []) in
+      let longer = length-append l.done (settle_class own (resolve_class_tree env c) ∷ []) in
       let count = l.count in
       record {
         meant = m;
-        done = l.done ++ (resolve_class_tree env c ∷ []);
-        classes = l.classes ∙ sym (append_assoc l.done (resolve_class_tree env c ∷ []) (classes_of (resolve_declarations (declare_behind env (class_declaration c)) ds)));
+        done = l.done ++ (settle_class own (resolve_class_tree env c) ∷ []);
+        allowed = next;
+        classes = l.classes ∙ sym (append_assoc l.done (settle_class own (resolve_class_tree env c) ∷ [])
+            (settle_classes std next (classes_of (resolve_declarations (declare_behind env (class_declaration c)) ds))));
         count = omega (arith, size, more, longer, count);
         before = l.before;
         globals = l.globals;
@@ -193,9 +208,9 @@ module _ (p : Checked) (checked : IsChecked p) (defined special : List (List ℕ
       let all = length-append before (v ∷ rest) in
       let size = ap length e in omega (arith, all, size, count)
 
-  behind_a_global : (last : List Signature) → Known last → (env : Environment) (n : Name) (v : ℤ) (ds : List Declaration) → Left last env (global_declaration n v ∷ ds) →
-      Left last (declare_behind env (global_declaration n v)) ds
-  behind_a_global last known env n v ds l =
+  behind_a_global : (std : Std) (last : List Signature) → Known last → (env : Environment) (n : Name) (v : ℤ) (ds : List Declaration) → Left std last env (global_declaration n v ∷ ds) →
+      Left std last (declare_behind env (global_declaration n v)) ds
+  behind_a_global std last known env n v ds l =
       let t = global_thing env.globals in
       let below = global_below l.before (globals_of (resolve_declarations (declare_behind env (global_declaration n v)) ds)) v p.globals env.globals l.globals l.globals_count in
       let longer = length-append l.before (v ∷ []) in
@@ -210,6 +225,7 @@ module _ (p : Checked) (checked : IsChecked p) (defined special : List (List ℕ
           definitions = named_definitions env n.text t ∙ m.definitions;
         };
         done = l.done;
+        allowed = l.allowed;
         classes = l.classes;
         count = l.count ∙ sym (ap length (named_classes env n.text t));
         before = l.before ++ (v ∷ []);
@@ -218,9 +234,9 @@ module _ (p : Checked) (checked : IsChecked p) (defined special : List (List ℕ
         last_is = l.last_is;
       }
 
-  behind_a_function : (last : List Signature) → Known last → (env : Environment) (f : Function) (ds : List Declaration) → Left last env (function_declaration f ∷ ds) →
-      Left last (declare_behind env (function_declaration f)) ds
-  behind_a_function last known env f ds l =
+  behind_a_function : (std : Std) (last : List Signature) → Known last → (env : Environment) (f : Function) (ds : List Declaration) → Left std last env (function_declaration f ∷ ds) →
+      Left std last (declare_behind env (function_declaration f)) ds
+  behind_a_function std last known env f ds l =
       let kept = function_keeps p special env (signature env outermost f) l.meant.names in
       let m = l.meant in
       record {
@@ -232,6 +248,7 @@ module _ (p : Checked) (checked : IsChecked p) (defined special : List (List ℕ
           definitions = kept.definitions ∙ m.definitions;
         };
         done = l.done;
+        allowed = l.allowed;
         classes = l.classes;
         count = l.count ∙ sym (ap length kept.classes);
         before = l.before;
@@ -261,12 +278,15 @@ module _ (p : Checked) (checked : IsChecked p) (defined special : List (List ℕ
       ((text : List ℕ) (e : Entry) → entry_of env text ≡ Some e → entry_of (body_environment env f) text ≡ Some e) → IsFunction f → f.kind ≡ Plain →
       Each (λ (x : Param). NameAlone special x.name) f.parameters → Fine defined (function_found env outermost (body_environment env f) None f) →
       FunctionPasses p (resolve_function env outermost (body_environment env f) (function_scope env None f.result) (Func (function_number env f.name.text)) f)
-  own_passes env f names m kept w kind alone fine is_main =
-      subst (λ sc. body_passes (regions_of p (layout_of p)) (declared_function p (layout_of p) false is_main 0
-      (resolve_function env outermost (body_environment env f) sc (Func (function_number env f.name.text)) f)) ≡ true)
-      (result_scope env (body_environment env f) f.result (plain_form f kind w.form))
-      (declared_passes p checked defined special (body_environment env f) m env None None names kept false is_main 0 None (λ j q. absurd (cc q))
-      (Func (function_number env f.name.text)) f w alone fine (plain_class f.kind _ kind))
+  own_passes env f names m kept w kind alone fine =
+      subst (λ sc. FunctionPasses p (resolve_function env outermost (body_environment env f) sc (Func (function_number env f.name.text)) f))
+      (result_scope env (body_environment env f) f.result (plain_form f kind w.form)) (
+        own_rows p checked defined special (body_environment env f) m env None None names kept false false 0 None (λ j q. absurd (cc q))
+            (Func (function_number env f.name.text)) f w alone fine None,
+        λ s h is_main.
+            declared_passes p checked defined special (body_environment env f) m env None None names kept false is_main 0 None (λ j q. absurd (cc q))
+            (Func (function_number env f.name.text)) f w alone fine s h (plain_class f.kind _ kind),
+      )
 
   where_defined : (b : Bool) (f : Function) (fs : List Function) → FunctionPasses p f → Each (FunctionPasses p) fs → Each (FunctionPasses p) (if b then f ∷ fs else fs)
   where_defined true f fs h k = (h, k)
@@ -277,20 +297,24 @@ module _ (p : Checked) (checked : IsChecked p) (defined special : List (List ℕ
     pub functions : Each (FunctionPasses p) (functions_of ds)
     pub classes : ClassesPass p k (classes_of ds)
 
-  pub declarations_pass : (last : List Signature) → Known last → (ws : List Written) (env : Environment) → Left last env (map declared ws) → Each IsGrammatical ws →
+  pub declarations_pass : (std : Std) (last : List Signature) → Known last → (ws : List Written) (env : Environment) → Left std last env (map declared ws) → Each IsGrammatical ws →
       Each (DeclarationAlone special) (map declared ws) → Fine defined (declarations_found env (map declared ws)) →
       AllPass (length env.classes) (resolve_declarations env (map declared ws))
-  declarations_pass last known [] env l w a f = record { functions = tt; classes = tt }
-  declarations_pass last known (written_class x is_public base ms ∷ ws) env l w a f =
+  declarations_pass std last known [] env l w a f = record { functions = tt; classes = tt }
+  declarations_pass std last known (written_class x is_public base ms ∷ ws) env l w a f =
       let c : Class = record { name = x; base = base; members = data_members ms; functions = functions ms } in
       let d = class_declaration c in
       let parts = fine_parts defined (declaration_found env d) (declarations_found (declare_behind env d) (map declared ws)) f in
-      let placed = class_placed l.done (classes_of (resolve_declarations (declare_behind env d) (map declared ws))) (resolve_class_tree env c) p.classes (length env.classes) l.classes l.count in
+      let own = given std l.allowed (resolve_class_tree env c) in
+      let placed =
+      class_placed l.done
+      (settle_classes std (l.allowed ++ allowed_by (destructor_of own (resolve_class_tree env c).functions) ∷ []) (classes_of (resolve_declarations (declare_behind env d) (map declared ws))))
+      (settle_class own (resolve_class_tree env c)) p.classes (length env.classes) l.classes l.count in
       let v = data_are ms w.0 in
       let u = functions_are ms w.0 in
       let alone = a.0.0 in
-      let next = behind_a_class last env c (map declared ws) l (behind_class p defined special env l.meant c placed.0 placed.1 a.0.1 v u alone parts.0) in
-      let rest = declarations_pass last known ws (declare_behind env d) next w.1 a.1 parts.1 in
+      let next = behind_a_class std last env c (map declared ws) l (behind_class p defined special env l.meant c own placed.0 placed.1 a.0.1 v u alone parts.0) in
+      let rest = declarations_pass std last known ws (declare_behind env d) next w.1 a.1 parts.1 in
       let known_classes = named_classes env x.text (class_thing (next_class env)) in
       let size = ap length known_classes in
       let more = length-append (with_name env x.text (class_thing (next_class env))).classes (class_entry env c ∷ []) in
@@ -298,25 +322,25 @@ module _ (p : Checked) (checked : IsChecked p) (defined special : List (List ℕ
       record {
         functions = rest.functions;
         classes = (
-          methods_pass env l.meant c placed.0 placed.1 a.0.1 v u alone parts.0 0 (functions ms) u alone.parameters (methods_found defined env c parts.0),
+          methods_pass env l.meant c own placed.0 placed.1 a.0.1 v u alone parts.0 0 (functions ms) u alone.parameters (methods_found defined env c parts.0),
           subst (λ k. ClassesPass p k (classes_of (resolve_declarations (declare_behind env d) (map declared ws)))) count rest.classes,
         );
       }
-  declarations_pass last known (written_global x v ∷ ws) env l w a f =
+  declarations_pass std last known (written_global x v ∷ ws) env l w a f =
       let d = global_declaration x (start_value v) in
       let parts = fine_parts defined (declaration_found env d) (declarations_found (declare_behind env d) (map declared ws)) f in
-      let rest = declarations_pass last known ws (declare_behind env d) (behind_a_global last known env x (start_value v) (map declared ws) l) w.1 a.1 parts.1 in
+      let rest = declarations_pass std last known ws (declare_behind env d) (behind_a_global std last known env x (start_value v) (map declared ws) l) w.1 a.1 parts.1 in
       let size = ap length (named_classes env x.text (global_thing env.globals)) in
       record {
         functions = rest.functions;
         classes = subst (λ k. ClassesPass p k (classes_of (resolve_declarations (declare_behind env d) (map declared ws)))) size rest.classes;
       }
-  declarations_pass last known (written_function x ∷ ws) env l w a f =
+  declarations_pass std last known (written_function x ∷ ws) env l w a f =
       let d = function_declaration x in
       let parts = fine_parts defined (declaration_found env d) (declarations_found (declare_behind env d) (map declared ws)) f in
-      let next = behind_a_function last known env x (map declared ws) l in
+      let next = behind_a_function std last known env x (map declared ws) l in
       let kept = function_keeps p special env (signature env outermost x) l.meant.names in
-      let rest = declarations_pass last known ws (declare_behind env d) next w.1 a.1 parts.1 in
+      let rest = declarations_pass std last known ws (declare_behind env d) next w.1 a.1 parts.1 in
       let body = body_environment env x in
       let sc = function_scope env None x.result in
       let own = (fine_parts defined (function_name_found env (signature env outermost x) (entry_of env x.name.text)) (function_found env outermost body None x) parts.0).1 in

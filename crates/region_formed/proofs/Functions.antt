@@ -12,7 +12,7 @@ use Rattle.cxx_ast.specs.declared.types.Param.{Param}
 use Rattle.cxx_ast.specs.declared.declaration.FuncKind.{FuncKind}
 use Rattle.cxx_ast.specs.declared.declaration.FuncKind.TheVariants.{Plain, Method, Constructor, Destructor}
 use Rattle.cxx_ast.specs.Finding.{Finding}
-use Rattle.cxx_ast.specs.Plain.{Checked, Function, Statements}
+use Rattle.cxx_ast.specs.Plain.{Checked, Specification, listed, noexcept, Function, Statements}
 use Rattle.cxx_ast.specs.Environment.{ClassEntry, Entry, Environment, Scope}
 use Rattle.cxx_ast.specs.Lookup.{entry_of}
 use Rattle.cxx_ast.specs.TypeNames.{type_kind, type_found, specification_found, head_types_found}
@@ -21,26 +21,29 @@ use Rattle.cxx_ast.specs.FunctionRules.{params_twice, initialised, initialisers_
 use Rattle.cxx_ast.specs.StatementRules.{statements_found}
 use Rattle.cxx_ast.specs.Declare.{function_scope}
 use Rattle.cxx_ast.specs.Resolve.{resolve_type, resolve_params, resolve_body, resolve_specification, resolve_function}
-use Rattle.cxx_ast.specs.Grammatical.{Each, Where, There, HasForm, IsListedType, IsFunction, AreStatements}
+use Rattle.cxx_ast.specs.Grammatical.{Each, Where, There, HasForm, IsListedType, IsSpecification, IsFunction, AreStatements}
 use Rattle.cxx_ast.specs.Checked.{IsChecked}
+use Rattle.cxx_ast.proofs.Settled.{OfTypes}
 use Rattle.meaning_forms.specs.Class.{object_type, parts_of}
 use Rattle.meaning_forms.specs.Call.{initialiser_for, statements_in}
 use Rattle.meaning_forms.specs.Expression.{types_of}
-use Rattle.region_forms.specs.Form.{Region}
+use Rattle.region_forms.specs.Form.{Region, in_order}
 use Rattle.region_forms.specs.Layout.{layout_of}
 use Rattle.region_forms.specs.Numbering.{type_number, type_rows, declared_in_body, variables_of}
 use Rattle.region_forms.specs.LowerExpression.{result_slot}
 use Rattle.region_forms.specs.LowerStatement.{statements}
-use Rattle.region_forms.specs.LowerProgram.{last_result, limited, initial_part, body_of, declared_function, regions_of}
+use Rattle.region_forms.specs.LowerProgram.{last_result, ending, limited, initial_part, body_of, declared_function, regions_of}
+use Rattle.region_forms.specs.Mentioned.{slots_of, slots_of_clauses}
 use Rattle.region_forms.specs.WellFormed.{every}
 use Rattle.region_ir.specs.Implicit.{body_passes}
+use Rattle.region_ir.specs.Leaves.{clause_leaves_test}
 use Rattle.region_ir.proofs.ImplicitLeaves.{parts_there, parts_within}
 use Rattle.region_formed.proofs.Fine.{Fine, fine_parts}
-use Rattle.region_formed.proofs.Meant.{IsHeld, Meant, Given, lowering_in, Reach}
+use Rattle.region_formed.proofs.Meant.{IsHeld, Meant, Given, lowering_in, slots_in, regions_in, Reach}
 use Rattle.region_formed.proofs.Slots.{result_at, int_in}
 use Rattle.region_formed.proofs.Types.{From, from_front, from_back}
-use Rattle.region_formed.proofs.Passing.{Pass, OnePasses, one_then, one_pass, none_pass, in_order_passes, put_passes, number_passes}
-use Rattle.region_formed.proofs.Throws.{type_there, typed_before}
+use Rattle.region_formed.proofs.Passing.{Pass, OnePasses, of_max, one_then, one_pass, none_pass, in_order_passes, put_passes, number_passes}
+use Rattle.region_formed.proofs.Throws.{type_there, help_there, typed_before}
 use Rattle.region_formed.proofs.Statements.{Rest}
 use Rattle.region_formed.proofs.Blocks.{statements_pass}
 use Rattle.region_formed.proofs.Initialisers.{built_passes, destroyed_passes, initial_passes}
@@ -90,6 +93,16 @@ HasClass Method A = Unit {0}
 HasClass Constructor A = A
 HasClass Destructor A = A
 
+-- a type has a row
+abbrev pub HasRow : Checked → Ty → Type 0
+HasRow p t = nat_lt (type_number (object_type t)) (length (type_rows p)) ≡ true
+
+-- so have those of a list
+rows_there : (p : Checked) (types : List Ty) → Each (HasRow p) types →
+    every (λ t. nat_lt t (length (type_rows p))) (map (λ t. type_number (object_type t)) types) ≡ true
+rows_there p [] h = refl
+rows_there p (t ∷ types) h = both_true h.0 (rows_there p types h.1)
+
 -- a listed type
 listed_held : (t : Ty) → IsListedType t → IsHeld t
 listed_held Int h = tt
@@ -103,13 +116,13 @@ module _ (p : Checked) (checked : IsChecked p) (defined special : List (List ℕ
     (kept : (text : List ℕ) (e : Entry) → entry_of head text ≡ Some e → entry_of env text ≡ Some e)
     (member is_main : Bool) (k : ℕ) (inside : Option ℕ) (own : (j : ℕ) → inside ≡ Some j → member ≡ true) (b : Bound) (f : Function) (w : IsFunction f)
     (alone : Each (λ (x : Param). NameAlone special x.name) f.parameters)
-    (fine : Fine defined (function_found head (heading hown hlimit 0) env inside f)) where
-  -- the scope of the body, and the function with its names bound
+    (fine : Fine defined (function_found head (heading hown hlimit 0) env inside f)) (s : Option Specification) where
+  -- the scope of the body, and the function with its names bound, and with a specification that counts
   abbrev pub sc : Scope
   sc = declare_params env f.parameters (function_scope env inside f.result)
 
   abbrev pub bound : Function
-  bound = resolve_function head (heading hown hlimit 0) env (function_scope env inside f.result) b f
+  bound = record (resolve_function head (heading hown hlimit 0) env (function_scope env inside f.result) b f) { specification = s }
 
   abbrev pub g : Given
   g = record {
@@ -202,26 +215,43 @@ module _ (p : Checked) (checked : IsChecked p) (defined special : List (List ℕ
       destroyed_passes g c.is_member k 0 (parts_of p k) (statements (lowering_in g) (statements_in bound.body) 0 (length bound.parameters)) d
       (parts_there p checked k c.below) (parts_within p checked k c.below) rest
 
-  -- the types of a specification
-  listed : (types : List Ty) → Each IsListedType types → Fine defined (flat_map (type_found head (heading hown hlimit 0)) types) →
-      every (λ t. nat_lt t (length (type_rows p))) (map (λ t. type_number (object_type t)) (map (resolve_type head (heading hown hlimit 0)) types)) ≡ true
-  listed [] v h = refl
-  listed (t ∷ types) v h =
+  -- the types that its own specification lists have rows
+  listed_rows : (types : List Ty) → Each IsListedType types → Fine defined (flat_map (type_found head (heading hown hlimit 0)) types) →
+      Each (HasRow p) (map (resolve_type head (heading hown hlimit 0)) types)
+  listed_rows [] v h = tt
+  listed_rows (t ∷ types) v h =
       let both = fine_parts defined (type_found head (heading hown hlimit 0) t) (flat_map (type_found head (heading hown hlimit 0)) types) h in
-      let typed = head_typed p meant.some defined special head names hown hlimit 0 t (listed_held t v.0) both.0 in
-      both_true (type_there p (object_type (resolve_type head (heading hown hlimit 0) t)) (typed_before g sc reach (type_kind head (heading hown hlimit 0) t) _ typed)) (listed types v.1 both.1)
+      let typed = head_typed p meant.some defined special head names hown hlimit 0 t (listed_held t v.0) both.0 in (
+        type_there p (object_type (resolve_type head (heading hown hlimit 0) t)) (typed_before g sc reach (type_kind head (heading hown hlimit 0) t) _ typed),
+        listed_rows types v.1 both.1,
+      )
 
-  limited_passes : (types : Option (List Ty)) → Where (Each IsListedType) types → Fine defined (specification_found head (heading hown hlimit 0) types) →
-      (act : ℕ → List Region) → Rest g act → OnePasses g (limited (resolve_specification head (heading hown hlimit 0) types) act 1)
-  limited_passes None v h act r = in_order_passes (r (1 + 1))
-  limited_passes (Some types) v h act r = record { holds = λ few. both_true (listed types v h) ((r (1 + 2)).holds few) }
+  specification_rows : (o : Option Specification) → Where IsSpecification o → Fine defined (specification_found head (heading hown hlimit 0) o) →
+      OfTypes (HasRow p) (resolve_specification head (heading hown hlimit 0) o)
+  specification_rows None v h = tt
+  specification_rows (Some (listed types)) v h = listed_rows types v h
+  specification_rows (Some (noexcept place b)) v h = tt
+
+  pub own_rows : OfTypes (HasRow p) (resolve_specification head (heading hown hlimit 0) f.specification)
+  own_rows = specification_rows f.specification w.specification heads.1
+
+  -- the clause of what is `noexcept`
+  ending_passes : clause_leaves_test (regions_in g) (slots_in g) (ending (lowering_in g)) ≡ true
+  ending_passes = both_true (help_there g) (both_true (both_true (help_there g) refl) refl)
+
+  limited_passes : (o : Option Specification) → OfTypes (HasRow p) o → (act : ℕ → List Region) → Rest g act → OnePasses g (limited (lowering_in g) o act 1)
+  limited_passes None h act r = in_order_passes (r (1 + 1))
+  limited_passes (Some (listed types)) h act r = record { holds = λ few. both_true (rows_there p types h) ((r (1 + 2)).holds few) }
+  limited_passes (Some (noexcept place c)) h act r = record {
+    holds = λ few. both_true ((r (1 + 2)).holds (of_max (slots_of (in_order (act (1 + 2)))) (slots_of_clauses (ending (lowering_in g))) (slots_of g.body) few).0) ending_passes;
+  }
 
   last_passes : (main : Bool) → Pass g (last_result (lowering_in g) main)
   last_passes false = none_pass
   last_passes true = one_pass (put_passes (λ few. int_in g (result_slot (lowering_in g)) (result_at g)) (number_passes (pos 0)))
 
   -- the whole
-  pub declared_passes : HasClass f.kind (OfClass p env member inside k) → body_passes (regions_of p (layout_of p)) (declared_function p (layout_of p) member is_main k bound) ≡ true
-  declared_passes c =
-      (one_then (limited_passes f.specification w.specification heads.1 (body_of (lowering_in g) f.kind k bound) (body_by f.kind refl w.form c)) (last_passes is_main)).holds
+  pub declared_passes : OfTypes (HasRow p) s → HasClass f.kind (OfClass p env member inside k) → body_passes (regions_of p (layout_of p)) (declared_function p (layout_of p) member is_main k bound) ≡ true
+  declared_passes rows c =
+      (one_then (limited_passes s rows (body_of (lowering_in g) f.kind k bound) (body_by f.kind refl w.form c)) (last_passes is_main)).holds
       (omega arith)

@@ -1,9 +1,10 @@
 -- A program declares no more classes, functions and globals than it has tokens.
-use Rattle.std.proofs.Common.{◌≡◌, ◌∙◌, ◌+◌, ◌*◌, ◌≤◌, ℕ, suc, Bool, true, false, List, [], ◌∷◌, map, length, None, if◌then◌else◌, refl, sym, ap, subst, arith}
+use Rattle.std.proofs.Common.{◌≡◌, ◌∙◌, ◌+◌, ◌*◌, ◌≤◌, ℕ, suc, Bool, true, false, List, [], ◌∷◌, ◌++◌, map, length, None, if◌then◌else◌, refl, sym, ap, subst, arith}
 use Rattle.std.specs.Prelude.{slice_get, unwrap_or}
 use Rattle.std.proofs.lemmas.List.{length-map, length-append}
 use Rattle.cxx_ast.specs.declared.token.Token.{Token}
 use Rattle.cxx_ast.specs.declared.mark.Mark.TheVariants as sign
+use Rattle.cxx_ast.specs.declared.standard.Std.{Std}
 use Rattle.cxx_ast.specs.Plain.{Function, Class, Program, Checked}
 use Rattle.cxx_ast.specs.Environment.{Environment}
 use Rattle.cxx_ast.specs.TypeNames.{has_body}
@@ -12,8 +13,9 @@ use Rattle.cxx_ast.specs.Locals.{outermost}
 use Rattle.cxx_ast.specs.Resolve.{function_number, resolve_function}
 use Rattle.cxx_ast.specs.Declare.{at_the_start, declare_behind, body_environment, function_scope}
 use Rattle.cxx_ast.specs.Piece.{Piece, anywhere, placed, named, mark, Fit}
-use Rattle.cxx_ast.specs.Written.{Member, data_member, function_member, Written, written_class, written_global, written_function, data_members, functions, declared, spell_params, spell_specification, spell_initialisers, spell_body, spell_function, spell_members, spell_declarations}
-use Rattle.cxx_ast.specs.Checked.{resolve_methods, resolve_declarations, classes_of, globals_of, functions_of, checked}
+use Rattle.cxx_ast.specs.Written.{Member, data_member, function_member, Written, written_class, written_global, written_function, data_members, functions, declared, spell_params, spell_specification, spell_initialisers, spell_body, in_full, spell_function, spell_members, spell_declarations}
+use Rattle.cxx_ast.specs.Checked.{bad_exception, resolve_methods, resolve_declarations, classes_of, globals_of, functions_of, checked}
+use Rattle.cxx_ast.specs.Settled.{Allowed, allowed_by, destructor_of, given, settle_function, settle_classes}
 use Rattle.meaning_forms.specs.Class.{class_at, no_class}
 use Rattle.region_forms.specs.Layout.{Layout}
 use Rattle.region_forms.specs.LowerProgram.{implicit_default_function, implicit_copy_function, implicit_destructor_function, declared_function, own_functions, functions_of_class, functions_of_classes, regions_of}
@@ -50,10 +52,10 @@ module _ (total : ℕ) where
       let r = counts total in
       let body = spell_body f.body after in
       let inits = spell_initialisers f.initialisers body in
-      let tail = spell_specification f.specification inits in
+      let tail = spell_specification (in_full f) f.specification inits in
       let inner = mark sign.OpenParen ∷ spell_params f.parameters (mark sign.CloseParen ∷ tail) in
       let here = (after_result r f.kind f.result (named f.name ∷ inner) n h).1 in
-      after_body r f.body after (n + 1) (after_initialisers r f.initialisers body (n + 1) (after_specification r f.specification inits (n + 1)
+      after_body r f.body after (n + 1) (after_initialisers r f.initialisers body (n + 1) (after_specification r (in_full f) f.specification inits (n + 1)
       (after_params r f.parameters (mark sign.CloseParen ∷ tail) (n + 1) here)))
 
   members_counted : (ms : List Member) (after : List Piece) (n m : ℕ) → m ≡ n + length (functions ms) → Counted n (spell_members ms after) → Counted m after
@@ -113,6 +115,14 @@ weighed env (written_function f ∷ ws) =
     let one = one_more (has_body bound.body) bound (functions_of (resolve_declarations (declare_behind env (declared (written_function f))) (map declared ws))) in
     omega (arith, rest, one)
 
+-- and with the specifications that count
+weight_settled : (std : Std) (before : List Allowed) (cs : List Class) → weight (settle_classes std before cs) ≡ weight cs
+weight_settled std before [] = refl
+weight_settled std before (c ∷ cs) =
+    let own = given std before c in
+    let mapped = length-map c.functions (settle_function own) in
+    let rest = weight_settled std (before ++ allowed_by (destructor_of own c.functions) ∷ []) cs in omega (arith, mapped, rest)
+
 -- the functions of regions
 own_count : (p : Checked) (l : Layout) (n : ℕ) (fs : List Function) → length (own_functions p l n fs) ≡ length fs
 own_count p l n [] = refl
@@ -139,10 +149,10 @@ classes_weight : (cs : List Class) → length cs ≤ weight cs
 classes_weight [] = omega arith
 classes_weight (c ∷ cs) = let rest = classes_weight cs in omega (arith, rest)
 
-program_counts : (p : Program) (ws : List Written) (l : Layout) (n : ℕ) → map declared ws ≡ p.declarations → size_of ws ≤ n → CountsFit (regions_of (checked p) l) n
+program_counts : (std : Std) (p : Program) (ws : List Written) (l : Layout) (n : ℕ) → map declared ws ≡ p.declarations → size_of ws ≤ n → CountsFit (regions_of (checked std p) l) n
 unfolding checked
-program_counts p ws l n e few =
-    let q = checked p in
+program_counts std p ws l n e few =
+    let q = checked std p in
     let env = at_the_start p.declarations in
     let all = subst (λ ds. length (functions_of (resolve_declarations env ds)) + weight (classes_of (resolve_declarations env ds)) + length (globals_of (resolve_declarations env ds)) ≤ size_of ws) e
     (weighed env ws) in
@@ -150,10 +160,13 @@ program_counts p ws l n e few =
     let others = classes_count q l 0 q.classes (λ j. let none : 0 + j ≡ j = omega arith in ap (class_at q) none) in
     let whole = length-append (own_functions q l 0 q.functions) (functions_of_classes q l 0 (length q.classes)) in
     let rows = rows_counted q.classes in
-    let classes = classes_weight (classes_of (resolve_declarations env p.declarations)) in
+    let ds = resolve_declarations env p.declarations in
+    let classes = classes_weight q.classes in
+    let settled = weight_settled std [] (bad_exception ∷ classes_of ds) in
+    let functions = length-map (functions_of ds) (settle_function None) in
     record {
-      functions = omega (arith, few, all, own, others, whole);
-      types = omega (arith, few, all, rows, classes);
+      functions = omega (arith, few, all, own, others, whole, settled, functions);
+      types = omega (arith, few, all, rows, classes, settled);
       globals = omega (arith, few, all);
     }
 
@@ -162,4 +175,4 @@ counts_fit p l c =
     let tokens = counted_tokens (length c.tokens) 0 c.tokens (spell_declarations c.tree.written []) c.tree.spelled (omega arith) in
     let few = program_counted (length c.tokens) c.tree.written 0 tokens in
     subst (λ q. CountsFit (regions_of q l) (length c.tokens)) (sym c.resolved)
-    (program_counts c.program c.tree.written l (length c.tokens) c.tree.declarations (omega (arith, few)))
+    (program_counts c.std c.program c.tree.written l (length c.tokens) c.tree.declarations (omega (arith, few)))

@@ -9,7 +9,7 @@ use Rattle.cxx_ast.specs.declared.types.Param.{Param}
 use Rattle.cxx_ast.specs.declared.token.TokenKind.TheVariants as kind
 use Rattle.cxx_ast.specs.declared.keyword.Keyword.TheVariants as keyword
 use Rattle.cxx_ast.specs.declared.mark.Mark.TheVariants as sign
-use Rattle.cxx_ast.specs.Plain.{Expression, number, path, paren, unary, binary, call, std_call, Expressions, no_expressions, expression_then, Statement, block, empty, if_else, while, return, break, continue, throw, try, assign, evaluate, local_int, local_ref, local_object, Else, no_else, else_do, Statements, no_statements, statement_then, Handlers, no_handlers, handler_then, Initialiser}
+use Rattle.cxx_ast.specs.Plain.{Specification, listed, noexcept, Expression, number, path, paren, unary, binary, call, std_call, Expressions, no_expressions, expression_then, Statement, block, empty, if_else, while, return, break, continue, throw, try, assign, evaluate, local_int, local_ref, local_object, Else, no_else, else_do, Statements, no_statements, statement_then, Handlers, no_handlers, handler_then, Initialiser}
 use Rattle.cxx_ast.specs.Piece.{Piece, anywhere, placed, named, word, mark, word_at}
 use Rattle.cxx_ast.specs.Spelling.{is_bad_exception, spell_class, spell_const, spell_type, spell_name, spell_param, first_at, spell_dots, spell_path, spell_expression, spell_arguments, spell_more, spell_value, spell_start, spell_object_arguments, spell_caught, spell_statement, spell_else, spell_statements, spell_handlers}
 use Rattle.cxx_ast.specs.Operator.{binary_mark}
@@ -164,9 +164,12 @@ module _ (r : Rule) where
   after_types [] after n h = h
   after_types (t ∷ ts) after n h = after_more_types ts after n (after_type t (spell_more_types ts after) n h)
 
-  pub after_specification : (s : Option (List Ty)) (after : List Piece) (n : ℕ) → Above r n (spell_specification s after) → Above r n after
-  after_specification None after n h = h
-  after_specification (Some ts) after n h = after_types ts (mark sign.CloseParen ∷ after) n h
+  pub after_specification : (full : Bool) (s : Option Specification) (after : List Piece) (n : ℕ) → Above r n (spell_specification full s after) → Above r n after
+  after_specification full None after n h = h
+  after_specification full (Some (noexcept place false)) after n h = h
+  after_specification true (Some (noexcept place true)) after n h = h
+  after_specification false (Some (noexcept place true)) after n h = h
+  after_specification full (Some (listed ts)) after n h = after_types ts (mark sign.CloseParen ∷ after) n h
 
   after_initialiser : (i : Initialiser) (after : List Piece) (n : ℕ) → Above r n (spell_initialiser i after) → Above r n after
   after_initialiser i after n h =

@@ -8,6 +8,7 @@ use Rattle.cxx_ast.specs.declared.declaration.FuncKind.{FuncKind}
 use Rattle.cxx_ast.specs.declared.declaration.FuncKind.TheVariants.{Plain, Method, Constructor, Destructor}
 use Rattle.cxx_ast.specs.Rule.{redeclared, no_main}
 use Rattle.cxx_ast.specs.Finding.{breaks_if}
+use Rattle.cxx_ast.specs.declared.standard.Std.{Std}
 use Rattle.cxx_ast.specs.Plain.{Function, Class, Program, class_declaration}
 use Rattle.cxx_ast.specs.Environment.{Environment}
 use Rattle.cxx_ast.specs.Lookup.{is_method}
@@ -18,6 +19,7 @@ use Rattle.cxx_ast.specs.DeclaredNames.{some_name, param_names, class_names, onc
 use Rattle.cxx_ast.specs.Broken.{Valid, broken, declaration_found, declarations_found, has_main}
 use Rattle.cxx_ast.specs.Grammatical.{Each}
 use Rattle.cxx_ast.specs.Written.{Written, written_class, written_global, written_function, data_members, functions, declared}
+use Rattle.cxx_ast.specs.Standards.{standard_found}
 use Rattle.cxx_ast.specs.Checked.{checked}
 use Rattle.region_formed.specs.WellFormed.{CheckedRegionsAreWellFormed, SourceRegionsAreWellFormed}
 use Rattle.region_formed.proofs.Fine.{Fine, fine_parts, not_broken, nothing_refused}
@@ -176,15 +178,17 @@ declarations_alone defined special (written_function g ∷ ws) env f s m n =
     )
 
 -- a valid program breaks no rule in its declarations, and declares what is declared once only once
-valid_parts : (p : Program) → Valid p →
+valid_parts : (std : Std) (p : Program) → Valid std p →
     (Fine (definitions p.declarations) (declarations_found (at_the_start p.declarations) p.declarations)) × (Fine (definitions p.declarations) (once_only_found p.declarations))
 unfolding broken
-valid_parts p valid =
+valid_parts std p valid =
     let defined = definitions p.declarations in
     let walked = declarations_found (at_the_start p.declarations) p.declarations in
     let once = once_only_found p.declarations in
     let main = breaks_if (not (has_main p.declarations)) no_main p.length in
-    fine_parts defined walked once (fine_parts defined (walked ++ once) main (nothing_refused defined (walked ++ once ++ main) valid)).0
+    let own = standard_found std p.declarations in
+    let all = fine_parts defined (walked ++ once ++ main) own (nothing_refused defined (walked ++ once ++ main ++ own) valid) in
+    fine_parts defined walked once (fine_parts defined (walked ++ once) main all.0).0
 
 -- the program of a source
 pub source_well_formed : CheckedRegionsAreWellFormed
@@ -194,7 +198,7 @@ source_well_formed p c =
     let ws = c.tree.written in
     let back = sym c.tree.declarations in
     let passed = program_passed ws 0 c.tree.grammatical (source_above c.source c.tokens _ c.lexed c.tree.spelled) in
-    let fine = valid_parts c.program c.valid in
+    let fine = valid_parts c.std c.program c.valid in
     let walked = subst (λ xs. Fine defined (declarations_found (at_the_start ds) xs)) back fine.0 in
     let once = subst (λ xs. Fine defined (once_only_found xs)) back fine.1 in
     let apart = strangers defined ws c.tree.grammatical passed once in
@@ -204,6 +208,6 @@ source_well_formed p c =
 
 -- and of a valid source
 pub valid_well_formed : SourceRegionsAreWellFormed
-valid_well_formed source tokens p lexed tree valid =
-    source_well_formed (checked p)
-    (record { source = source; tokens = tokens; program = p; lexed = lexed; tree = tree; valid = valid; resolved = refl })
+valid_well_formed source tokens std p lexed tree valid =
+    source_well_formed (checked std p)
+    (record { std = std; source = source; tokens = tokens; program = p; lexed = lexed; tree = tree; valid = valid; resolved = refl })

@@ -10,7 +10,7 @@ use Rattle.cxx_ast.specs.Spelling.{spell_name, spell_param}
 use Rattle.cxx_ast.specs.Declare.{name_of}
 use Rattle.cxx_ast.specs.DeclaredNames.{some_name, param_names}
 use Rattle.cxx_ast.specs.Grammatical.{Each, There, IsMember, IsGrammatical}
-use Rattle.cxx_ast.specs.Written.{Member, data_member, function_member, Written, written_class, written_global, written_function, data_members, functions, spell_more_params, spell_params, spell_specification, spell_initialisers, spell_body, spell_function, spell_members, spell_base, spell_start_value, spell_declaration, spell_declarations}
+use Rattle.cxx_ast.specs.Written.{Member, data_member, function_member, Written, written_class, written_global, written_function, data_members, functions, spell_more_params, spell_params, spell_specification, spell_initialisers, spell_body, in_full, spell_function, spell_members, spell_base, spell_start_value, spell_declaration, spell_declarations}
 use Rattle.region_formed.proofs.Pieces.{Above, after_name, after_type, after_specification, after_initialisers, after_body, after_result, after_tilde, after_base, after_start_value}
 use Rattle.region_formed.proofs.Places.{places, IsOneWord}
 
@@ -82,7 +82,7 @@ own_names f = f.name ∷ param_names f.parameters
 function_passed : (f : Function) (after : List Piece) (n : ℕ) → Above places n (spell_function f after) → Passed n (own_names f) after
 function_passed f after n h =
     let body = spell_body f.body after in
-    let tail = spell_specification f.specification (spell_initialisers f.initialisers body) in
+    let tail = spell_specification (in_full f) f.specification (spell_initialisers f.initialisers body) in
     let inner = mark sign.OpenParen ∷ spell_params f.parameters (mark sign.CloseParen ∷ tail) in
     then_names n (f.name ∷ []) (param_names f.parameters) inner after (one_name n f.name inner (after_result places f.kind f.result (named f.name ∷ inner) n h))
     (λ m q.
@@ -91,7 +91,7 @@ function_passed f after n h =
       bound = ps.bound;
       le = ps.le;
       between = ps.between;
-      rest = after_body places f.body after ps.bound (after_initialisers places f.initialisers body ps.bound (after_specification places f.specification (spell_initialisers f.initialisers body) ps.bound ps.rest));
+      rest = after_body places f.body after ps.bound (after_initialisers places f.initialisers body ps.bound (after_specification places (in_full f) f.specification (spell_initialisers f.initialisers body) ps.bound ps.rest));
     })
 
 -- no name of the one list stands where one of the other does

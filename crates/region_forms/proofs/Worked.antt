@@ -1,12 +1,12 @@
 -- Worked programs: their regions mean what they mean, by computation.
-use Rattle.std.specs.Prelude.{◌≡◌, refl, pos, ℕ, true, false, List, [], ◌∷◌, Some, None}
+use Rattle.std.specs.Prelude.{◌≡◌, refl, pos, ℕ, true, false, List, [], ◌∷◌, Option, Some, None}
 use Rattle.cxx_ast.specs.declared.name.Bound.{Bound}
 use Rattle.cxx_ast.specs.declared.name.Bound.TheVariants.{Local, Field, Class, Func, Builtin}
 use Rattle.cxx_ast.specs.declared.name.Builtin.TheVariants.{WriteInt, Module, SetUnexpected}
 use Rattle.cxx_ast.specs.declared.types.Ty.TheVariants.{Int, Void, Object, ObjectRef}
 use Rattle.cxx_ast.specs.declared.declaration.FuncKind.TheVariants.{Plain, Constructor, Destructor}
 use Rattle.cxx_ast.specs.declared.expression.BinaryOp.TheVariants.{Add, Less, Equal, And, Or}
-use Rattle.cxx_ast.specs.Plain.{Class as ClassTree, Checked, Expression, number, path, binary, call, std_call, Expressions, no_expressions, expression_then, Statement, if_else, block, while, return, break, continue, throw, try, assign, evaluate, local_int, local_object, no_else, Statements, no_statements, statement_then, no_handlers, handler_then}
+use Rattle.cxx_ast.specs.Plain.{Class as ClassTree, listed, noexcept, Specification, Checked, Expression, number, path, binary, call, std_call, Expressions, no_expressions, expression_then, Statement, if_else, block, while, return, break, continue, throw, try, assign, evaluate, local_int, local_object, no_else, Statements, no_statements, statement_then, no_handlers, handler_then}
 use Rattle.eh_outer.specs.declared.module.Reply.{Reply}
 use Rattle.eh_outer.specs.declared.module.Reply.TheVariants.{Raise}
 use Rattle.meaning_forms.specs.Meaning.{program_meaning}
@@ -114,7 +114,7 @@ constructor_that_throws-same = (refl, refl)
 --         return 0; }
 specification_and_module : Checked
 specification_and_module = ck (bad_exception ∷ class_a ∷ []) [] (
-    fn Plain Void [] (Some (Object (nm (Class 0)) ∷ [])) [] (rows (object 1 0 (int 1 ∷ []) ∷ throw 0 (Some (int 3)) ∷ [])) ∷
+    fn Plain Void [] (Some (listed (Object (nm (Class 0)) ∷ []))) [] (rows (object 1 0 (int 1 ∷ []) ∷ throw 0 (Some (int 3)) ∷ [])) ∷
     fn Plain Void [] None [] (rows (throw 0 None ∷ [])) ∷
     fn Plain Int [] None [] (rows (
     evaluate (std_call (nm (Builtin SetUnexpected)) (arguments (var (Func 1) ∷ [])) 0) ∷
@@ -171,3 +171,54 @@ two_objects-regions : (function_at (regions_of two_objects (layout_of two_object
     (destroy_scope (at 1) 6) ∷ []) ∷ [])
 unfolding two_objects
 two_objects-regions = refl
+
+-- What is `noexcept` is unwound, and ends the program, whatever comes out of it: an int, a foreign exception, or an exception of a destructor.
+--     struct T { int n; T(int k) { n = k; } ~T() noexcept { write_int(n); if (n == 2) throw n; } };
+--     void f() noexcept { T x(1); throw 2; } int main() { try { f(); } catch (int) { write_int(3); } return 0; }
+abbrev ends : Option Specification
+ends = Some (noexcept 0 true)
+
+abbrev class_t : ClassTree
+class_t = cl None (pa Int (Some (nm (Field 1 0))) ∷ []) (
+    fn Constructor Void (pa Int (Some (nm (Local 0))) ∷ []) None [] (rows (assign (nm (Field 1 0) ∷ []) (var (Local 0)) ∷ [])) ∷
+    fn Destructor Void [] ends [] (rows (
+    say (var (Field 1 0)) ∷ if_else (binary Equal (var (Field 1 0)) (int 2)) (throw 0 (Some (var (Field 1 0)))) no_else ∷ [])) ∷ [])
+
+noexcept_function : ℕ → Statement → Checked
+noexcept_function n s = ck (bad_exception ∷ class_t ∷ []) [] (
+    fn Plain Void [] ends [] (rows (object 1 0 (int n ∷ []) ∷ s ∷ [])) ∷
+    fn Plain Int [] None [] (rows (
+    try (rows (evaluate (called (Func 0) []) ∷ [])) (handler_then (Some Int) None (rows (say (int 3) ∷ [])) 0 no_handlers) ∷
+    return 0 (Some (int 0)) ∷ [])) ∷ []) 1
+
+throws_in_noexcept : Checked
+unfolding noexcept_function
+throws_in_noexcept = noexcept_function 1 (throw 0 (Some (int 2)))
+
+throws_in_noexcept-same : AreSame throws_in_noexcept []
+unfolding noexcept_function throws_in_noexcept
+throws_in_noexcept-same = (refl, refl)
+
+raises_in_noexcept : Checked
+unfolding noexcept_function
+raises_in_noexcept = noexcept_function 1 (evaluate (called (Builtin Module) (int 0 ∷ int 0 ∷ [])))
+
+raises_in_noexcept-same : AreSame raises_in_noexcept ((Raise 7 ∷ []) ∷ [])
+unfolding noexcept_function raises_in_noexcept
+raises_in_noexcept-same = (refl, refl)
+
+leaves_noexcept : Checked
+unfolding noexcept_function
+leaves_noexcept = noexcept_function 1 (return 0 None)
+
+leaves_noexcept-same : AreSame leaves_noexcept []
+unfolding noexcept_function leaves_noexcept
+leaves_noexcept-same = (refl, refl)
+
+destroys_in_noexcept : Checked
+unfolding noexcept_function
+destroys_in_noexcept = noexcept_function 2 (return 0 None)
+
+destroys_in_noexcept-same : AreSame destroys_in_noexcept []
+unfolding noexcept_function destroys_in_noexcept
+destroys_in_noexcept-same = (refl, refl)

@@ -5,15 +5,16 @@ use Rattle.cxx_ast.specs.declared.types.Ty.{Ty}
 use Rattle.cxx_ast.specs.declared.types.Ty.TheVariants.{Int, Void, Object, IntRef, ObjectRef}
 use Rattle.cxx_ast.specs.declared.declaration.FuncKind.{FuncKind}
 use Rattle.cxx_ast.specs.declared.declaration.FuncKind.TheVariants.{Constructor as ConstructorKind, Destructor as DestructorKind}
-use Rattle.cxx_ast.specs.Plain.{Checked, Function, Class as ClassTree, Expressions, no_expressions, expression_then}
+use Rattle.cxx_ast.specs.declared.name.Builtin.TheVariants.{Terminate}
+use Rattle.cxx_ast.specs.Plain.{Checked, Specification, listed, noexcept, Function, Class as ClassTree, Expressions, no_expressions, expression_then}
 use Rattle.meaning_forms.specs.Class.{ObjectType, int_type, class_type, class_at, object_type, parts_of}
 use Rattle.meaning_forms.specs.Running.{constructor, destructor}
 use Rattle.meaning_forms.specs.Construct.{constructor_for, copy_constructor, is_constructor}
 use Rattle.meaning_forms.specs.Call.{initialiser_for, statements_in}
-use Rattle.region_forms.specs.Form.{int_slot, address_slot, object_slot, help_slot, Slot, Place, number, load, address_argument, no_arguments, arguments_from, store, construct, destroy_scope, destroy_part, Region, op, protect, limit, in_order, RegionFunction, Regions}
+use Rattle.region_forms.specs.Form.{int_slot, address_slot, object_slot, help_slot, Slot, Place, number, load, builtin, address_argument, no_arguments, arguments_from, store, call, construct, enter, destroy_scope, destroy_part, Region, op, protect, catch, limit, Clauses, no_clauses, clause_then, in_order, RegionFunction, Regions, leave_handler}
 use Rattle.region_forms.specs.Layout.{Layout, laid_part, laid_size}
 use Rattle.region_forms.specs.Numbering.{number_of, type_number, type_rows, variables_of}
-use Rattle.region_forms.specs.LowerExpression.{Lowering, result_slot, first_temporary, slot_place, through_place, lower, lower_construct}
+use Rattle.region_forms.specs.LowerExpression.{Lowering, result_slot, exception_slot, first_temporary, slot_place, through_place, lower, lower_construct}
 use Rattle.region_forms.specs.LowerStatement.{statements, nothing_more}
 use Rattle.region_forms.specs.Mentioned.{slots_of}
 
@@ -21,10 +22,21 @@ use Rattle.region_forms.specs.Mentioned.{slots_of}
 abbrev pub part_place : Layout → Checked → ℕ → ℕ → ℕ → Place
 part_place l p k s i = through_place s (laid_part l p k i)
 
+-- what is `noexcept` has one handler, for every exception, in which terminate is called; nothing comes out of that, so the handler is never left
+abbrev pub ending : Lowering → Clauses
+ending l =
+    clause_then None (exception_slot l)
+    (in_order (op (enter (exception_slot l)) ∷ protect (in_order (op (call (builtin Terminate) no_arguments) ∷ [])) leave_handler ∷ [])) no_clauses
+
+-- a region in the extent of a specification
+abbrev pub specified : Lowering → Specification → Region → Region
+specified l (listed types) r = limit r (map (λ t. type_number (object_type t)) types)
+specified l (noexcept place b) r = catch r (ending l)
+
 -- the extent of a specification; without one there is no guard
-abbrev pub limited : Option (List Ty) → (ℕ → List Region) → ℕ → Region
-limited None act d = in_order (act (d + 1))
-limited (Some types) act d = limit (in_order (act (d + 2))) (map (λ t. type_number (object_type t)) types)
+abbrev pub limited : Lowering → Option Specification → (ℕ → List Region) → ℕ → Region
+limited l None act d = in_order (act (d + 1))
+limited l (Some s) act d = specified l s (in_order (act (d + 2)))
 
 -- The parts of an object from the i-th on are built in order, then what is left of its construction is done; where that is exited by an
 -- exception or a forced unwind, the parts that are complete are destroyed in reverse order.
@@ -137,7 +149,7 @@ abbrev pub declared_function : Checked → Layout → Bool → Bool → ℕ → 
 declared_function p layout is_member is_main k f =
     let l = lowering p layout is_member (variables_of f) in
     with_body layout is_member (variables_of f) (l.first_variable + length f.parameters) f.name.text (result_for l f.result)
-    (in_order (limited f.specification (body_of l f.kind k f) 1 ∷ last_result l is_main))
+    (in_order (limited l f.specification (body_of l f.kind k f) 1 ∷ last_result l is_main))
 
 -- the address of what an implicit copy constructor copies is its one parameter
 abbrev pub copied_type : ClassTree → List Ty

@@ -9,7 +9,7 @@ use Rattle.region_forms.specs.Numbering.{variables_of}
 
 -- the body under its specification, and the result at its end
 abbrev pub guarded : Bool → ℕ → Function → Lowering → Region
-guarded is_main k f l = in_order (limited f.specification (body_of l f.kind k f) 1 ∷ last_result l is_main)
+guarded is_main k f l = in_order (limited l f.specification (body_of l f.kind k f) 1 ∷ last_result l is_main)
 
 -- a declared function, by what its lowering is given
 abbrev declared_by : Bool → Bool → ℕ → Function → Lowering → RegionFunction

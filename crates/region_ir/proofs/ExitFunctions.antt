@@ -2,10 +2,9 @@
 use Rattle.std.proofs.Common.{◌≡◌, ◌+◌, ◌<◌, ℕ, Bool, true, false, List, [], ◌∷◌, length, Option, Some, None, if◌then◌else◌, refl, arith}
 use Rattle.std.proofs.lemmas.Bool.{and_parts}
 use Rattle.std.specs.Cmp.Derive.{both_true}
-use Rattle.cxx_ast.specs.declared.types.Ty.{Ty}
 use Rattle.cxx_ast.specs.declared.declaration.FuncKind.{FuncKind}
 use Rattle.cxx_ast.specs.declared.declaration.FuncKind.TheVariants.{Constructor, Destructor}
-use Rattle.cxx_ast.specs.Plain.{Checked, Function, Expressions, no_expressions, expression_then}
+use Rattle.cxx_ast.specs.Plain.{Checked, Specification, listed, noexcept, Function, Expressions, no_expressions, expression_then}
 use Rattle.cxx_ast.specs.Checked.{IsChecked}
 use Rattle.meaning_forms.specs.Class.{ObjectType, int_type, class_type, class_at, no_class, parts_of}
 use Rattle.meaning_forms.specs.Call.{initialiser_for, statements_in}
@@ -77,9 +76,10 @@ body_inside l Destructor k f j d below =
     destroyed_inside l k 0 (parts_of l.program k) (statements l (statements_in f.body) 0 (length f.parameters)) d (body_statements l f j) below
 body_inside l kind k f j d below = body_statements l f j d below
 
-limited_inside : (types : Option (List Ty)) (act : ℕ → List Region) → Rest 0 act → Inside 1 (limited types act 1 ∷ [])
-limited_inside None act h = both_true (h 2 (omega arith)) refl
-limited_inside (Some types) act h = both_true (h 3 (omega arith)) refl
+limited_inside : (l : Lowering) (s : Option Specification) (act : ℕ → List Region) → Rest 0 act → Inside 1 (limited l s act 1 ∷ [])
+limited_inside l None act h = both_true (h 2 (omega arith)) refl
+limited_inside l (Some (listed types)) act h = both_true (h 3 (omega arith)) refl
+limited_inside l (Some (noexcept place b)) act h = both_true (both_true (h 3 (omega arith)) refl) refl
 
 last_inside : (l : Lowering) (is_main : Bool) → Inside 1 (last_result l is_main)
 last_inside l false = refl
@@ -93,8 +93,8 @@ declared_inside : (p : Checked) (layout : Layout) (is_member is_main : Bool) (k 
     test (declared_function p layout is_member is_main k f) ≡ true
 declared_inside p layout is_member is_main k f j =
     let l = lowering p layout is_member (variables_of f) in
-    behind 1 (limited f.specification (body_of l f.kind k f) 1 ∷ []) (last_result l is_main)
-    (limited_inside f.specification (body_of l f.kind k f) (body_inside l f.kind k f j)) (last_inside l is_main)
+    behind 1 (limited l f.specification (body_of l f.kind k f) 1 ∷ []) (last_result l is_main)
+    (limited_inside l f.specification (body_of l f.kind k f) (body_inside l f.kind k f j)) (last_inside l is_main)
 
 -- the implicit functions of a class
 unless_declared : (is_declared : Bool) (rs : List Region) → Inside 1 rs → Inside 1 (if is_declared then [] else rs)

@@ -6,6 +6,8 @@ use Rattle.cxx_ast.specs.declared.name.Name.{Name}
 use Rattle.cxx_ast.specs.declared.name.Bound.TheVariants.{Free, Func}
 use Rattle.cxx_ast.specs.declared.types.Ty.{Ty}
 use Rattle.cxx_ast.specs.declared.types.Param.{Param}
+use Rattle.cxx_ast.specs.Standards.{standard_found}
+use Rattle.cxx_ast.specs.declared.standard.Std.{Std}
 use Rattle.cxx_ast.specs.Plain.{Function, Class, Declaration, class_declaration, global_declaration, function_declaration, Program, Checked, Statement, block, if_else, while, break, continue, try, Else, no_else, else_do, Statements, no_statements, statement_then, Handlers, no_handlers, handler_then}
 use Rattle.cxx_ast.specs.Finding.{breaks_if}
 use Rattle.cxx_ast.specs.Rule.{redeclared, loop_jump, handler_order, no_main}
@@ -22,11 +24,12 @@ use Rattle.cxx_ast.specs.Declare.{at_the_start, definitions, declare_behind, bod
 use Rattle.cxx_ast.specs.ClassRules.{is_taken, base_found, field_found, method_names, twice_among, specials_found, size_found, method_found, class_rules_found}
 use Rattle.cxx_ast.specs.DeclaredNames.{once_only_found}
 use Rattle.cxx_ast.specs.Broken.{Valid, broken, declaration_found, declarations_found, has_main, function_name_found}
-use Rattle.cxx_ast.specs.Checked.{resolve_methods, resolve_class_tree, resolve_declarations, classes_of, functions_of, checked, IsChecked}
+use Rattle.cxx_ast.specs.Checked.{bad_exception, resolve_methods, resolve_class_tree, resolve_declarations, classes_of, functions_of, checked, IsChecked}
 use Rattle.cxx_rules.proofs.ScopeLaws.{behind_within}
 use Rattle.meaning_forms.specs.Call.{statements_in}
 use Rattle.region_forms.specs.WellFormed.{every}
 use Rattle.region_ir.specs.Exits.{jumps_stand, else_jumps_stand, all_jumps_stand, handler_jumps_stand, function_jumps_stand, class_jumps_stand, program_jumps_stand}
+use Rattle.region_ir.proofs.Settled.{every_settled, classes_settled}
 use Rattle.region_ir.proofs.Sound.{Sound, sound_parts, held, nothing_refused}
 
 -- parameters are declared in a loop where one is round their scope
@@ -166,20 +169,25 @@ functions_stand env (function_declaration f ∷ ds) h =
     (functions_stand (declare_behind env d) ds parts.1)
 
 -- what a program declares breaks no rule
-pub declared_sound : (p : Program) → Valid p → Sound (declarations_found (at_the_start p.declarations) p.declarations)
+pub declared_sound : (std : Std) (p : Program) → Valid std p → Sound (declarations_found (at_the_start p.declarations) p.declarations)
 unfolding broken
-declared_sound p valid =
+declared_sound std p valid =
     let walked = declarations_found (at_the_start p.declarations) p.declarations in
     let once = once_only_found p.declarations in
     let main = breaks_if (not (has_main p.declarations)) no_main p.length in
-    (sound_parts walked once (sound_parts (walked ++ once) main (nothing_refused (definitions p.declarations) (walked ++ once ++ main) valid)).0).0
+    let own = standard_found std p.declarations in
+    let all = nothing_refused (definitions p.declarations) (walked ++ once ++ main ++ own) valid in
+    (sound_parts walked once (sound_parts (walked ++ once) main (sound_parts (walked ++ once ++ main) own all).0).0).0
 
-program_stands : (p : Program) → Valid p → program_jumps_stand (checked p) ≡ true
+program_stands : (std : Std) (p : Program) → Valid std p → program_jumps_stand (checked std p) ≡ true
 unfolding checked
-program_stands p valid =
-    let sound = declared_sound p valid in
-    both_true (functions_stand (at_the_start p.declarations) p.declarations sound)
-    (both_true refl (classes_stand (at_the_start p.declarations) p.declarations sound))
+program_stands std p valid =
+    let sound = declared_sound std p valid in
+    let ds = resolve_declarations (at_the_start p.declarations) p.declarations in
+    both_true
+    (every_settled function_jumps_stand (λ own f. refl) None (functions_of ds) ∙ functions_stand (at_the_start p.declarations) p.declarations sound)
+    (classes_settled class_jumps_stand (λ own c. every_settled function_jumps_stand (λ o f. refl) own c.functions) std [] (bad_exception ∷ classes_of ds)
+    ∙ both_true refl (classes_stand (at_the_start p.declarations) p.declarations sound))
 
 pub checked_jumps : (p : Checked) → IsChecked p → program_jumps_stand p ≡ true
-checked_jumps p h = subst (λ q. program_jumps_stand q ≡ true) (sym h.resolved) (program_stands h.program h.valid)
+checked_jumps p h = subst (λ q. program_jumps_stand q ≡ true) (sym h.resolved) (program_stands h.std h.program h.valid)

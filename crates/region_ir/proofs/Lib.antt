@@ -33,3 +33,4 @@ pub mod AtNumber
 pub mod DestructorsAlone
 pub mod Specials
 pub mod ImplicitLeaves
+pub mod Settled

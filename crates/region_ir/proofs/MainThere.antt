@@ -7,6 +7,9 @@ use Rattle.std.specs.Cmp.Derive.{both_true}
 use Rattle.cxx_ast.specs.declared.name.Bound.TheVariants.{Func}
 use Rattle.cxx_ast.specs.declared.types.Param.{Param}
 use Rattle.cxx_ast.specs.declared.types.Ty.TheVariants.{Int}
+use Rattle.cxx_ast.specs.Settled.{settle_function}
+use Rattle.cxx_ast.specs.Standards.{standard_found}
+use Rattle.cxx_ast.specs.declared.standard.Std.{Std}
 use Rattle.cxx_ast.specs.Plain.{Function, Declaration, class_declaration, global_declaration, function_declaration, Program, Checked, Statements}
 use Rattle.cxx_ast.specs.Finding.{breaks_if}
 use Rattle.cxx_ast.specs.Rule.{no_main}
@@ -26,6 +29,7 @@ use Rattle.region_ir.specs.Leaves.{main_test}
 use Rattle.region_ir.proofs.Sound.{Sound, sound_parts, held, nothing_refused}
 use Rattle.region_ir.proofs.JumpsStand.{declared_sound}
 use Rattle.region_ir.proofs.MainOnce.{main_text, not_main, name_sound, no_more, now_defined}
+use Rattle.std.proofs.lemmas.Option.{slice_get-map}
 
 -- main's place among names and functions
 pub record MainAt (names : List (List ℕ)) (fs : List Function) : Type 0 where
@@ -141,17 +145,21 @@ passes p l f e alone =
     let there : nat_lt p.main (length (regions_of p l).functions) ≡ true = grind (arith, nat_tests, less) in
     both_true there (rw a.at (rw alone refl))
 
-program_main : (p : Program) (l : Layout) → Valid p → main_test (regions_of (checked p) l) ≡ true
+program_main : (std : Std) (p : Program) (l : Layout) → Valid std p → main_test (regions_of (checked std p) l) ≡ true
 unfolding broken checked
-program_main p l valid =
+program_main std p l valid =
     let walked = declarations_found (at_the_start p.declarations) p.declarations in
     let once = once_only_found p.declarations in
     let main = breaks_if (not (has_main p.declarations)) no_main p.length in
-    let sound = nothing_refused (definitions p.declarations) (walked ++ once ++ main) valid in
+    let own = standard_found std p.declarations in
+    let sound = (sound_parts (walked ++ once ++ main) own (nothing_refused (definitions p.declarations) (walked ++ once ++ main ++ own) valid)).0 in
     let some = held (has_main p.declarations) no_main p.length (sound_parts (walked ++ once) main sound).1 in
-    let m = main_at (at_the_start p.declarations) p.declarations (declared_sound p valid) some in
-    let number : (checked p).main ≡ m.number = ap (λ o. unwrap_or o (length (definitions p.declarations))) m.named in
-    passes (checked p) l m.function (ap (slice_get (checked p).functions) number ∙ m.there) m.alone
+    let m = main_at (at_the_start p.declarations) p.declarations (declared_sound std p valid) some in
+    let number : (checked std p).main ≡ m.number = ap (λ o. unwrap_or o (length (definitions p.declarations))) m.named in
+    let settled = settle_function None m.function in
+    let there : slice_get (checked std p).functions m.number ≡ Some settled =
+    slice_get-map (settle_function None) (functions_of (resolve_declarations (at_the_start p.declarations) p.declarations)) m.number ∙ ap (option_map (settle_function None)) m.there in
+    passes (checked std p) l settled (ap (slice_get (checked std p).functions) number ∙ there) m.alone
 
 pub checked_main : (p : Checked) (l : Layout) → IsChecked p → main_test (regions_of p l) ≡ true
-checked_main p l h = subst (λ q. main_test (regions_of q l) ≡ true) (sym h.resolved) (program_main h.program l h.valid)
+checked_main p l h = subst (λ q. main_test (regions_of q l) ≡ true) (sym h.resolved) (program_main h.std h.program l h.valid)

@@ -2,10 +2,9 @@
 use Rattle.std.proofs.Common.{◌≡◌, ◌+◌, ◌<◌, ℕ, zero, suc, Bool, true, false, List, [], ◌∷◌, ◌++◌, map, length, Option, Some, None, ◌==◌, if◌then◌else◌, refl, arith}
 use Rattle.std.proofs.lemmas.Bool.{and_parts}
 use Rattle.std.specs.Cmp.Derive.{both_true}
-use Rattle.cxx_ast.specs.declared.types.Ty.{Ty}
 use Rattle.cxx_ast.specs.declared.declaration.FuncKind.{FuncKind}
 use Rattle.cxx_ast.specs.declared.declaration.FuncKind.TheVariants.{Constructor, Destructor}
-use Rattle.cxx_ast.specs.Plain.{Checked, Function, Expressions, no_expressions, expression_then}
+use Rattle.cxx_ast.specs.Plain.{Checked, Specification, listed, noexcept, Function, Expressions, no_expressions, expression_then}
 use Rattle.meaning_forms.specs.Class.{ObjectType, int_type, class_type, class_at, parts_of}
 use Rattle.meaning_forms.specs.Call.{initialiser_for, statements_in}
 use Rattle.region_forms.specs.Form.{Place, Region, RegionFunction}
@@ -72,9 +71,10 @@ body_shaped l Destructor k f d below =
     destroyed_shaped l k 0 (parts_of l.program k) (statements l (statements_in f.body) 0 (length f.parameters)) d (body_statements l f) below
 body_shaped l kind k f d below = body_statements l f d below
 
-limited_shaped : (types : Option (List Ty)) (act : ℕ → List Region) (d : ℕ) → Rest 0 act → Row (limited types act d ∷ [])
-limited_shaped None act d h = both_true (h (d + 1) (omega arith)) refl
-limited_shaped (Some types) act d h = both_true (h (d + 2) (omega arith)) refl
+limited_shaped : (l : Lowering) (s : Option Specification) (act : ℕ → List Region) (d : ℕ) → Rest 0 act → Row (limited l s act d ∷ [])
+limited_shaped l None act d h = both_true (h (d + 1) (omega arith)) refl
+limited_shaped l (Some (listed types)) act d h = both_true (h (d + 2) (omega arith)) refl
+limited_shaped l (Some (noexcept place b)) act d h = both_true (both_true (h (d + 2) (omega arith)) refl) refl
 
 last_shaped : (l : Lowering) (is_main : Bool) → Row (last_result l is_main)
 last_shaped l false = refl
@@ -88,8 +88,8 @@ declared_shaped : (p : Checked) (layout : Layout) (is_member is_main : Bool) (k 
     HasShape (declared_function p layout is_member is_main k f)
 declared_shaped p layout is_member is_main k f =
     let l = lowering p layout is_member (variables_of f) in
-    behind (limited f.specification (body_of l f.kind k f) 1 ∷ []) (last_result l is_main)
-    (limited_shaped f.specification (body_of l f.kind k f) 1 (body_shaped l f.kind k f)) (last_shaped l is_main)
+    behind (limited l f.specification (body_of l f.kind k f) 1 ∷ []) (last_result l is_main)
+    (limited_shaped l f.specification (body_of l f.kind k f) 1 (body_shaped l f.kind k f)) (last_shaped l is_main)
 
 -- the implicit functions of a class
 unless_declared : (is_declared : Bool) (rs : List Region) → Row rs → Row (if is_declared then [] else rs)

@@ -108,7 +108,7 @@ declared_suffices : (p : Checked) (layout : Layout) (m is_main : Bool) (k : ℕ)
 declared_suffices p layout m is_main k f =
     let l = lowering p layout m (variables_of f) in
     suffices layout m (variables_of f) (l.first_variable + length f.parameters) f.name.text (result_for l f.result)
-    (in_order (limited f.specification (body_of l f.kind k f) 1 ∷ last_result l is_main)) (parameters_named m f) (result_is l f.result)
+    (in_order (limited l f.specification (body_of l f.kind k f) 1 ∷ last_result l is_main)) (parameters_named m f) (result_is l f.result)
 
 default_suffices : (p : Checked) (layout : Layout) (k : ℕ) → slots_suffice (implicit_default_function p layout k) ≡ true
 default_suffices p layout k =

@@ -3,8 +3,10 @@ ghost use Rattle.std.specs.Prelude.{◌≡◌, ◌+◌, ◌++◌, ◌∷◌, [],
 ghost use Rattle.cxx_ast.specs.Plain.{try};
 ghost use Rattle.cxx_ast.specs.View.{statements_of};
 ghost use Rattle.cxx_rules.specs.Walk.{handlers_of};
-ghost use Rattle.region_forms.specs.Form.{enter, in_order, leave_handler, op, protect};
+ghost use Rattle.cxx_ast.specs.declared.name.Builtin.TheVariants.{Terminate};
+ghost use Rattle.region_forms.specs.Form.{builtin, call, enter, in_order, leave_handler, no_arguments, op, protect};
 ghost use Rattle.region_forms.specs.LowerExpression.{exception_slot};
+ghost use Rattle.region_forms.specs.LowerProgram.{ending};
 ghost use Rattle.region_forms.specs.LowerStatement as rules;
 ghost use Rattle.region_forms.specs.Numbering.{all_declared_in, declared_in, declared_in_handlers};
 ghost use Rattle.region_ir.specs.Given.{lowering_of};
@@ -21,9 +23,41 @@ use crate::operation::{Cleanup, RegionOp};
 use crate::region::{Clause, Region};
 use crate::simple::in_scope;
 use crate::statement::{Nested, Standing, block};
+use crate::value::Callee;
+use cxx_ast::name::Builtin;
 use cxx_ast::statement::{Handler, Stmt};
 use cxx_ast::types::Ty;
 use scope_world::class_named;
+
+// A call of terminate.
+#[tactic(auto, using(crate::proofs::Rows::region_rows))]
+fn terminating(l: &Lowering<'_>) -> Result<Region, NoMemory>
+    ensures { IfOk result (λ r. region_of r ≡ in_order (op (call (builtin Terminate) no_arguments) ∷ [])) }
+{
+    let terminate = Callee::Builtin(Builtin::Terminate);
+    let mut regions = Vec::new(l.alloc);
+    regions.push(Region::Op(RegionOp::Call(terminate, Vec::new(l.alloc))))?;
+    Ok(in_order(regions))
+}
+
+/// The one clause of what is `noexcept`: whatever comes out is handled by a call of terminate.
+#[tactic(auto, using(crate::proofs::Rows::region_rows))]
+pub fn ending(l: &Lowering<'_>) -> Result<Vec<Clause>, NoMemory>
+    ensures { IfOk result (λ cs. clauses_of cs.items ≡ ending (lowering_of l.now)) }
+{
+    let object = l.exception_slot()?;
+    let inside = Box::new(l.alloc, terminating(l)?)?;
+    let mut regions = Vec::new(l.alloc);
+    regions.push(Region::Op(RegionOp::Enter(object)))?;
+    regions.push(Region::Protect(inside, Cleanup::Leave))?;
+    let mut clauses = Vec::new(l.alloc);
+    clauses.push(Clause {
+        ty: None,
+        object,
+        body: in_order(regions),
+    })?;
+    Ok(clauses)
+}
 
 // Clauses, and the number of the next variable behind theirs.
 #[derive(Drop)]

@@ -7,6 +7,7 @@ ghost use Rattle.region_ir.specs.Given.{lowering_of};
 ghost use Rattle.region_ir.specs.View.{function_of, region_of};
 
 use crate::NoMemory;
+use crate::catching::ending;
 use crate::expression::in_order;
 use crate::handling::listed;
 use crate::lowering::{Lowering, slot_place};
@@ -21,7 +22,7 @@ use crate::source::{Source, lowering, with_body};
 use crate::statement::{Standing, statements};
 use crate::value::Value;
 use crate::variable::variables_of;
-use cxx_ast::declaration::{Func, FuncKind};
+use cxx_ast::declaration::{Func, FuncKind, Spec};
 use scope_world::{body_of as statements_in, parts_of};
 
 // The result of main is 0 where control flows off its end.
@@ -72,15 +73,21 @@ fn body_of(
 }
 
 // A specification guards all of a body, a constructor's initialisers and a destructor's destruction of parts too.
+#[tactic(auto, using(crate::proofs::Rows::region_rows))]
 fn limited(l: &Lowering<'_>, class: u32, function: &Func, depth: u32) -> Result<Region, NoMemory>
-    ensures { IfOk result (λ r. region_of r ≡ rules.limited (function_meant function.now).specification (rules.body_of (lowering_of l.now) function.now.kind class (function_meant function.now)) depth) }
+    ensures { IfOk result (λ r. region_of r ≡ rules.limited (lowering_of l.now) (function_meant function.now).specification (rules.body_of (lowering_of l.now) function.now.kind class (function_meant function.now)) depth) }
 {
     match &function.spec {
         None => Ok(in_order(body_of(l, class, function, behind(depth, 1)?)?)),
-        Some(types) => {
+        Some(Spec::Throw(types)) => {
             let body = in_order(body_of(l, class, function, behind(depth, 2)?)?);
             let body = Box::new(l.alloc, body)?;
             Ok(Region::Limit(body, listed(l.alloc, types.as_slice())?))
+        }
+        Some(Spec::Noexcept(_, _)) => {
+            let body = in_order(body_of(l, class, function, behind(depth, 2)?)?);
+            let body = Box::new(l.alloc, body)?;
+            Ok(Region::Catch(body, ending(l)?))
         }
     }
 }

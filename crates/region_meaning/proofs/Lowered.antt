@@ -30,8 +30,8 @@ main_lowered : (p : Checked) (layout : Layout) (f : Function) → f.kind ≡ Pla
 main_lowered p layout f plain =
     let l = lowering p layout false (variables_of f) in
     let none : 0 + length f.parameters ≡ length f.parameters = omega arith in
-    ap (λ n. with_body layout false (variables_of f) n f.name.text (result_for l f.result) (in_order (limited f.specification (body_of l f.kind 0 f) 1 ∷ last_result l true))) none ∙
-    ap (λ (z : FuncKind). with_body layout false (variables_of f) (length f.parameters) f.name.text (result_for l f.result) (in_order (limited f.specification (body_of l z 0 f) 1 ∷ last_result l true))) plain
+    ap (λ n. with_body layout false (variables_of f) n f.name.text (result_for l f.result) (in_order (limited l f.specification (body_of l f.kind 0 f) 1 ∷ last_result l true))) none ∙
+    ap (λ (z : FuncKind). with_body layout false (variables_of f) (length f.parameters) f.name.text (result_for l f.result) (in_order (limited l f.specification (body_of l z 0 f) 1 ∷ last_result l true))) plain
 
 module _ (p : Checked) (layout : Layout) (plain : (source_function_at p p.main).kind ≡ Plain) where
   function_lowered : (n : ℕ) → called_function p layout (function n) ≡ lowered_callee p layout (function n)

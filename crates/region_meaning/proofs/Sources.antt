@@ -20,6 +20,6 @@ checked_programs_mean_the_same laws p is_checked input replies turns limit =
     (forms_are_same laws p layout q limit (checked_programs_are_ordered p is_checked) refl)
 
 pub checked_sources_mean_the_same : CaughtListFollows → CheckedSourcesMeanTheSame
-checked_sources_mean_the_same laws source tokens p lexed tree valid =
-    checked_programs_mean_the_same laws (checked p)
-    (record { source = source; tokens = tokens; program = p; lexed = lexed; tree = tree; valid = valid; resolved = refl })
+checked_sources_mean_the_same laws source tokens std p lexed tree valid =
+    checked_programs_mean_the_same laws (checked std p)
+    (record { std = std; source = source; tokens = tokens; program = p; lexed = lexed; tree = tree; valid = valid; resolved = refl })

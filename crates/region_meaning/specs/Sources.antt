@@ -12,6 +12,7 @@ use Rattle.region_forms.specs.Layout.{layout_of}
 use Rattle.region_forms.specs.LowerProgram.{regions_of}
 use Rattle.linear_simulation.specs.Watched.{watched_meaning}
 use Rattle.region_statements.specs.Programs.{MeansTheSame}
+use Rattle.cxx_ast.specs.declared.standard.Std.{Std}
 
 -- A program's regions, watched, show the same items, end, greatest number of open calls, outcome of main and replies left as the program, for every input,
 -- all replies, every number of turns and every limit of open calls, unless the program comes to what is undefined.
@@ -24,6 +25,6 @@ MeansAsLowered p =
 abbrev pub CheckedProgramsMeanTheSame : Type 0
 CheckedProgramsMeanTheSame = (p : Checked) → IsChecked p → MeansAsLowered p
 
--- and of each valid source: of the checked program of the tree of its tokens
+-- and of each source that is valid by a standard: of the checked program of the tree of its tokens
 abbrev pub CheckedSourcesMeanTheSame : Type 0
-CheckedSourcesMeanTheSame = (source : List ℕ) (tokens : List Token) (p : Program) → Lex source tokens → Tree tokens (length source) p → Valid p → MeansAsLowered (checked p)
+CheckedSourcesMeanTheSame = (source : List ℕ) (tokens : List Token) (std : Std) (p : Program) → Lex source tokens → Tree tokens (length source) p → Valid std p → MeansAsLowered (checked std p)

@@ -5,7 +5,7 @@ use Rattle.class_layout.specs.StandApart.{StandApart}
 use Rattle.cxx_ast.specs.declared.declaration.FuncKind.TheVariants.{Plain, Method}
 use Rattle.cxx_ast.specs.declared.types.Ty.{Ty}
 use Rattle.cxx_ast.specs.declared.types.Ty.TheVariants.{Int, Void, Object, IntRef, ObjectRef}
-use Rattle.cxx_ast.specs.Plain.{Checked, Function}
+use Rattle.cxx_ast.specs.Plain.{Checked, Function, Specification}
 use Rattle.meaning_forms.specs.Call.{statements_in, body_of, new_frame, value_returned, run_function as source_run_function, opened, after_call, open_call}
 use Rattle.meaning_forms.specs.Class.{class_type, function_at as source_function_at, method_at}
 use Rattle.meaning_forms.specs.Context.{Context as SourceContext}
@@ -84,18 +84,18 @@ pub body_does : (l : Lowering) (own : Option ℕ) (call : SourceCalls) (b : Runn
     → (v : SourceFrame) (c : SourceContext) → AreTypedStatements l own (gives_int f.result) (statements_in f.body) v.variables (length f.parameters)
     → DoesAlike l own (gives_int f.result) b v c (length f.parameters) 0 1
     (under_specification (source_running l call) f.specification (body_of (source_running l call) f v) c)
-    (limited f.specification (λ d. statements l (statements_in f.body) 0 (length f.parameters) d) 1 ∷ [])
+    (limited l f.specification (λ d. statements l (statements_in f.body) 0 (length f.parameters) d) 1 ∷ [])
 body_does l own call b fit apart same f exceptions extents v c typed = go f.specification
   where
-    go : (listed : Option (List Ty)) → DoesAlike l own (gives_int f.result) b v c (length f.parameters) 0 1
-        (under_specification (source_running l call) listed (body_of (source_running l call) f v) c)
-        (limited listed (λ d. statements l (statements_in f.body) 0 (length f.parameters) d) 1 ∷ [])
+    go : (s : Option Specification) → DoesAlike l own (gives_int f.result) b v c (length f.parameters) 0 1
+        (under_specification (source_running l call) s (body_of (source_running l call) f v) c)
+        (limited l s (λ d. statements l (statements_in f.body) 0 (length f.parameters) d) 1 ∷ [])
     go None =
         does_inside l own (gives_int f.result) b v c (length f.parameters) 0 1 (body_of (source_running l call) f v c)
         (statements l (statements_in f.body) 0 (length f.parameters) 2) (omega arith)
         (statements_do_alike l own (gives_int f.result) call b fit apart same exceptions (statements_in f.body) v c (length f.parameters) 0 2 (omega arith) typed)
-    go (Some listed) =
-        extents v c (length f.parameters) listed (statements_in f.body)
+    go (Some s) =
+        extents v c (length f.parameters) s (statements_in f.body)
         (statements_do_alike l own (gives_int f.result) call b fit apart same exceptions (statements_in f.body)) typed
 
 -- what is passed to a function of a class still is
@@ -120,13 +120,13 @@ module _ (p : Checked) (layout : Layout) (q : Regions) (limit fuel : ℕ) (apart
   abbrev PlainBody : (is_member : Bool) (j : ℕ) → Function → Type 0
   PlainBody is_member j f =
       (declared_function p layout is_member false j f).body
-      ≡ in_order (limited f.specification (λ d. statements (lowering p layout is_member (variables_of f)) (statements_in f.body) 0 (length f.parameters) d) 1 ∷ [])
+      ≡ in_order (limited (lowering p layout is_member (variables_of f)) f.specification (λ d. statements (lowering p layout is_member (variables_of f)) (statements_in f.body) 0 (length f.parameters) d) 1 ∷ [])
 
   plain_body : (is_member : Bool) (j : ℕ) (f : Function) → f.kind ≡ Plain → PlainBody is_member j f
-  plain_body is_member j f kind = ap (λ z. in_order (limited f.specification (λ d. lowered_body (lowering p layout is_member (variables_of f)) z j f d) 1 ∷ [])) kind
+  plain_body is_member j f kind = ap (λ z. in_order (limited (lowering p layout is_member (variables_of f)) f.specification (λ d. lowered_body (lowering p layout is_member (variables_of f)) z j f d) 1 ∷ [])) kind
 
   method_body : (is_member : Bool) (j : ℕ) (f : Function) → f.kind ≡ Method → PlainBody is_member j f
-  method_body is_member j f kind = ap (λ z. in_order (limited f.specification (λ d. lowered_body (lowering p layout is_member (variables_of f)) z j f d) 1 ∷ [])) kind
+  method_body is_member j f kind = ap (λ z. in_order (limited (lowering p layout is_member (variables_of f)) f.specification (λ d. lowered_body (lowering p layout is_member (variables_of f)) z j f d) 1 ∷ [])) kind
 
   -- what is done in a call
   runs : (is_member : Bool) (own : Option ℕ) (k : ℕ) (f : Function) → IsTypedBody (lowering p layout is_member (variables_of f)) own f
@@ -135,7 +135,7 @@ module _ (p : Checked) (layout : Layout) (q : Regions) (limit fuel : ℕ) (apart
       → DoesAlike (lowering p layout is_member (variables_of f)) own (gives_int f.result)
       (regions_running q limit fuel (kinds_of (declared_function p layout is_member false k f).slots)) v c (length f.parameters) 0 1
       (under_specification (fueled p limit fuel) f.specification (body_of (fueled p limit fuel) f v) c)
-      (limited f.specification (λ d. statements (lowering p layout is_member (variables_of f)) (statements_in f.body) 0 (length f.parameters) d) 1 ∷ [])
+      (limited (lowering p layout is_member (variables_of f)) f.specification (λ d. statements (lowering p layout is_member (variables_of f)) (statements_in f.body) 0 (length f.parameters) d) 1 ∷ [])
   runs is_member own k f typed alike c v references counted variables =
       let l = lowering p layout is_member (variables_of f) in
       let g = declared_function p layout is_member false k f in
@@ -158,7 +158,7 @@ module _ (p : Checked) (layout : Layout) (q : Regions) (limit fuel : ℕ) (apart
       let g = declared_function p layout is_member false j f in
       let kinds = kinds_of g.slots in
       function_runs l own (gives_int f.result) (regions_running q limit fuel kinds) c f.parameters
-      (limited f.specification (λ d. statements l (statements_in f.body) 0 (length f.parameters) d) 1 ∷ []) g body
+      (limited l f.specification (λ d. statements l (statements_in f.body) 0 (length f.parameters) d) 1 ∷ []) g body
       (λ v. under_specification (fueled p limit fuel) f.specification (body_of (fueled p limit fuel) f v) c) (value_returned false f.result)
       (results_agree l kinds (slots_fit p layout is_member (variables_of f) g.body) f.result)
       (λ v references counted variables. runs is_member own j f typed alike c v references counted variables) at k w s words (new_frame f this given (opened w)) begun

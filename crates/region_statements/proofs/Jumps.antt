@@ -3,7 +3,7 @@ use Rattle.std.proofs.Common.{ℕ, zero, suc, ◌+◌, ℤ, Bool, true, false, L
 use Rattle.std.specs.Prelude.{map, if◌then◌else◌}
 use Rattle.cxx_ast.specs.declared.name.Name.{Name}
 use Rattle.cxx_ast.specs.declared.types.Ty.{Ty}
-use Rattle.cxx_ast.specs.Plain.{Expression, Statement, block, empty, if_else, while, return, break, continue, throw, try, assign, evaluate, local_int, local_ref, local_object, Else, no_else, else_do, Statements, no_statements, statement_then, Handlers, no_handlers, handler_then}
+use Rattle.cxx_ast.specs.Plain.{Expression, Statement, block, empty, if_else, while, return, break, continue, throw, try, assign, evaluate, local_int, local_ref, local_object, Else, no_else, else_do, Statements, no_statements, statement_then, Handlers, no_handlers, handler_then, Specification, listed, noexcept}
 use Rattle.meaning_forms.specs.Arithmetic.{is_zero}
 use Rattle.meaning_forms.specs.Call.{statements_in, body_of}
 use Rattle.meaning_forms.specs.Class.{ObjectType, object_type, class_type, class_named, contains, some_of}
@@ -16,7 +16,7 @@ use Rattle.meaning_forms.specs.Handler.{clause_of, clauses_of, enter, let_go, go
 use Rattle.meaning_forms.specs.Outcome.{Action, Result, done, stopped, thrown, cancelled, ended, undefined, out_of_turns, deep, Flow, normal, breaks, continues, returns, pure, stop, continued, ◌>>=◌}
 use Rattle.meaning_forms.specs.Running.{Running, function}
 use Rattle.meaning_forms.specs.Scope.{after_scope, scope}
-use Rattle.meaning_forms.specs.Specification.{kept_with, is_bad_exception, new_bad_exception, pass_on, after_unexpected, run_unexpected_handler, unexpected, after_extent, under_specification}
+use Rattle.meaning_forms.specs.Specification.{kept_with, is_bad_exception, new_bad_exception, pass_on, after_unexpected, run_unexpected_handler, unexpected, after_extent, under_specification, end_noexcept}
 use Rattle.meaning_forms.specs.Statement.{spend_turn, followed, ◌then◌, looped, loop, throwing, operand_thrown, returning, local_cell, after_try, statement, otherwise, statements, caught}
 use Rattle.meaning_forms.specs.Terminate.{after_terminate_handler, run_terminate_handler, terminate_with, terminate, enter_and_terminate, terminate_because, behind_barrier}
 use Rattle.meaning_forms.specs.Throw.{raise_exception, is_full, after_building, throw_new, rethrow_newest, rethrow}
@@ -144,6 +144,10 @@ module _ (r : Running) where
   extent_stays types c (stopped out_of_turns w) h = tt
   extent_stays types c (stopped deep w) h = tt
 
+  -- nor does the end of what is `noexcept`
+  noexcept_stays : (c : Context) (e : ℕ) → Never (end_noexcept r c e)
+  noexcept_stays c e w = behind (enter r e c w) (λ u. terminate r (handling e c)) (λ u. terminate_stays (handling e c))
+
   -- a loop takes its jumps
   turn_stays : (x : Result Flow) (again : Action Flow) → Never again → NotJumped (continued x (looped again))
   turn_stays (done normal w) again so = so w
@@ -221,6 +225,8 @@ module _ (r : Running) where
 pub jumps_stay_in_loops : JumpsStayInLoops
 jumps_stay_in_loops r f h v c w = go f.specification
   where
-    go : (listed : Option (List Ty)) → NotJumped (under_specification r listed (body_of r f v) c w)
+    go : (s : Option Specification) → NotJumped (under_specification r s (body_of r f v) c w)
     go None = statements_stay r (statements_in f.body) h v c w
-    go (Some types) = extent_stays r (map object_type types) c _ (statements_stay r (statements_in f.body) h v (guarded_by (specification (map object_type types)) c) w)
+    go (Some (noexcept place q)) =
+        try_stays r (end_noexcept r c) (noexcept_stays r c) _ (statements_stay r (statements_in f.body) h v (guarded_by (try_block (catch_all ∷ [])) c) w)
+    go (Some (listed types)) = extent_stays r (map object_type types) c _ (statements_stay r (statements_in f.body) h v (guarded_by (specification (map object_type types)) c) w)

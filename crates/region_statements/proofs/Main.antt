@@ -114,7 +114,7 @@ main_runs_alike p layout q limit fuel apart same int there typed alike stays at 
         let b = regions_running q limit fuel kinds in
         let n = length f.parameters in
         does_then l None (gives_int f.result) b v c n 0 1 (under_specification r f.specification (body_of r f v) c) (source_pure (returns (Some (pos 0))))
-        (limited f.specification (λ d. statements l (statements_in f.body) 0 n d) 1 ∷ []) (op (store (slot_place (result_slot l)) (number (pos 0))) ∷ leave_region 1 ∷ [])
+        (limited l f.specification (λ d. statements l (statements_in f.body) 0 n d) 1 ∷ []) (op (store (slot_place (result_slot l)) (number (pos 0))) ∷ leave_region 1 ∷ [])
         (body_does l None (fueled_call p limit fuel) b fit apart (same_for p layout q limit fuel apart same kinds) f (alike kinds fit).0 (alike kinds fit).1 v c
         (subst (λ xs. AreTypedStatements l None (gives_int f.result) (statements_in f.body) xs n) (sym variables) (typed.statements references counted)))
         (does_return_value l None (gives_int f.result) b v c fit n 0 1 (source_pure (pos 0)) (record { before = []; value = number (pos 0); next = 0 }) (ap gives_int int)

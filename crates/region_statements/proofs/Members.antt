@@ -5,7 +5,7 @@ use Rattle.class_layout.specs.StandApart.{StandApart}
 use Rattle.cxx_ast.specs.declared.declaration.FuncKind.TheVariants.{Constructor as ConstructorKind, Destructor as DestructorKind}
 use Rattle.cxx_ast.specs.declared.types.Param.{Param}
 use Rattle.cxx_ast.specs.declared.types.Ty.{Ty}
-use Rattle.cxx_ast.specs.Plain.{Checked, Function}
+use Rattle.cxx_ast.specs.Plain.{Checked, Function, Specification}
 use Rattle.meaning_forms.specs.Call.{statements_in, body_of as source_body_of, new_frame, initialiser_for, construction, destruction, build_parts as source_build_parts, destroy_parts as source_destroy_parts, default_part as source_default_part, initial_part as source_initial_part, run_constructor, run_destructor, opened, after_call, open_call}
 use Rattle.meaning_forms.specs.Class.{method_at, parts_of}
 use Rattle.meaning_forms.specs.Context.{Context as SourceContext}
@@ -104,15 +104,15 @@ module _ (p : Checked) (layout : Layout) (q : Regions) (limit fuel k : ℕ) (apa
 
     constructor_does : f.kind ≡ ConstructorKind → CanInitialiseParts l k f → (c : SourceContext)
         → DoesAlike l (Some k) (gives_int f.result) b v c (length f.parameters) 0 1 (under_specification (fueled p limit fuel) f.specification (construction (fueled p limit fuel) k f v) c)
-        (limited f.specification (body_of l f.kind k f) 1 ∷ [])
+        (limited l f.specification (body_of l f.kind k f) 1 ∷ [])
     constructor_does kind can c = go f.specification
       where
-        go : (listed : Option (List Ty)) → DoesAlike l (Some k) (gives_int f.result) b v c (length f.parameters) 0 1
-            (under_specification (fueled p limit fuel) listed (construction (fueled p limit fuel) k f v) c) (limited listed (body_of l f.kind k f) 1 ∷ [])
+        go : (s : Option Specification) → DoesAlike l (Some k) (gives_int f.result) b v c (length f.parameters) 0 1
+            (under_specification (fueled p limit fuel) s (construction (fueled p limit fuel) k f v) c) (limited l s (body_of l f.kind k f) 1 ∷ [])
         go None =
             does_inside l (Some k) (gives_int f.result) b v c (length f.parameters) 0 1 (construction (fueled p limit fuel) k f v c) (body_of l f.kind k f 2) (omega arith)
             (construction_does kind can c 2 (omega arith))
-        go (Some listed) = (alike kinds fit).2.constructions v c f listed (λ d e lt. construction_does kind can d e lt)
+        go (Some s) = (alike kinds fit).2.constructions v c f s (λ d e lt. construction_does kind can d e lt)
 
     destruction_does : f.kind ≡ DestructorKind → v.variables ≡ [] → (c : SourceContext) (e : ℕ) → 0 < e
         → DoesAlike l (Some k) (gives_int f.result) b v c (length f.parameters) 0 e (destruction (fueled p limit fuel) k f v.this c) (body_of l f.kind k f e)
@@ -126,15 +126,15 @@ module _ (p : Checked) (layout : Layout) (q : Regions) (limit fuel k : ℕ) (apa
 
     destructor_does : f.kind ≡ DestructorKind → v.variables ≡ [] → (c : SourceContext)
         → DoesAlike l (Some k) (gives_int f.result) b v c (length f.parameters) 0 1 (under_specification (fueled p limit fuel) f.specification (destruction (fueled p limit fuel) k f v.this) c)
-        (limited f.specification (body_of l f.kind k f) 1 ∷ [])
+        (limited l f.specification (body_of l f.kind k f) 1 ∷ [])
     destructor_does kind none c = go f.specification
       where
-        go : (listed : Option (List Ty)) → DoesAlike l (Some k) (gives_int f.result) b v c (length f.parameters) 0 1
-            (under_specification (fueled p limit fuel) listed (destruction (fueled p limit fuel) k f v.this) c) (limited listed (body_of l f.kind k f) 1 ∷ [])
+        go : (s : Option Specification) → DoesAlike l (Some k) (gives_int f.result) b v c (length f.parameters) 0 1
+            (under_specification (fueled p limit fuel) s (destruction (fueled p limit fuel) k f v.this) c) (limited l s (body_of l f.kind k f) 1 ∷ [])
         go None =
             does_inside l (Some k) (gives_int f.result) b v c (length f.parameters) 0 1 (destruction (fueled p limit fuel) k f v.this c) (body_of l f.kind k f 2) (omega arith)
             (destruction_does kind none c 2 (omega arith))
-        go (Some listed) = (alike kinds fit).2.destructions v c f listed (λ d e lt. destruction_does kind none d e lt)
+        go (Some s) = (alike kinds fit).2.destructions v c f s (λ d e lt. destruction_does kind none d e lt)
 
 pub constructors_run_alike : ConstructorsRunAlike
 constructors_run_alike p layout q limit fuel k i apart same kind void there typed can alike at this given words n c w s stands passed =
@@ -143,7 +143,7 @@ constructors_run_alike p layout q limit fuel k i apart same kind void there type
     let l = lowering p layout true (variables_of f) in
     let fit : KindsFit l (kinds_of g.slots) = slots_fit p layout true (variables_of f) g.body in
     let r = fueled p limit fuel in
-    member_call p layout q limit fuel k apart same (variables_of f) g (limited f.specification (body_of l f.kind k f) 1 ∷ []) f.parameters (gives_int f.result) refl
+    member_call p layout q limit fuel k apart same (variables_of f) g (limited l f.specification (body_of l f.kind k f) 1 ∷ []) f.parameters (gives_int f.result) refl
     (ap (λ t. result_for l t) void) fit refl typed.parameters (number_of p (constructor k (declared i))) there
     (λ d v. under_specification r f.specification (construction r k f v) d)
     (λ d v references counted variables. constructor_does p layout q limit fuel k apart same f (kinds_of g.slots) fit typed alike v references counted variables kind can d)
@@ -185,7 +185,7 @@ destructors_run_alike p layout q limit fuel k i apart same place kind void none 
     let r = fueled p limit fuel in
     subst (λ o. Alike layout p at n c w s SameValue (open_call limit (run_destructor r k o this c >> source_pure (pos 0)) w)
     (call_with q limit (suc fuel) (number_of p (destructor k)) words (context_of w.open_calls c) s)) (sym place)
-    (member_call p layout q limit fuel k apart same (variables_of f) g (limited f.specification (body_of l f.kind k f) 1 ∷ []) f.parameters (gives_int f.result) refl
+    (member_call p layout q limit fuel k apart same (variables_of f) g (limited l f.specification (body_of l f.kind k f) 1 ∷ []) f.parameters (gives_int f.result) refl
     (ap (λ t. result_for l t) void) fit refl typed.parameters (number_of p (destructor k)) there
     (λ d v. under_specification r f.specification (destruction r k f v.this) d)
     (λ d v references counted variables.

@@ -2,8 +2,7 @@
 use Rattle.std.specs.Prelude.{slice_get, ◌≡◌, ℕ, suc, Bool, true, false, ◌==◌, List, [], ◌∷◌, Option, Some, None}
 use Rattle.class_layout.specs.StandApart.{StandApart}
 use Rattle.cxx_ast.specs.declared.declaration.FuncKind.TheVariants.{Plain, Method}
-use Rattle.cxx_ast.specs.declared.types.Ty.{Ty}
-use Rattle.cxx_ast.specs.Plain.{Checked, Function, Statements}
+use Rattle.cxx_ast.specs.Plain.{Checked, Function, Statements, Specification}
 use Rattle.meaning_forms.specs.Class.{function_at as source_function_at, method_at}
 use Rattle.meaning_forms.specs.Context.{Context as SourceContext}
 use Rattle.meaning_forms.specs.Frame.{Frame as SourceFrame}
@@ -47,9 +46,9 @@ SameCall l a b callee =
 -- the extent of a specification is the same for statements that do
 abbrev pub SameExtents : Lowering → (own : Option ℕ) → (gives : Bool) → SourceCalls → Running → Type 0
 SameExtents l own gives call b =
-    (v : SourceFrame) (c : SourceContext) (n : ℕ) (listed : List Ty) (ss : Statements) → StatementsDo l own gives call b ss → AreTypedStatements l own gives ss v.variables n
-    → DoesAlike l own gives b v c n 0 1 (under_specification (source_running l call) (Some listed) (source_statements (source_running l call) ss v) c)
-    (limited (Some listed) (λ d. statements l ss 0 n d) 1 ∷ [])
+    (v : SourceFrame) (c : SourceContext) (n : ℕ) (s : Specification) (ss : Statements) → StatementsDo l own gives call b ss → AreTypedStatements l own gives ss v.variables n
+    → DoesAlike l own gives b v c n 0 1 (under_specification (source_running l call) (Some s) (source_statements (source_running l call) ss v) c)
+    (limited l (Some s) (λ d. statements l ss 0 n d) 1 ∷ [])
 
 -- whatever is asked of the function that a lowering is of
 abbrev pub RunsAlike : Checked → Layout → Regions → (limit fuel : ℕ) → (own : Option ℕ) → (is_member : Bool) → Function → Type 0

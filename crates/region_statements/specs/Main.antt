@@ -26,7 +26,7 @@ use Rattle.region_statements.specs.Calls.{regions_running, SameCall, RunsAlike}
 -- the regions of main's body, then 0 in the result's slot
 abbrev pub main_regions : Lowering → Function → List Region
 main_regions l f =
-    limited f.specification (λ d. statements l (statements_in f.body) 0 (length f.parameters) d) 1 ∷ op (store (slot_place (result_slot l)) (number (pos 0))) ∷ []
+    limited l f.specification (λ d. statements l (statements_in f.body) 0 (length f.parameters) d) 1 ∷ op (store (slot_place (result_slot l)) (number (pos 0))) ∷ []
 
 -- main with such regions
 abbrev pub main_function : Checked → Layout → Function → RegionFunction

@@ -4,7 +4,7 @@ use Rattle.class_layout.specs.StandApart.{StandApart}
 use Rattle.cxx_ast.specs.declared.declaration.FuncKind.TheVariants.{Constructor as ConstructorKind, Destructor as DestructorKind}
 use Rattle.cxx_ast.specs.declared.types.Ty.{Ty}
 use Rattle.cxx_ast.specs.declared.types.Ty.TheVariants.{Void}
-use Rattle.cxx_ast.specs.Plain.{Checked, Function, Expressions, no_expressions, expression_then}
+use Rattle.cxx_ast.specs.Plain.{Checked, Function, Expressions, no_expressions, expression_then, Specification}
 use Rattle.meaning_forms.specs.Call.{initialiser_for, construction, destruction}
 use Rattle.meaning_forms.specs.Class.{ObjectType, int_type, class_type, class_at, class_named, method_at, object_type, parts_of}
 use Rattle.meaning_forms.specs.Construct.{constructor_for, copy_constructor, destructor_place}
@@ -74,16 +74,16 @@ CanInitialiseParts l k f =
 
 -- the extents of the specifications of constructors and destructors are the same, where what is in them does the same
 pub record SameMemberExtents (l : Lowering) (k : ℕ) (gives : Bool) (call : SourceCalls) (b : Running) : Type 0 where
-  pub constructions : (v : SourceFrame) (c : SourceContext) (f : Function) (listed : List Ty)
+  pub constructions : (v : SourceFrame) (c : SourceContext) (f : Function) (s : Specification)
       → ((d : SourceContext) (e : ℕ) → 0 < e
       → DoesAlike l (Some k) gives b v d (length f.parameters) 0 e (construction (source_running l call) k f v d) (body_of l f.kind k f e))
-      → DoesAlike l (Some k) gives b v c (length f.parameters) 0 1 (under_specification (source_running l call) (Some listed) (construction (source_running l call) k f v) c)
-      (limited (Some listed) (body_of l f.kind k f) 1 ∷ [])
-  pub destructions : (v : SourceFrame) (c : SourceContext) (f : Function) (listed : List Ty)
+      → DoesAlike l (Some k) gives b v c (length f.parameters) 0 1 (under_specification (source_running l call) (Some s) (construction (source_running l call) k f v) c)
+      (limited l (Some s) (body_of l f.kind k f) 1 ∷ [])
+  pub destructions : (v : SourceFrame) (c : SourceContext) (f : Function) (s : Specification)
       → ((d : SourceContext) (e : ℕ) → 0 < e
       → DoesAlike l (Some k) gives b v d (length f.parameters) 0 e (destruction (source_running l call) k f v.this d) (body_of l f.kind k f e))
-      → DoesAlike l (Some k) gives b v c (length f.parameters) 0 1 (under_specification (source_running l call) (Some listed) (destruction (source_running l call) k f v.this) c)
-      (limited (Some listed) (body_of l f.kind k f) 1 ∷ [])
+      → DoesAlike l (Some k) gives b v c (length f.parameters) 0 1 (under_specification (source_running l call) (Some s) (destruction (source_running l call) k f v.this) c)
+      (limited l (Some s) (body_of l f.kind k f) 1 ∷ [])
 
 -- whatever is asked where a constructor or a destructor of class k runs, whose variables are of these types
 abbrev pub MemberRunsAlike : Checked → Layout → Regions → (limit fuel k : ℕ) → (gives : Bool) → List Ty → Type 0

@@ -1,5 +1,5 @@
 -- The functions that a program declares are typed, declaration after declaration.
-use Rattle.std.proofs.Common.{◌≡◌, ◌+◌, ℕ, Bool, true, false, List, [], ◌∷◌, map, length, Some, None, find, if◌then◌else◌, refl, ap, subst, arith}
+use Rattle.std.proofs.Common.{◌≡◌, ◌+◌, ℕ, Bool, true, false, List, [], ◌∷◌, map, length, Some, None, find, if◌then◌else◌, refl, ap, subst, arith, Option}
 use Rattle.std.specs.Prelude.{flat_map}
 use Rattle.std.proofs.lemmas.List.{length-append}
 use Rattle.cxx_ast.specs.declared.name.Bound.TheVariants.{Func, Method as MethodBound}
@@ -7,7 +7,7 @@ use Rattle.cxx_ast.specs.declared.types.Ty.{Ty}
 use Rattle.cxx_ast.specs.declared.types.Ty.TheVariants.{Int, Void, Object, IntRef, ObjectRef}
 use Rattle.cxx_ast.specs.declared.types.Param.{Param}
 use Rattle.cxx_ast.specs.declared.declaration.FuncKind.TheVariants.{Plain, Constructor, Destructor}
-use Rattle.cxx_ast.specs.Plain.{Function, Class, Declaration, class_declaration, global_declaration, function_declaration, Checked}
+use Rattle.cxx_ast.specs.Plain.{Specification, Function, Class, Declaration, class_declaration, global_declaration, function_declaration, Checked}
 use Rattle.cxx_ast.specs.Environment.{Signature, Field, class_thing, global_thing, Environment, Scope}
 use Rattle.cxx_ast.specs.Lookup.{entry_of}
 use Rattle.cxx_ast.specs.TypeNames.{has_body, signature}
@@ -54,10 +54,17 @@ module _ (p : Checked) where
     pub constructor : f.kind ≡ Constructor → (f.result ≡ Void) × CanInitialiseParts (lowering p (layout_of p) true (variables_of f)) k f
     pub destructor : f.kind ≡ Destructor → (f.result ≡ Void) × (f.parameters ≡ [])
 
+  -- so they are with any specification
+  abbrev pub AnyFunction : Function → Type 0
+  AnyFunction f = (s : Option Specification) → FunctionGood (record f { specification = s })
+
+  abbrev pub AnyMethod : ℕ → Function → Type 0
+  AnyMethod k f = (s : Option Specification) → MethodGood k (record f { specification = s })
+
   -- each class from the k-th on
-  abbrev pub ClassesGood : ℕ → List Class → Type 0
-  ClassesGood k [] = Unit {0}
-  ClassesGood k (c ∷ cs) = ((class_named c.name ≡ k) × Each (MethodGood k) c.functions) × ClassesGood (k + 1) cs
+  abbrev pub ClassesGood : (ℕ → Function → Type 0) → ℕ → List Class → Type 0
+  ClassesGood P k [] = Unit {0}
+  ClassesGood P k (c ∷ cs) = ((class_named c.name ≡ k) × Each (P k) c.functions) × ClassesGood P (k + 1) cs
 
 -- a function without a class is seen from outside
 result_scope : (env next : Environment) (t : Ty) → IsResult t → function_scope next None t ≡ function_scope env None t
@@ -75,23 +82,23 @@ module _ (p : Checked) (checked : IsChecked p) (defined special : List (List ℕ
   methods_good : (env : Environment) (c : Class) → ClassStep p checked defined special env c → Settled p defined (declare_behind env (class_declaration c)) →
       NamesOnce (map (λ (f : Field). f.name) (class_entry env c).fields) → (i : ℕ) (fs : List Function) → Each IsFunction fs →
       Each (λ (f : Function). Each (λ (x : Param). NameAlone special x.name) f.parameters) fs → Fine defined (flat_map (method_found env c) fs) →
-      Each (MethodGood p (length env.classes)) (resolve_methods env c i fs)
+      Each (AnyMethod p (length env.classes)) (resolve_methods env c i fs)
   methods_good env c s settled once i [] ws ns f = tt
   methods_good env c s settled once i (x ∷ fs) ws ns f =
       let parts = fine_parts defined (method_found env c x) (flat_map (method_found env c) fs) f in
       let k = length env.classes in
       let next = declare_behind env (class_declaration c) in
-      let meant = behind_class p defined special env s.meant c s.placed s.below s.named s.data_members s.functions s.alone s.fine in
-      let names = head_names p defined special env s.meant c s.placed s.below s.named s.data_members s.functions s.alone s.fine in
-      let entry = entry_last p defined special env s.meant c s.placed s.below s.named s.data_members s.functions s.alone s.fine in
+      let meant = behind_class p defined special env s.meant c s.own s.placed s.below s.named s.data_members s.functions s.alone s.fine in
+      let names = head_names p defined special env s.meant c s.own s.placed s.below s.named s.data_members s.functions s.alone s.fine in
+      let entry = entry_last p defined special env s.meant c s.own s.placed s.below s.named s.data_members s.functions s.alone s.fine in
       let head = head_environment env c in (
-        record {
+        λ o. record {
           typed = function_typed p checked defined special next meant settled head (Some k) (Some x.name.place) names (λ text e q. q) true false k (Some k) (λ j q. refl)
-              (MethodBound k i) x ws.0 ns.0 parts.0;
+              (MethodBound k i) x ws.0 ns.0 parts.0 o;
           constructor = λ e. (
             (subst (λ kind. HasForm kind x) e ws.0.form).0,
             parts_typed p checked defined special next meant settled head (Some k) (Some x.name.place) names (λ text e q. q) true false k (Some k) (λ j q. refl)
-                (MethodBound k i) x ws.0 ns.0 parts.0 (class_entry env c) k refl entry once e,
+                (MethodBound k i) x ws.0 ns.0 parts.0 o (class_entry env c) k refl entry once e,
           );
           destructor = λ e. let form = subst (λ kind. HasForm kind x) e ws.0.form in (form.0, no_parameters_left (head_environment env c) (head_scope env x.name) x.parameters form.2);
         },
@@ -100,28 +107,28 @@ module _ (p : Checked) (checked : IsChecked p) (defined special : List (List ℕ
 
   -- a function of its own
   own_good : (env : Environment) (f : Function) → FunctionStep p checked defined special env f → Settled p defined (body_environment env f) →
-      FunctionGood p (resolve_function env outermost (body_environment env f) (function_scope env None f.result) (Func (function_number env f.name.text)) f)
+      AnyFunction p (resolve_function env outermost (body_environment env f) (function_scope env None f.result) (Func (function_number env f.name.text)) f)
   own_good env f s settled =
       let body = body_environment env f in
       let result = (subst (λ k. HasForm k f) s.plain s.is.form).0 in
       let fine = (fine_parts defined (function_name_found env (signature env outermost f) (entry_of env f.name.text)) (function_found env outermost body None f) s.fine).1 in
-      subst (λ sc. FunctionGood p (resolve_function env outermost body sc (Func (function_number env f.name.text)) f)) (result_scope env body f.result result) (record {
+      subst (λ sc. AnyFunction p (resolve_function env outermost body sc (Func (function_number env f.name.text)) f)) (result_scope env body f.result result) (λ o. record {
         plain = s.plain;
         result = result;
         typed = function_typed p checked defined special body s.next settled env None None s.meant.names s.kept false false 0 None (λ j q. absurd (cc q))
-            (Func (function_number env f.name.text)) f s.is s.alone fine;
+            (Func (function_number env f.name.text)) f s.is s.alone fine o;
         jumps = function_jumps p checked defined special body s.next settled env None None s.meant.names s.kept false false 0 None (λ j q. absurd (cc q))
-            (Func (function_number env f.name.text)) f s.is s.alone fine;
+            (Func (function_number env f.name.text)) f s.is s.alone fine o;
       })
 
-  where_defined : (b : Bool) (f : Function) (fs : List Function) → FunctionGood p f → Each (FunctionGood p) fs → Each (FunctionGood p) (if b then f ∷ fs else fs)
+  where_defined : (b : Bool) (f : Function) (fs : List Function) → AnyFunction p f → Each (AnyFunction p) fs → Each (AnyFunction p) (if b then f ∷ fs else fs)
   where_defined true f fs h k = (h, k)
   where_defined false f fs h k = k
 
   -- all that is left is typed
   pub record AllGood (k : ℕ) (ds : List Declaration) : Type 0 where
-    pub functions : Each (FunctionGood p) (functions_of ds)
-    pub classes : ClassesGood p k (classes_of ds)
+    pub functions : Each (AnyFunction p) (functions_of ds)
+    pub classes : ClassesGood p (AnyMethod p) k (classes_of ds)
 
   pub all_good : (last : List Signature) → ((text : List ℕ) (s : Signature) → find (named text) last ≡ Some s → has_text s.name.text defined ≡ true →
       ParamsMeant (length p.classes) s.parameters (function_at p (numbered defined s.name.text)).parameters) →
@@ -142,7 +149,7 @@ module _ (p : Checked) (checked : IsChecked p) (defined special : List (List ℕ
         functions = rest.functions;
         classes = (
           (refl, methods_good env c step settled (fields_once defined env c step.fine o.0) 0 c.functions step.functions step.alone.parameters (methods_found defined env c step.fine)),
-          subst (λ k. ClassesGood p k (classes_of (resolve_declarations (declare_behind env d) (map declared ws)))) count rest.classes,
+          subst (λ k. ClassesGood p (AnyMethod p) k (classes_of (resolve_declarations (declare_behind env d) (map declared ws)))) count rest.classes,
         );
       }
   all_good last known (written_global x v ∷ ws) env e w o s =
@@ -151,7 +158,7 @@ module _ (p : Checked) (checked : IsChecked p) (defined special : List (List ℕ
       let size = ap length (named_classes env x.text (global_thing env.globals)) in
       record {
         functions = rest.functions;
-        classes = subst (λ k. ClassesGood p k (classes_of (resolve_declarations (declare_behind env d) (map declared ws)))) size rest.classes;
+        classes = subst (λ k. ClassesGood p (AnyMethod p) k (classes_of (resolve_declarations (declare_behind env d) (map declared ws)))) size rest.classes;
       }
   all_good last known (written_function f ∷ ws) env e w o s =
       let d = function_declaration f in
@@ -165,5 +172,5 @@ module _ (p : Checked) (checked : IsChecked p) (defined special : List (List ℕ
         functions = where_defined (has_body (resolve_body body (declare_params body f.parameters sc) f.body))
             (resolve_function env outermost body sc (Func (function_number env f.name.text)) f) (functions_of (resolve_declarations body (map declared ws)))
             (own_good env f step settled) rest.functions;
-        classes = subst (λ k. ClassesGood p k (classes_of (resolve_declarations body (map declared ws)))) (ap length step.classes) rest.classes;
+        classes = subst (λ k. ClassesGood p (AnyMethod p) k (classes_of (resolve_declarations body (map declared ws)))) (ap length step.classes) rest.classes;
       }

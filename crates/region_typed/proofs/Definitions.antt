@@ -25,6 +25,8 @@ use Rattle.cxx_ast.specs.Broken.{same_passing, same_parameters, same_allowed, ag
 use Rattle.cxx_ast.specs.Grammatical.{Each, HasForm, IsResult}
 use Rattle.cxx_ast.specs.Written.{Written, written_class, written_global, written_function, declared}
 use Rattle.cxx_ast.specs.Checked.{IsChecked, resolve_declarations, functions_of}
+use Rattle.cxx_ast.specs.Settled.{settle_function}
+use Rattle.std.proofs.lemmas.Option.{slice_get-map}
 use Rattle.cxx_rules.proofs.TextLaws.{position-cons}
 use Rattle.meaning_forms.specs.Class.{object_type, function_at, no_function}
 use Rattle.region_formed.proofs.Fine.{Fine, fine_parts, not_broken}
@@ -337,7 +339,7 @@ module _ (p : Checked) (checked : IsChecked p) (defined special : List (List ℕ
 
   -- the first declaration of a function of the program has its parameters
   pub parameters_known : (ws : List Written) (env : Environment) → Declared env → Walked p checked defined special env ws → defined ≡ definitions (map declared ws) →
-      p.functions ≡ functions_of (resolve_declarations env (map declared ws)) → (text : List ℕ) (s : Signature) →
+      p.functions ≡ map (settle_function None) (functions_of (resolve_declarations env (map declared ws))) → (text : List ℕ) (s : Signature) →
       find (named text) (declare_all env (map declared ws)).signatures ≡ Some s → has_text s.name.text defined ≡ true →
       ParamsMeant (length p.classes) s.parameters (function_at p (numbered defined s.name.text)).parameters ×
       (s.result ≡ result_kind_of (function_at p (numbered defined s.name.text)).result)
@@ -347,7 +349,9 @@ module _ (p : Checked) (checked : IsChecked p) (defined special : List (List ℕ
       let own : find (named s.name.text) last ≡ Some s = subst (λ t. find (named t) last ≡ Some s) (sym same) e in
       let n = numbered defined s.name.text in
       let x = defined_with ws env d w s n own (subst (λ ds. position (λ d. bytes_eq d s.name.text) ds ≡ Some n) names (position_of defined s.name.text h)) in
-      let at : slice_get p.functions n ≡ Some x.function = ap (λ fs. slice_get fs n) functions ∙ x.at in
+      let found = functions_of (resolve_declarations env (map declared ws)) in
+      let at : slice_get p.functions n ≡ Some (settle_function None x.function) =
+      ap (λ fs. slice_get fs n) functions ∙ slice_get-map (settle_function None) found n ∙ ap (option_map (settle_function None)) x.at in
       subst (λ g. ParamsMeant (length p.classes) s.parameters g.parameters × (s.result ≡ result_kind_of g.result)) (sym (ap (λ o. unwrap_or o no_function) at)) (x.parameters, x.result)
 
   -- the first declaration of main

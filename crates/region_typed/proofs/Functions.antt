@@ -10,7 +10,7 @@ use Rattle.cxx_ast.specs.declared.types.Ty.TheVariants.{Int, Void, Object, IntRe
 use Rattle.cxx_ast.specs.declared.types.Param.{Param}
 use Rattle.cxx_ast.specs.declared.declaration.FuncKind.{FuncKind}
 use Rattle.cxx_ast.specs.declared.declaration.FuncKind.TheVariants.{Plain, Method, Constructor, Destructor}
-use Rattle.cxx_ast.specs.Plain.{Checked, Function, Statements}
+use Rattle.cxx_ast.specs.Plain.{Specification, Checked, Function, Statements}
 use Rattle.cxx_ast.specs.Environment.{Field, ClassEntry, Entry, Environment, Scope}
 use Rattle.cxx_ast.specs.Lookup.{entry_of}
 use Rattle.cxx_ast.specs.Finding.{Finding}
@@ -113,15 +113,15 @@ module _ (p : Checked) (checked : IsChecked p) (defined special : List (List ℕ
     (kept : (text : List ℕ) (e : Entry) → entry_of head text ≡ Some e → entry_of env text ≡ Some e)
     (member is_main : Bool) (k : ℕ) (inside : Option ℕ) (own : (j : ℕ) → inside ≡ Some j → member ≡ true) (b : Bound) (f : Function) (w : IsFunction f)
     (alone : Each (λ (x : Param). NameAlone special x.name) f.parameters)
-    (fine : Fine defined (function_found head (heading hown hlimit 0) env inside f)) where
+    (fine : Fine defined (function_found head (heading hown hlimit 0) env inside f)) (s : Option Specification) where
   abbrev pub there : Scope
-  there = sc p checked defined special env meant head hown hlimit names kept member is_main k inside own b f w alone fine
+  there = sc p checked defined special env meant head hown hlimit names kept member is_main k inside own b f w alone fine s
 
   abbrev pub tree : Function
-  tree = bound p checked defined special env meant head hown hlimit names kept member is_main k inside own b f w alone fine
+  tree = bound p checked defined special env meant head hown hlimit names kept member is_main k inside own b f w alone fine s
 
   abbrev pub given : Given
-  given = g p checked defined special env meant head hown hlimit names kept member is_main k inside own b f w alone fine
+  given = g p checked defined special env meant head hown hlimit names kept member is_main k inside own b f w alone fine s
 
   parts : (Fine defined (head_types_found head (heading hown hlimit 0) f)) × (Fine defined (body_found env there inside f f.body))
   parts =

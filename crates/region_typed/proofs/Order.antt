@@ -13,7 +13,7 @@ use Rattle.cxx_ast.specs.Environment.{Field, Environment}
 use Rattle.cxx_ast.specs.Declare.{next_class, name_of, field_of, class_entry}
 use Rattle.cxx_ast.specs.ClassRules.{is_taken, base_found, field_found, method_names, stands_before, twice_among, specials_found, size_found, method_found, class_rules_found}
 use Rattle.cxx_ast.specs.Spelling.{spell_name}
-use Rattle.cxx_ast.specs.Written.{Member, data_member, function_member, Written, written_class, written_global, written_function, data_members, spell_params, spell_specification, spell_initialisers, spell_body, spell_function, spell_members, spell_base, spell_start_value, spell_declarations}
+use Rattle.cxx_ast.specs.Written.{Member, data_member, function_member, Written, written_class, written_global, written_function, data_members, spell_params, spell_specification, spell_initialisers, spell_body, in_full, spell_function, spell_members, spell_base, spell_start_value, spell_declarations}
 use Rattle.cxx_ast.specs.Grammatical.{Each, There, IsMember, IsGrammatical}
 use Rattle.region_formed.proofs.Fine.{Fine, fine_parts, not_broken}
 use Rattle.region_formed.proofs.Pieces.{Above, lower, after_name, after_type, after_body, after_specification, after_initialisers, after_params, after_result, after_tilde, after_base, after_start_value}
@@ -34,9 +34,9 @@ from_lower n m (x ∷ names) le h = let first = h.0 in (omega (arith, le, first)
 function_skipped : (f : Function) (after : List Piece) (n : ℕ) → Above places n (spell_function f after) → Above places n after
 function_skipped f after n h =
     let body = spell_body f.body after in
-    let tail = spell_specification f.specification (spell_initialisers f.initialisers body) in
+    let tail = spell_specification (in_full f) f.specification (spell_initialisers f.initialisers body) in
     let inner = mark sign.OpenParen ∷ spell_params f.parameters (mark sign.CloseParen ∷ tail) in
-    after_body places f.body after n (after_initialisers places f.initialisers body n (after_specification places f.specification (spell_initialisers f.initialisers body) n
+    after_body places f.body after n (after_initialisers places f.initialisers body n (after_specification places (in_full f) f.specification (spell_initialisers f.initialisers body) n
     (after_params places f.parameters (mark sign.CloseParen ∷ tail) n (after_name places f.name inner n (after_result places f.kind f.result (named f.name ∷ inner) n h)))))
 
 members_ordered : (ms : List Member) (after : List Piece) (n : ℕ) → Each IsMember ms → Above places n (spell_members ms after) →

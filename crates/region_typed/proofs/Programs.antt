@@ -1,15 +1,15 @@
 -- Checked programs are typed.
-use Rattle.std.proofs.Common.{◌≡◌, ◌∙◌, ◌+◌, ◌<◌, ◌||◌, ◌&&◌, ◌==◌, ℕ, zero, suc, Bool, true, false, not, List, [], ◌∷◌, ◌++◌, map, length, Some, None, option_map, bytes_eq, codes, find, if◌then◌else◌, refl, sym, ap, subst, arith}
+use Rattle.std.proofs.Common.{◌≡◌, ◌∙◌, ◌+◌, ◌<◌, ◌||◌, ◌&&◌, ◌==◌, ℕ, zero, suc, Bool, true, false, not, List, [], ◌∷◌, ◌++◌, map, length, Option, Some, None, option_map, bytes_eq, codes, find, if◌then◌else◌, refl, sym, ap, subst, arith}
 use Rattle.std.specs.Prelude.{slice_get, unwrap_or}
 use Rattle.std.proofs.lemmas.Bool.{and_parts}
 use Rattle.std.proofs.lemmas.Slice.Eq.{bytes_eq-Decides}
-use Rattle.std.proofs.lemmas.Option.{slice_get_within}
+use Rattle.std.proofs.lemmas.Option.{slice_get_within, slice_get-map}
 use Rattle.cxx_ast.specs.declared.types.Ty.{Ty}
 use Rattle.cxx_ast.specs.declared.types.Ty.TheVariants.{Int, Void, Object, IntRef, ObjectRef}
 use Rattle.cxx_ast.specs.declared.types.Param.{Param}
 use Rattle.cxx_ast.specs.Finding.{breaks_if}
 use Rattle.cxx_ast.specs.Rule.{no_main}
-use Rattle.cxx_ast.specs.Plain.{Class, Declaration, class_declaration, global_declaration, function_declaration, Program, Checked}
+use Rattle.cxx_ast.specs.Plain.{Class, Declaration, class_declaration, global_declaration, function_declaration, Program, Checked, Specification, Function}
 use Rattle.cxx_ast.specs.TypeNames.{has_body}
 use Rattle.cxx_ast.specs.Environment.{int_kind, Passing, Signature, ClassEntry, Environment}
 use Rattle.cxx_ast.specs.Lookup.{entry_of}
@@ -43,8 +43,11 @@ use Rattle.region_typed.proofs.Walk.{walked}
 use Rattle.region_typed.proofs.Definitions.{result_kind_of, parameters_known, main_first}
 use Rattle.region_typed.proofs.Order.{FieldsOrdered, all_ordered}
 use Rattle.region_typed.proofs.Settling.{Steady}
-use Rattle.region_typed.proofs.Bodies.{FunctionGood, MethodGood, ClassesGood, AllGood, all_good}
+use Rattle.region_typed.proofs.Bodies.{FunctionGood, MethodGood, AnyFunction, AnyMethod, ClassesGood, AllGood, all_good}
 use Rattle.region_typed.proofs.Sources.{all_named, declarations_alone, valid_parts}
+use Rattle.cxx_ast.specs.declared.standard.Std.{Std}
+use Rattle.cxx_ast.specs.Settled.{Allowed, allowed_by, destructor_of, given, settled, settle_function, settle_classes}
+use Rattle.cxx_ast.specs.Standards.{standard_found}
 
 -- the class of `std::bad_exception`
 first_class : (p : Checked) (special : List (List ℕ)) → 0 < length p.classes → class_at p 0 ≡ bad_exception → (name : List ℕ) → has_text name special ≡ true →
@@ -66,7 +69,7 @@ none_declared env none = record {
 }
 
 -- the first declaration of each function, by the functions that are defined
-known_functions : (p : Checked) (ws : List Written) (env : Environment) → Each IsGrammatical ws → (functions : p.functions ≡ functions_of (resolve_declarations env (map declared ws))) →
+known_functions : (p : Checked) (ws : List Written) (env : Environment) → Each IsGrammatical ws → (functions : p.functions ≡ map (settle_function None) (functions_of (resolve_declarations env (map declared ws)))) →
     env.signatures ≡ [] → Fine (definitions (map declared ws)) (declarations_found env (map declared ws)) →
     (special : List (List ℕ)) (c : IsChecked p) → Known p c (definitions (map declared ws)) special (declare_all env (map declared ws)).signatures
 known_functions p ws env w functions none f special c text s e =
@@ -81,8 +84,10 @@ known_functions p ws env w functions none f special c text s e =
       there = λ h.
           let n = numbered defined s.name.text in
           let d = defined_at defined ws env start w f s n own (position_of defined s.name.text h) in
-          let at : slice_get p.functions n ≡ Some d.function = ap (λ fs. slice_get fs n) functions ∙ d.at in (
-            slice_get_within p.functions n d.function at,
+          let found = functions_of (resolve_declarations env (map declared ws)) in
+          let at : slice_get p.functions n ≡ Some (settle_function None d.function) =
+          ap (λ fs. slice_get fs n) functions ∙ slice_get-map (settle_function None) found n ∙ ap (option_map (settle_function None)) d.at in (
+            slice_get_within p.functions n (settle_function None d.function) at,
             subst (λ g. Shaped s.parameters (types_of g.parameters)) (sym (ap (λ o. unwrap_or o no_function) at)) d.shape,
           );
     }
@@ -127,8 +132,26 @@ no_params_left n (q ∷ qs) (x ∷ xs) e h = absurd (cc e)
 item_at : {A : Type 0} (xs : List A) (n : ℕ) (other : A) → n < length xs → slice_get xs n ≡ Some (unwrap_or (slice_get xs n) other)
 item_at xs n other h = let x = some_item xs n h in x.1 ∙ ap Some (sym (ap (λ o. unwrap_or o other) x.1))
 
+-- functions and classes with the specifications that count
+functions_settled : (p : Checked) (fs : List Function) → Each (AnyFunction p) fs → Each (FunctionGood p) (map (settle_function None) fs)
+functions_settled p [] h = tt
+functions_settled p (f ∷ fs) h = (h.0 (settled None f.kind f.specification), functions_settled p fs h.1)
+
+methods_settled : (p : Checked) (own : Option Specification) (k : ℕ) (fs : List Function) → Each (AnyMethod p k) fs → Each (MethodGood p k) (map (settle_function own) fs)
+methods_settled p own k [] h = tt
+methods_settled p own k (f ∷ fs) h = (h.0 (settled own f.kind f.specification), methods_settled p own k fs h.1)
+
+classes_settled : (p : Checked) (std : Std) (before : List Allowed) (k : ℕ) (cs : List Class) → ClassesGood p (AnyMethod p) k cs →
+    ClassesGood p (MethodGood p) k (settle_classes std before cs)
+classes_settled p std before k [] h = tt
+classes_settled p std before k (c ∷ cs) h =
+    let own = given std before c in (
+      (h.0.0, methods_settled p own k c.functions h.0.1),
+      classes_settled p std (before ++ allowed_by (destructor_of own c.functions) ∷ []) (k + 1) cs h.1,
+    )
+
 -- a class with its number
-class_good : (p : Checked) (cs : List Class) (n k : ℕ) → ClassesGood p n cs → k < length cs →
+class_good : (p : Checked) (cs : List Class) (n k : ℕ) → ClassesGood p (MethodGood p) n cs → k < length cs →
     (class_named (unwrap_or (slice_get cs k) no_class).name ≡ n + k) × Each (MethodGood p (n + k)) (unwrap_or (slice_get cs k) no_class).functions
 class_good p [] n k h below = absurd (omega (arith, below))
 class_good p (c ∷ cs) n zero h below =
@@ -138,7 +161,7 @@ class_good p (c ∷ cs) n (suc k) h below =
     let r = class_good p cs (n + 1) k h.1 (omega (arith, below)) in
     (r.0 ∙ more, subst (λ j. Each (MethodGood p j) (unwrap_or (slice_get cs k) no_class).functions) more r.1)
 
-module _ (p : Program) (ws : List Written) (e : map declared ws ≡ p.declarations) (w : Each IsGrammatical ws) (valid : Valid p)
+module _ (std : Std) (p : Program) (ws : List Written) (e : map declared ws ≡ p.declarations) (w : Each IsGrammatical ws) (valid : Valid std p)
     (alone : Each (DeclarationAlone (class_texts p.declarations)) p.declarations) (ordered : Each FieldsOrdered ws) where
   main_there : has_main p.declarations ≡ true
   unfolding broken
@@ -147,19 +170,22 @@ module _ (p : Program) (ws : List Written) (e : map declared ws ≡ p.declaratio
       let walked = declarations_found (at_the_start p.declarations) p.declarations in
       let once = once_only_found p.declarations in
       let main = breaks_if (not (has_main p.declarations)) no_main p.length in
-      held defined (has_main p.declarations) no_main p.length (fine_parts defined (walked ++ once) main (nothing_refused defined (walked ++ once ++ main) valid)).1
+      let own = standard_found std p.declarations in
+      let all = fine_parts defined (walked ++ once ++ main) own (nothing_refused defined (walked ++ once ++ main ++ own) valid) in
+      held defined (has_main p.declarations) no_main p.length (fine_parts defined (walked ++ once) main all.0).1
 
-  pub program_typed : IsChecked (checked p) → IsTypedProgram (checked p) (layout_of (checked p))
+  pub program_typed : IsChecked (checked std p) → IsTypedProgram (checked std p) (layout_of (checked std p))
   unfolding checked
   program_typed c =
       let env = at_the_start p.declarations in
       let defined = definitions (map declared ws) in
       let special = class_texts p.declarations in
-      let q = checked p in
+      let q = checked std p in
       let back = sym e in
       let last = (declare_all env (map declared ws)).signatures in
-      let fine = subst (λ ds. Fine (definitions ds) (declarations_found env ds)) back (valid_parts p valid).0 in
-      let functions : q.functions ≡ functions_of (resolve_declarations env (map declared ws)) = ap (λ ds. functions_of (resolve_declarations env ds)) back in
+      let fine = subst (λ ds. Fine (definitions ds) (declarations_found env ds)) back (valid_parts std p valid).0 in
+      let functions : q.functions ≡ map (settle_function None) (functions_of (resolve_declarations env (map declared ws))) =
+      ap (λ ds. map (settle_function None) (functions_of (resolve_declarations env ds))) back in
       let known = known_functions q ws env w functions refl fine special c in
       let m : Meant q defined special env = record {
         some = omega arith;
@@ -168,17 +194,18 @@ module _ (p : Program) (ws : List Written) (e : map declared ws ≡ p.declaratio
         signatures = λ text s h. absurd (cc h);
         definitions = ap definitions back;
       } in
-      let left : Left q c defined special last env (map declared ws) = record {
+      let left : Left q c defined special std last env (map declared ws) = record {
         meant = m;
         done = bad_exception ∷ [];
-        classes = ap (λ ds. bad_exception ∷ classes_of (resolve_declarations env ds)) back;
+        allowed = allowed_by (destructor_of (given std [] bad_exception) []) ∷ [];
+        classes = ap (λ ds. settle_classes std [] (bad_exception ∷ classes_of (resolve_declarations env ds))) back;
         count = refl;
         before = [];
         globals = ap (λ ds. globals_of (resolve_declarations env ds)) back;
         globals_count = refl;
         last_is = refl;
       } in
-      let steps = walked q c defined special last known ws env left w (subst (Each (DeclarationAlone special)) back alone) fine in
+      let steps = walked q c defined special std last known ws env left w (subst (Each (DeclarationAlone special)) back alone) fine in
       let start = none_declared env refl in
       let exact = parameters_known q c defined special ws env start steps refl functions in
       let steady : Steady q env = record { some = omega arith; classes = tt; defaults = λ k x at h. first_default k x at } in
@@ -196,7 +223,9 @@ module _ (p : Program) (ws : List Written) (e : map declared ws ≡ p.declaratio
       (no_params_left (length q.classes) s.parameters (function_at q (numbered defined s.name.text)).parameters first.none meant.0) in
       let result = subst (λ n. (function_at q n).result ≡ Int) main (int_is_result (function_at q (numbered defined s.name.text)).result (sym meant.1 ∙ first.int)) in
       let own : (n : ℕ) → n < length q.functions → FunctionGood q (function_at q n) =
-      λ n h. each_at (FunctionGood q) q.functions n (function_at q n) here.functions (item_at q.functions n no_function h) in
+      λ n h. each_at (FunctionGood q) q.functions n (function_at q n) (functions_settled q (functions_of (resolve_declarations env p.declarations)) here.functions) (item_at q.functions n no_function h) in
+      let named : ClassesGood q (AnyMethod q) 0 (bad_exception ∷ classes_of (resolve_declarations env p.declarations)) = ((refl, tt), here.classes) in
+      let classes : ClassesGood q (MethodGood q) 0 q.classes = classes_settled q std [] 0 (bad_exception ∷ classes_of (resolve_declarations env p.declarations)) named in
       record {
         apart = stand_apart q.classes (classes_fit q c);
         main_there = there;
@@ -205,46 +234,43 @@ module _ (p : Program) (ws : List Written) (e : map declared ws ≡ p.declaratio
         main_jumps = (own q.main there).jumps;
         plain = λ n h. (own n h).plain;
         functions = λ n h. (own n h).typed;
-        methods = λ k i h below. (of_class here.classes k i h below).typed;
-        constructors = λ k i h below is. (of_class here.classes k i h below).constructor is;
-        destructors = λ k i h below is. (of_class here.classes k i h below).destructor is;
-        named = λ k h. class_numbered here.classes k h;
+        methods = λ k i h below. (of_class classes k i h below).typed;
+        constructors = λ k i h below is. (of_class classes k i h below).constructor is;
+        destructors = λ k i h below is. (of_class classes k i h below).destructor is;
+        named = λ k h. class_numbered classes k h;
         parts = λ k i j h at. let less = part_before q c k i j h at in omega (arith, less, h);
       }
     where
-      one_class : (k : ℕ) (x : ClassEntry) → slice_get (at_the_start p.declarations).classes k ≡ Some x → EntryMeant (checked p) (class_texts p.declarations) k x
+      one_class : (k : ℕ) (x : ClassEntry) → slice_get (at_the_start p.declarations).classes k ≡ Some x → EntryMeant (checked std p) (class_texts p.declarations) k x
       one_class zero x h =
-          subst (EntryMeant (checked p) (class_texts p.declarations) 0) (cc h)
-          (first_class (checked p) (class_texts p.declarations) (omega arith) refl (codes "std::bad_exception") (text_first (codes "std::bad_exception") (class_names p.declarations)))
+          subst (EntryMeant (checked std p) (class_texts p.declarations) 0) (cc h)
+          (first_class (checked std p) (class_texts p.declarations) (omega arith) refl (codes "std::bad_exception") (text_first (codes "std::bad_exception") (class_names p.declarations)))
       one_class (suc zero) x h = absurd (cc h)
       one_class (suc (suc k)) x h = absurd (cc h)
 
       -- std::bad_exception has no parts
-      none_at : (i j : ℕ) → slice_get (parts_of (checked p) 0) i ≡ Some (class_type j) → ⊥
+      none_at : (i j : ℕ) → slice_get (parts_of (checked std p) 0) i ≡ Some (class_type j) → ⊥
       none_at zero j h = cc h
       none_at (suc i) j h = cc h
 
-      first_default : (k : ℕ) (x : ClassEntry) → slice_get (at_the_start p.declarations).classes k ≡ Some x → (k < length (checked p).classes) × BuiltBy (suc k) (checked p) k (constructor_for (checked p) k 0)
+      first_default : (k : ℕ) (x : ClassEntry) → slice_get (at_the_start p.declarations).classes k ≡ Some x → (k < length (checked std p).classes) × BuiltBy (suc k) (checked std p) k (constructor_for (checked std p) k 0)
       first_default zero x h = (omega arith, (refl, λ i j at. absurd (none_at i j at)))
       first_default (suc zero) x h = absurd (cc h)
       first_default (suc (suc k)) x h = absurd (cc h)
 
-      of_class : ClassesGood (checked p) 1 (classes_of (resolve_declarations (at_the_start p.declarations) p.declarations)) → (k i : ℕ) → k < length (checked p).classes →
-          i < length (class_at (checked p) k).functions → MethodGood (checked p) k (method_at (checked p) k i)
-      of_class h zero i below less = absurd (omega (arith, less))
-      of_class h (suc k) i below less =
-          let one : 1 + k ≡ suc k = omega arith in
-          let r = class_good (checked p) (classes_of (resolve_declarations (at_the_start p.declarations) p.declarations)) 1 k h (omega (arith, below)) in
-          let fs = (class_at (checked p) (suc k)).functions in
-          subst (λ j. MethodGood (checked p) j (method_at (checked p) (suc k) i)) one
-          (each_at (MethodGood (checked p) (1 + k)) fs i (method_at (checked p) (suc k) i) r.1 (item_at fs i no_function less))
+      of_class : ClassesGood (checked std p) (MethodGood (checked std p)) 0 (checked std p).classes → (k i : ℕ) → k < length (checked std p).classes →
+          i < length (class_at (checked std p) k).functions → MethodGood (checked std p) k (method_at (checked std p) k i)
+      of_class h k i below less =
+          let same : 0 + k ≡ k = omega arith in
+          let r = class_good (checked std p) (checked std p).classes 0 k h below in
+          let fs = (class_at (checked std p) k).functions in
+          subst (λ j. MethodGood (checked std p) j (method_at (checked std p) k i)) same
+          (each_at (MethodGood (checked std p) (0 + k)) fs i (method_at (checked std p) k i) r.1 (item_at fs i no_function less))
 
-      class_numbered : ClassesGood (checked p) 1 (classes_of (resolve_declarations (at_the_start p.declarations) p.declarations)) → (k : ℕ) → k < length (checked p).classes →
-          class_named (class_at (checked p) k).name ≡ k
-      class_numbered h zero below = refl
-      class_numbered h (suc k) below =
-          let one : 1 + k ≡ suc k = omega arith in
-          (class_good (checked p) (classes_of (resolve_declarations (at_the_start p.declarations) p.declarations)) 1 k h (omega (arith, below))).0 ∙ one
+      class_numbered : ClassesGood (checked std p) (MethodGood (checked std p)) 0 (checked std p).classes → (k : ℕ) → k < length (checked std p).classes →
+          class_named (class_at (checked std p) k).name ≡ k
+      class_numbered h k below =
+          let same : 0 + k ≡ k = omega arith in (class_good (checked std p) (checked std p).classes 0 k h below).0 ∙ same
 
 -- the program of a source
 pub checked_typed : (p : Checked) → IsChecked p → IsTypedProgram p (layout_of p)
@@ -255,12 +281,12 @@ checked_typed p c =
     let back = sym c.tree.declarations in
     let above = source_above c.source c.tokens _ c.lexed c.tree.spelled in
     let passed = program_passed ws 0 c.tree.grammatical above in
-    let fine = valid_parts c.program c.valid in
+    let fine = valid_parts c.std c.program c.valid in
     let found = subst (λ xs. Fine defined (declarations_found (at_the_start ds) xs)) back fine.0 in
     let once = subst (λ xs. Fine defined (once_only_found xs)) back fine.1 in
     let apart = strangers defined ws c.tree.grammatical passed once in
     let named = all_named (class_texts (map declared ws)) ws (λ t h. behind_true (bytes_eq (codes "std::bad_exception") t) (has_text t (class_names (map declared ws))) h) in
     let alone = declarations_alone defined (class_texts (map declared ws)) ws (at_the_start ds) found apart passed.members named in
     subst (λ q. IsChecked q → IsTypedProgram q (layout_of q)) (sym c.resolved)
-    (program_typed c.program ws c.tree.declarations c.tree.grammatical c.valid (subst (λ xs. Each (DeclarationAlone (class_texts xs)) xs) c.tree.declarations alone)
+    (program_typed c.std c.program ws c.tree.declarations c.tree.grammatical c.valid (subst (λ xs. Each (DeclarationAlone (class_texts xs)) xs) c.tree.declarations alone)
     (all_ordered ws 0 c.tree.grammatical above)) c

@@ -104,7 +104,7 @@ module _ (p : Checked) (checked : IsChecked p) (defined special : List (List ℕ
               | inl q ↦ s.defaults k e q h
               | inr q ↦ built_next p checked special env s.defaults k q.0 (class_entry env c)
                   (subst (λ j. EntryMeant p special j (class_entry env c)) (sym q.0)
-                  (entry_meant p defined special env step.meant c step.placed step.below step.named step.data_members step.functions step.alone step.fine))
+                  (entry_meant p defined special env step.meant c step.own step.placed step.below step.named step.data_members step.functions step.alone step.fine))
                   (needs k q.0) (sym (ap (λ (x : ClassEntry). x.has_default) (sym q.1)) ∙ h)
             ];
       }

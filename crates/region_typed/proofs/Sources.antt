@@ -24,6 +24,8 @@ use Rattle.region_formed.proofs.Declarations.{DeclarationAlone}
 use Rattle.region_formed.proofs.Spelled.{Apart, field_names, MembersApart}
 use Rattle.region_formed.proofs.Lists.{each_map, each_both, each_front, each_back, flipped, behind_true}
 use Rattle.region_formed.proofs.Once.{NotBefore, none_before, differ_by, asked_names}
+use Rattle.cxx_ast.specs.declared.standard.Std.{Std}
+use Rattle.cxx_ast.specs.Standards.{standard_found}
 
 module _ (special : List (List ℕ)) where
   -- a name is none of a class
@@ -172,12 +174,14 @@ declarations_alone defined special (written_function g ∷ ws) env f s m n =
     )
 
 -- a valid program breaks no rule in its declarations, and declares what is declared once only once
-pub valid_parts : (p : Program) → Valid p →
+pub valid_parts : (std : Std) (p : Program) → Valid std p →
     (Fine (definitions p.declarations) (declarations_found (at_the_start p.declarations) p.declarations)) × (Fine (definitions p.declarations) (once_only_found p.declarations))
 unfolding broken
-valid_parts p valid =
+valid_parts std p valid =
     let defined = definitions p.declarations in
     let walked = declarations_found (at_the_start p.declarations) p.declarations in
     let once = once_only_found p.declarations in
     let main = breaks_if (not (has_main p.declarations)) no_main p.length in
-    fine_parts defined walked once (fine_parts defined (walked ++ once) main (nothing_refused defined (walked ++ once ++ main) valid)).0
+    let own = standard_found std p.declarations in
+    let all = fine_parts defined (walked ++ once ++ main) own (nothing_refused defined (walked ++ once ++ main ++ own) valid) in
+    fine_parts defined walked once (fine_parts defined (walked ++ once) main all.0).0

@@ -3,7 +3,8 @@ use Rattle.std.proofs.Common.{◌≡◌, ◌∙◌, ◌<◌, ℕ, ℤ, true, Lis
 use Rattle.std.specs.Prelude.{slice_get, unwrap_or}
 use Rattle.cxx_ast.specs.declared.types.Param.{Param}
 use Rattle.cxx_ast.specs.declared.declaration.FuncKind.TheVariants.{Plain}
-use Rattle.cxx_ast.specs.Plain.{Function, Class, Declaration, class_declaration, global_declaration, function_declaration, Checked}
+use Rattle.cxx_ast.specs.declared.standard.Std.{Std}
+use Rattle.cxx_ast.specs.Plain.{Specification, Function, Class, Declaration, class_declaration, global_declaration, function_declaration, Checked}
 use Rattle.cxx_ast.specs.TypeNames.{signature}
 use Rattle.cxx_ast.specs.Locals.{outermost}
 use Rattle.cxx_ast.specs.FunctionRules.{has_text}
@@ -12,6 +13,7 @@ use Rattle.cxx_ast.specs.Declare.{with_name, next_class, with_signature, class_e
 use Rattle.cxx_ast.specs.Broken.{declaration_found, declarations_found}
 use Rattle.cxx_ast.specs.Grammatical.{Each, IsDataMember, IsMember, IsFunction, IsGrammatical}
 use Rattle.cxx_ast.specs.Checked.{IsChecked, resolve_class_tree, resolve_declarations, classes_of, globals_of}
+use Rattle.cxx_ast.specs.Settled.{allowed_by, destructor_of, given, settle_class, settle_classes}
 use Rattle.class_layout.proofs.Declared.{named_classes}
 use Rattle.region_formed.proofs.Heads.{NameAlone}
 use Rattle.region_formed.proofs.Slots.{behind}
@@ -100,18 +102,22 @@ module _ (p : Checked) (checked : IsChecked p) (defined special : List (List ℕ
         omega (arith, all, size, count),
       )
 
-  behind_a_class : (last : List Signature) (env : Environment) (c : Class) (ds : List Declaration) → Left p checked defined special last env (class_declaration c ∷ ds) →
-      Meant p defined special (declare_behind env (class_declaration c)) → Left p checked defined special last (declare_behind env (class_declaration c)) ds
-  behind_a_class last env c ds l m =
+  behind_a_class : (std : Std) (last : List Signature) (env : Environment) (c : Class) (ds : List Declaration) → Left p checked defined special std last env (class_declaration c ∷ ds) →
+      Meant p defined special (declare_behind env (class_declaration c)) → Left p checked defined special std last (declare_behind env (class_declaration c)) ds
+  behind_a_class std last env c ds l m =
+      let own = given std l.allowed (resolve_class_tree env c) in
+      let next = l.allowed ++ allowed_by (destructor_of own (resolve_class_tree env c).functions) ∷ [] in
       let known = named_classes env c.name.text (class_thing (next_class env)) in
       let size = ap length known in
       let more = length-append (with_name env c.name.text (class_thing (next_class env))).classes (class_entry env c ∷ []) in
-      let longer = length-append l.done (resolve_class_tree env c ∷ []) in
+      let longer = length-append l.done (settle_class own (resolve_class_tree env c) ∷ []) in
       let count = l.count in
       record {
         meant = m;
-        done = l.done ++ (resolve_class_tree env c ∷ []);
-        classes = l.classes ∙ sym (append_assoc l.done (resolve_class_tree env c ∷ []) (classes_of (resolve_declarations (declare_behind env (class_declaration c)) ds)));
+        done = l.done ++ (settle_class own (resolve_class_tree env c) ∷ []);
+        allowed = next;
+        classes = l.classes ∙ sym (append_assoc l.done (settle_class own (resolve_class_tree env c) ∷ [])
+            (settle_classes std next (classes_of (resolve_declarations (declare_behind env (class_declaration c)) ds))));
         count = omega (arith, size, more, longer, count);
         before = l.before;
         globals = l.globals;
@@ -124,9 +130,9 @@ module _ (p : Checked) (checked : IsChecked p) (defined special : List (List ℕ
       let all = length-append before (v ∷ rest) in
       let size = ap length e in omega (arith, all, size, count)
 
-  behind_a_global : (last : List Signature) → Known p checked defined special last → (env : Environment) (n : Name) (v : ℤ) (ds : List Declaration) → Left p checked defined special last env (global_declaration n v ∷ ds) →
-      Left p checked defined special last (declare_behind env (global_declaration n v)) ds
-  behind_a_global last known env n v ds l =
+  behind_a_global : (std : Std) (last : List Signature) → Known p checked defined special last → (env : Environment) (n : Name) (v : ℤ) (ds : List Declaration) → Left p checked defined special std last env (global_declaration n v ∷ ds) →
+      Left p checked defined special std last (declare_behind env (global_declaration n v)) ds
+  behind_a_global std last known env n v ds l =
       let t = global_thing env.globals in
       let below = global_below l.before (globals_of (resolve_declarations (declare_behind env (global_declaration n v)) ds)) v p.globals env.globals l.globals l.globals_count in
       let longer = length-append l.before (v ∷ []) in
@@ -141,6 +147,7 @@ module _ (p : Checked) (checked : IsChecked p) (defined special : List (List ℕ
           definitions = named_definitions env n.text t ∙ m.definitions;
         };
         done = l.done;
+        allowed = l.allowed;
         classes = l.classes;
         count = l.count ∙ sym (ap length (named_classes env n.text t));
         before = l.before ++ (v ∷ []);
@@ -149,9 +156,9 @@ module _ (p : Checked) (checked : IsChecked p) (defined special : List (List ℕ
         last_is = l.last_is;
       }
 
-  behind_a_function : (last : List Signature) → Known p checked defined special last → (env : Environment) (f : Function) (ds : List Declaration) → Left p checked defined special last env (function_declaration f ∷ ds) →
-      Left p checked defined special last (declare_behind env (function_declaration f)) ds
-  behind_a_function last known env f ds l =
+  behind_a_function : (std : Std) (last : List Signature) → Known p checked defined special last → (env : Environment) (f : Function) (ds : List Declaration) → Left p checked defined special std last env (function_declaration f ∷ ds) →
+      Left p checked defined special std last (declare_behind env (function_declaration f)) ds
+  behind_a_function std last known env f ds l =
       let kept = function_keeps p special env (signature env outermost f) l.meant.names in
       let m = l.meant in
       record {
@@ -163,6 +170,7 @@ module _ (p : Checked) (checked : IsChecked p) (defined special : List (List ℕ
           definitions = kept.definitions ∙ m.definitions;
         };
         done = l.done;
+        allowed = l.allowed;
         classes = l.classes;
         count = l.count ∙ sym (ap length kept.classes);
         before = l.before;
@@ -174,7 +182,8 @@ module _ (p : Checked) (checked : IsChecked p) (defined special : List (List ℕ
   -- what is known where a class is declared
   pub record ClassStep (env : Environment) (c : Class) : Type 0 where
     pub meant : Meant p defined special env
-    pub placed : class_at p (length env.classes) ≡ resolve_class_tree env c
+    pub own : Option Specification
+    pub placed : class_at p (length env.classes) ≡ settle_class own (resolve_class_tree env c)
     pub below : length env.classes < length p.classes
     pub named : has_text c.name.text special ≡ true
     pub data_members : Each IsDataMember c.members
@@ -204,28 +213,32 @@ module _ (p : Checked) (checked : IsChecked p) (defined special : List (List ℕ
   Walked env (written_global x v ∷ ws) = Meant p defined special env × Walked (declare_behind env (global_declaration x (start_value v))) ws
   Walked env (written_function f ∷ ws) = FunctionStep env f × Walked (declare_behind env (function_declaration f)) ws
 
-  pub walked : (last : List Signature) → Known p checked defined special last → (ws : List Written) (env : Environment) → Left p checked defined special last env (map declared ws) →
+  pub walked : (std : Std) (last : List Signature) → Known p checked defined special last → (ws : List Written) (env : Environment) → Left p checked defined special std last env (map declared ws) →
       Each IsGrammatical ws → Each (DeclarationAlone special) (map declared ws) → Fine defined (declarations_found env (map declared ws)) → Walked env ws
-  walked last known [] env l w a f = tt
-  walked last known (written_class x is_public base ms ∷ ws) env l w a f =
+  walked std last known [] env l w a f = tt
+  walked std last known (written_class x is_public base ms ∷ ws) env l w a f =
       let c = class_of x base ms in
       let d = class_declaration c in
       let parts = fine_parts defined (declaration_found env d) (declarations_found (declare_behind env d) (map declared ws)) f in
-      let placed = class_placed l.done (classes_of (resolve_declarations (declare_behind env d) (map declared ws))) (resolve_class_tree env c) p.classes (length env.classes) l.classes l.count in
+      let own = given std l.allowed (resolve_class_tree env c) in
+      let placed =
+      class_placed l.done
+      (settle_classes std (l.allowed ++ allowed_by (destructor_of own (resolve_class_tree env c).functions) ∷ []) (classes_of (resolve_declarations (declare_behind env d) (map declared ws))))
+      (settle_class own (resolve_class_tree env c)) p.classes (length env.classes) l.classes l.count in
       let v = data_are ms w.0 in
       let u = functions_are ms w.0 in
-      let next = behind_a_class last env c (map declared ws) l (behind_class p defined special env l.meant c placed.0 placed.1 a.0.1 v u a.0.0 parts.0) in (
-        record { meant = l.meant; placed = placed.0; below = placed.1; named = a.0.1; data_members = v; functions = u; alone = a.0.0; fine = parts.0 },
-        walked last known ws (declare_behind env d) next w.1 a.1 parts.1,
+      let next = behind_a_class std last env c (map declared ws) l (behind_class p defined special env l.meant c own placed.0 placed.1 a.0.1 v u a.0.0 parts.0) in (
+        record { meant = l.meant; own = own; placed = placed.0; below = placed.1; named = a.0.1; data_members = v; functions = u; alone = a.0.0; fine = parts.0 },
+        walked std last known ws (declare_behind env d) next w.1 a.1 parts.1,
       )
-  walked last known (written_global x v ∷ ws) env l w a f =
+  walked std last known (written_global x v ∷ ws) env l w a f =
       let d = global_declaration x (start_value v) in
       let parts = fine_parts defined (declaration_found env d) (declarations_found (declare_behind env d) (map declared ws)) f in
-      (l.meant, walked last known ws (declare_behind env d) (behind_a_global last known env x (start_value v) (map declared ws) l) w.1 a.1 parts.1)
-  walked last known (written_function f ∷ ws) env l w a q =
+      (l.meant, walked std last known ws (declare_behind env d) (behind_a_global std last known env x (start_value v) (map declared ws) l) w.1 a.1 parts.1)
+  walked std last known (written_function f ∷ ws) env l w a q =
       let d = function_declaration f in
       let parts = fine_parts defined (declaration_found env d) (declarations_found (declare_behind env d) (map declared ws)) q in
-      let next = behind_a_function last known env f (map declared ws) l in
+      let next = behind_a_function std last known env f (map declared ws) l in
       let kept = function_keeps p special env (signature env outermost f) l.meant.names in (
         record {
           meant = l.meant;
@@ -237,5 +250,5 @@ module _ (p : Checked) (checked : IsChecked p) (defined special : List (List ℕ
           alone = a.0;
           fine = parts.0;
         },
-        walked last known ws (declare_behind env d) next w.1 a.1 parts.1,
+        walked std last known ws (declare_behind env d) next w.1 a.1 parts.1,
       )

@@ -1,4 +1,5 @@
 -- What passes outwards through a specification or a handler, from how what is inside came out.
+use Rattle.meaning_forms.specs.Statement.{after_try}
 use Rattle.std.proofs.Common.{◌≡◌, ◌∙◌, ℕ, ℤ, Bool, true, false, List, refl, ap, sym, Err, Result as CodeResult}
 use Rattle.std.specs.Prelude.{if◌then◌else◌}
 use Rattle.meaning_forms.specs.Class.{ObjectType, contains}
@@ -8,7 +9,7 @@ use Rattle.meaning_forms.specs.Outcome.{Action, Result, stopped, thrown, stop, F
 use Rattle.meaning_forms.specs.Guard.{allows}
 use Rattle.meaning_forms.specs.Running.{Running}
 use Rattle.meaning_forms.specs.Handler.{goes_on}
-use Rattle.meaning_forms.specs.Specification.{after_unexpected, after_extent, unexpected}
+use Rattle.meaning_forms.specs.Specification.{end_noexcept, after_unexpected, after_extent, unexpected}
 use Rattle.scope_world.specs.declared.outcome.Halt.{Halt}
 use Rattle.scope_world.specs.declared.outcome.Halt.TheVariants.{Thrown, Cancelled, Exited, Aborted, Undefined, OutOfTurns, Deep, NoMemory}
 use Rattle.scope_world.specs.declared.outcome.Flow.{Flow as CodeFlow}
@@ -42,6 +43,21 @@ extent_allowed r types c m n w b e is permitted = rw e (tested (allows r.program
 pub extent_stops : (r : Running) (types : List ObjectType) (c : Context) (m : Result Flow) (n : ℕ) (w v : World) (answer : CodeResult CodeFlow Halt) (b : Bool) → m ≡ stopped (thrown n) w → b ≡ allows r.program types (type_at w n) → b ≡ false
     → GivesBy flow_of (unexpected r types n c w) answer v → GivesBy flow_of (after_extent r types c m) answer v
 extent_stops r types c m n w v answer b e is forbidden g = rw e (untested (allows r.program types (type_at w n)) (stop (thrown n)) (unexpected r types n c) w v answer (sym is ∙ forbidden) g)
+
+-- what is no exception passes what is `noexcept`, and an exception ends the program
+pub noexcept_passed : (r : Running) (c : Context) (m : Result Flow) (h : Halt) (w : World) → throws h ≡ false → Halts m h w → Halts (after_try (end_noexcept {A = Flow} r c) m) h w
+noexcept_passed r c m (Thrown e) w u g = absurd (cc u)
+noexcept_passed r c m (Cancelled n) w u g = ap (after_try (end_noexcept {A = Flow} r c)) g
+noexcept_passed r c m (Exited n) w u g = ap (after_try (end_noexcept {A = Flow} r c)) g
+noexcept_passed r c m Aborted w u g = ap (after_try (end_noexcept {A = Flow} r c)) g
+noexcept_passed r c m Undefined w u g = ap (after_try (end_noexcept {A = Flow} r c)) g
+noexcept_passed r c m OutOfTurns w u g = ap (after_try (end_noexcept {A = Flow} r c)) g
+noexcept_passed r c m Deep w u g = ap (after_try (end_noexcept {A = Flow} r c)) g
+noexcept_passed r c m NoMemory w u g = tt
+
+pub noexcept_stops : (r : Running) (c : Context) (m : Result Flow) (n : ℕ) (w v : World) (answer : CodeResult CodeFlow Halt) → m ≡ stopped (thrown n) w → GivesBy flow_of (end_noexcept {A = Flow} r c n w) answer v
+    → GivesBy flow_of (after_try (end_noexcept {A = Flow} r c) m) answer v
+noexcept_stops r c m n w v answer e g = rw e g
 
 -- what stops an unexpected handler otherwise than by an exception stops all
 pub unexpected_passed : (r : Running) (types : List ObjectType) (kept : Installed) (c : Context) (m : Result ℤ) (h : Halt) (w : World) → throws h ≡ false → Halts m h w

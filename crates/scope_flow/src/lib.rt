@@ -22,7 +22,7 @@ pub use names::{
     Parameters, callee_bound, constructor_parameters, function_named, lvalue_of, names_of,
     parameters_for, receiver,
 };
-pub use specification::after_extent;
+pub use specification::{after_extent, after_noexcept};
 pub use std::alloc::AllocError as NoMemory;
 pub use terminating::terminate;
 pub use throw::{call_module, rethrow, throw_built};

@@ -11,6 +11,7 @@ ghost use Rattle.meaning_forms.specs.Class.{object_type, some_of};
 ghost use Rattle.meaning_forms.specs.Guard.{allows as allows_rule};
 ghost use Rattle.meaning_forms.specs.Specification as rules;
 ghost use Rattle.meaning_forms.specs.World.{type_at};
+ghost use Rattle.meaning_forms.specs.Statement.{after_try};
 ghost use Rattle.meaning_forms.specs.Throw.{throw_new};
 ghost use Rattle.scope_flow.specs.Steps.{passing_on};
 
@@ -204,6 +205,46 @@ pub fn after_extent<G: Outside, C: Calls<G>>(
                     unexpected(calls, c, w, types, number)
                 }
             }
+            _ => Err(halt),
+        },
+    }
+}
+
+// An exception that comes out of what is `noexcept` is entered, and terminate is called.
+#[tactic(auto, using(crate::proofs::Passing::passing))]
+fn end_noexcept<G: Outside, C: Calls<G>>(
+    calls: &C,
+    c: &Context<'_>,
+    w: &mut World<G>,
+    number: u64,
+) -> Result<Flow, Halt>
+    requires { C.answers calls.now c.now.depth }
+    ensures { GivesBy flow_of (rules.end_noexcept (always (checked_of c.now.program.now)) (context_of c.now) number (world_of G.told c.now.depth w.old)) result (world_of G.told c.now.depth w.new) }
+{
+    enter(calls, c, w, number)?;
+    let handled = Numbers::More(number, c.handled);
+    let inner = Context {
+        handled: &handled,
+        ..*c
+    };
+    Err(terminate(calls, &inner, w))
+}
+
+/// Whatever comes out of what is `noexcept` ends the program.
+#[tactic(auto, using(crate::proofs::Passing::passing, crate::proofs::Outward::noexcept_passed, crate::proofs::Outward::noexcept_stops))]
+pub fn after_noexcept<G: Outside, C: Calls<G>>(
+    calls: &C,
+    c: &Context<'_>,
+    w: &mut World<G>,
+    outcome: Result<Flow, Halt>,
+) -> Result<Flow, Halt>
+    requires { C.answers calls.now c.now.depth }
+    ensures { (m : Outcome FlowMeant) → GivesBy flow_of m outcome (world_of G.told c.now.depth w.old) → GivesBy flow_of (after_try (rules.end_noexcept (always (checked_of c.now.program.now)) (context_of c.now)) m) result (world_of G.told c.now.depth w.new) }
+{
+    match outcome {
+        Ok(flow) => Ok(flow),
+        Err(halt) => match halt {
+            Halt::Thrown(number) => end_noexcept(calls, c, w, number),
             _ => Err(halt),
         },
     }

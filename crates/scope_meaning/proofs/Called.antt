@@ -1,17 +1,18 @@
 -- What is called, from the function that is found for it, and the value of a call that is done.
-use Rattle.std.proofs.Common.{◌≡◌, ◌∙◌, ℕ, ℤ, pos, Bool, false, List, [], Option, Some, None, map, refl, sym, subst, Result as CodeResult}
+use Rattle.std.proofs.Common.{◌≡◌, ◌∙◌, ℕ, ℤ, pos, Bool, false, List, [], ◌∷◌, Option, Some, None, map, refl, sym, subst, Result as CodeResult}
 use Rattle.std.specs.Prelude.{◌==◌}
 use Rattle.cxx_ast.specs.declared.types.Param.{Param}
 use Rattle.cxx_ast.specs.declared.types.Ty.{Ty}
 use Rattle.cxx_ast.specs.declared.types.Ty.TheVariants.{Int, Void, Object, IntRef, ObjectRef}
-use Rattle.cxx_ast.specs.Plain.{Function}
+use Rattle.cxx_ast.specs.Plain.{Specification, listed, noexcept, Function}
 use Rattle.meaning_forms.specs.Class.{ObjectType, function_at, method_at, object_type, parts_of}
 use Rattle.meaning_forms.specs.World.{World, Reference}
-use Rattle.meaning_forms.specs.Context.{Context, guarded_by, specification}
+use Rattle.meaning_forms.specs.Context.{Context, catch_all, try_block, guarded_by, specification}
 use Rattle.meaning_forms.specs.Outcome.{Action, Flow, normal, done, pure, ◌>>=◌}
 use Rattle.meaning_forms.specs.Running.{Running, Argument, function, method, declared, implicit_copy}
 use Rattle.meaning_forms.specs.Frame.{Frame, with_arguments}
-use Rattle.meaning_forms.specs.Specification.{after_extent, under_specification}
+use Rattle.meaning_forms.specs.Specification.{after_extent, end_noexcept, under_specification}
+use Rattle.meaning_forms.specs.Statement.{after_try}
 use Rattle.meaning_forms.specs.Call.{body_of, build_parts, construction, copy_part, destroy_parts, destruction, new_frame, run_callee, run_constructor, run_destructor, run_function, source_of, value_at_end, value_returned}
 use Rattle.scope_world.specs.declared.outcome.Halt.{Halt}
 use Rattle.scope_world.specs.declared.outcome.Flow.{Flow as CodeFlow}
@@ -98,12 +99,18 @@ destroyed_so r k i found place f x c w v answer e n m g =
     subst (λ o. GivesBy flow_of (run_destructor r k o x c w) answer v) (sym n ∙ e) (subst (λ h. GivesBy flow_of (under_specification r h.specification (destruction r k h x) c w) answer v) m g)
 
 -- a function without a specification
-pub unguarded : (r : Running) (found listed : Option (List Ty)) (act : Context → Action Flow) (c : Context) (w v : World) (answer : CodeResult CodeFlow Halt)
-    → found ≡ listed → found ≡ None → GivesBy flow_of (act c w) answer v → GivesBy flow_of (under_specification r listed act c w) answer v
-unguarded r found listed act c w v answer e n g = subst (λ o. GivesBy flow_of (under_specification r o act c w) answer v) (sym n ∙ e) g
+pub unguarded : (r : Running) (found spec : Option Specification) (act : Context → Action Flow) (c : Context) (w v : World) (answer : CodeResult CodeFlow Halt)
+    → found ≡ spec → found ≡ None → GivesBy flow_of (act c w) answer v → GivesBy flow_of (under_specification r spec act c w) answer v
+unguarded r found spec act c w v answer e n g = subst (λ o. GivesBy flow_of (under_specification r o act c w) answer v) (sym n ∙ e) g
 
--- and one with it
-pub guarded : (r : Running) (types : List Ty) (found listed : Option (List Ty)) (act : Context → Action Flow) (c : Context) (w v : World) (answer : CodeResult CodeFlow Halt)
-    → found ≡ listed → found ≡ Some types → GivesBy flow_of (after_extent r (map object_type types) c (act (guarded_by (specification (map object_type types)) c) w)) answer v
-    → GivesBy flow_of (under_specification r listed act c w) answer v
-guarded r types found listed act c w v answer e n g = subst (λ o. GivesBy flow_of (under_specification r o act c w) answer v) (sym n ∙ e) g
+-- one with a list
+pub guarded : (r : Running) (types : List Ty) (found spec : Option Specification) (act : Context → Action Flow) (c : Context) (w v : World) (answer : CodeResult CodeFlow Halt)
+    → found ≡ spec → found ≡ Some (listed types) → GivesBy flow_of (after_extent r (map object_type types) c (act (guarded_by (specification (map object_type types)) c) w)) answer v
+    → GivesBy flow_of (under_specification r spec act c w) answer v
+guarded r types found spec act c w v answer e n g = subst (λ o. GivesBy flow_of (under_specification r o act c w) answer v) (sym n ∙ e) g
+
+-- and one that is `noexcept`
+pub ended : (r : Running) (place : ℕ) (b : Bool) (found spec : Option Specification) (act : Context → Action Flow) (c : Context) (w v : World) (answer : CodeResult CodeFlow Halt)
+    → found ≡ spec → found ≡ Some (noexcept place b) → GivesBy flow_of (after_try (end_noexcept r c) (act (guarded_by (try_block (catch_all ∷ [])) c) w)) answer v
+    → GivesBy flow_of (under_specification r spec act c w) answer v
+ended r place b found spec act c w v answer e n g = subst (λ o. GivesBy flow_of (under_specification r o act c w) answer v) (sym n ∙ e) g

@@ -8,9 +8,9 @@ use Rattle.cxx_ast.specs.declared.types.Ty.{Ty}
 use Rattle.cxx_ast.specs.declared.types.Ty.TheVariants.{Int, Void, Object, IntRef, ObjectRef}
 use Rattle.cxx_ast.specs.declared.declaration.FuncKind.{FuncKind}
 use Rattle.cxx_ast.specs.declared.declaration.FuncKind.TheVariants.{Plain, Method, Constructor, Destructor}
-use Rattle.cxx_ast.specs.Plain.{Function, Class, Declaration, class_declaration, global_declaration, function_declaration, Program, Checked, Statements, Initialiser}
+use Rattle.cxx_ast.specs.Plain.{Function, Class, Declaration, class_declaration, global_declaration, function_declaration, Program, Checked, Statements, Initialiser, Specification}
 use Rattle.cxx_ast.specs.Broken.{Valid, broken, declaration_found, declarations_found, has_main, function_name_found}
-use Rattle.cxx_ast.specs.Checked.{resolve_methods, resolve_declarations, classes_of, functions_of, checked, IsChecked}
+use Rattle.cxx_ast.specs.Checked.{resolve_methods, resolve_declarations, classes_of, functions_of, checked, IsChecked, bad_exception}
 use Rattle.cxx_ast.specs.ClassRules.{method_found, class_rules_found}
 use Rattle.cxx_ast.specs.Declare.{at_the_start, definitions, declare_behind, head_environment, head_scope, next_class, class_entry, body_environment, function_scope}
 use Rattle.cxx_ast.specs.DeclaredNames.{once_only_found}
@@ -35,6 +35,10 @@ use Rattle.source_bounds.proofs.CallRules.{Good, all_good, construction_good}
 use Rattle.source_bounds.proofs.FreeNames.{InitialisersFree, BodyFree, FunctionFree, FunctionsFree, AllWrittenFree, source_free}
 use Rattle.source_bounds.proofs.Arities.{good_args, statements_calls}
 use Rattle.source_bounds.proofs.Limits.{member_body, methods_in, IsMethod, same_body, class_methods}
+use Rattle.cxx_ast.specs.declared.standard.Std.{Std}
+use Rattle.cxx_ast.specs.Settled.{settle_function}
+use Rattle.cxx_ast.specs.Standards.{standard_found}
+use Rattle.cxx_ast.proofs.Settled.{all_functions, all_classes}
 
 abbrev Sound : List Finding → Type 0
 Sound found = is_sound found ≡ true
@@ -211,15 +215,25 @@ declarations_fit (written_function f ∷ ws) env g free h =
           (function_fits env outermost env' None b f (sym (same_body env' params f.body) ∙ there) (plain_built env' f f.kind g.0.1 g.0.0.form) free.0 sound)) rest.own;
     }
 
-program_fits : (p : Program) (ws : List Written) → map declared ws ≡ p.declarations → Each IsGrammatical ws → AllWrittenFree ws → Valid p → BuiltinsTakeFew (checked p)
+-- no call is in a specification
+still_fits : (own : Option Specification) (f : Function) → FunctionCallsFit f → FunctionCallsFit (settle_function own f)
+still_fits own f h = record { initialisers = h.initialisers; body = h.body }
+
+program_fits : (std : Std) (p : Program) (ws : List Written) → map declared ws ≡ p.declarations → Each IsGrammatical ws → AllWrittenFree ws → Valid std p → BuiltinsTakeFew (checked std p)
 unfolding checked broken
-program_fits p ws e g free valid =
+program_fits std p ws e g free valid =
     let walked = declarations_found (at_the_start p.declarations) p.declarations in
     let once = once_only_found p.declarations in
     let main = breaks_if (not (has_main p.declarations)) no_main p.length in
-    let sound = front_sound walked once (front_sound (walked ++ once) main (nothing_refused (definitions p.declarations) (walked ++ once ++ main) valid)) in
+    let own = standard_found std p.declarations in
+    let right = nothing_refused (definitions p.declarations) (walked ++ once ++ main ++ own) valid in
+    let sound = front_sound walked once (front_sound (walked ++ once) main (front_sound (walked ++ once ++ main) own right)) in
     let all = go p.declarations (at_the_start p.declarations) e sound in
-    record { functions = all.own; methods = (tt, all.methods) }
+    let ds = resolve_declarations (at_the_start p.declarations) p.declarations in
+    record {
+      functions = all_functions FunctionCallsFit still_fits None (functions_of ds) all.own;
+      methods = all_classes (λ c. AllByRecursion FunctionCallsFit c.functions) (λ o c. all_functions FunctionCallsFit still_fits o c.functions) std [] (bad_exception ∷ classes_of ds) (tt, all.methods);
+    }
   where
     go : (ds : List Declaration) (env : Environment) → map declared ws ≡ ds → Sound (declarations_found env ds) →
         AllCalls (classes_of (resolve_declarations env ds)) (functions_of (resolve_declarations env ds))
@@ -230,4 +244,4 @@ program_fits p ws e g free valid =
 pub builtins_take_few : (p : Checked) → IsChecked p → BuiltinsTakeFew p
 builtins_take_few p h =
     subst BuiltinsTakeFew (sym h.resolved)
-    (program_fits h.program h.tree.written h.tree.declarations h.tree.grammatical (source_free h.tokens h.tree.written h.tree.spelled) h.valid)
+    (program_fits h.std h.program h.tree.written h.tree.declarations h.tree.grammatical (source_free h.tokens h.tree.written h.tree.spelled) h.valid)

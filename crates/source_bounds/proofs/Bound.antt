@@ -1,12 +1,11 @@
 -- Names that are bound change no number of tokens.
-use Rattle.std.proofs.Common.{◌≡◌, ℕ, ◌+◌, ◌*◌, ◌≤◌, Bool, true, false, List, [], ◌∷◌, map, length, Option, Some, None, if◌then◌else◌, refl, ap, arith}
+use Rattle.std.proofs.Common.{◌≡◌, ℕ, ◌+◌, ◌*◌, ◌≤◌, Bool, true, false, List, [], ◌∷◌, ◌++◌, map, length, Option, Some, None, if◌then◌else◌, refl, ap, arith}
 use Rattle.std.proofs.lemmas.List.{length-map}
 use Rattle.cxx_ast.specs.declared.name.Bound.{Bound}
-use Rattle.cxx_ast.specs.declared.name.Bound.TheVariants.{Func, Method}
+use Rattle.cxx_ast.specs.declared.name.Bound.TheVariants.{Func, Method as MethodBound}
 use Rattle.cxx_ast.specs.declared.name.Name.{Name}
-use Rattle.cxx_ast.specs.declared.types.Ty.{Ty}
 use Rattle.cxx_ast.specs.declared.types.Param.{Param}
-use Rattle.cxx_ast.specs.Plain.{Expression, number, path, paren, unary, binary, call, std_call, Expressions, no_expressions, expression_then, Statement, block, empty, if_else, while, return, break, continue, throw, try, assign, evaluate, local_int, local_ref, local_object, Else, no_else, else_do, Statements, no_statements, statement_then, Handlers, no_handlers, handler_then, Initialiser, Function, Class, Declaration, class_declaration, global_declaration, function_declaration}
+use Rattle.cxx_ast.specs.Plain.{Expression, number, path, paren, unary, binary, call, std_call, Expressions, no_expressions, expression_then, Statement, block, empty, if_else, while, return, break, continue, throw, try, assign, evaluate, local_int, local_ref, local_object, Else, no_else, else_do, Statements, no_statements, statement_then, Handlers, no_handlers, handler_then, Initialiser, Function, Class, Declaration, class_declaration, global_declaration, function_declaration, Specification, listed, noexcept}
 use Rattle.cxx_ast.specs.Environment.{Environment, Scope}
 use Rattle.cxx_ast.specs.TypeNames.{has_body}
 use Rattle.cxx_ast.specs.Locals.{inner, after, handler_scope, caught_count, locals_in, locals_of, scope_behind, declare_param, declare_params, outermost}
@@ -14,6 +13,11 @@ use Rattle.cxx_ast.specs.Resolve.{function_number, resolve_expression, resolve_e
 use Rattle.cxx_ast.specs.Declare.{next_class, head_environment, head_scope, declare_behind, body_environment, function_scope}
 use Rattle.cxx_ast.specs.Checked.{resolve_base, resolve_fields, resolve_methods, resolve_class_tree, resolve_declarations, classes_of, globals_of, functions_of}
 use Rattle.source_bounds.specs.LeastTokens.{tokens_in, tokens_in_all, tokens_in_value, statement_tokens, else_tokens, statements_tokens, handlers_tokens, initialisers_tokens, parameters_tokens, specification_tokens, body_tokens, function_tokens, functions_tokens, base_tokens, class_tokens, classes_tokens, declarations_tokens}
+use Rattle.cxx_ast.specs.declared.standard.Std.{Std}
+use Rattle.cxx_ast.specs.declared.declaration.FuncKind.{FuncKind}
+use Rattle.cxx_ast.specs.declared.declaration.FuncKind.TheVariants.{Plain, Method, Constructor, Destructor}
+use Rattle.cxx_ast.specs.Settled.{Allowed, allowed_by, destructor_of, given, settled, settle_function, settle_classes, excess}
+use Rattle.cxx_ast.proofs.Settled.{given_few, settled_few}
 
 mutual
   expression_kept : (env : Environment) (sc : Scope) (e : Expression) → tokens_in (resolve_expression env sc e) ≡ tokens_in e
@@ -67,9 +71,19 @@ pub params_kept : (env : Environment) (sc : Scope) (ps : List Param) → length 
 params_kept env sc [] = refl
 params_kept env sc (p ∷ ps) = omega (arith, params_kept env (declare_param env p sc) ps)
 
-specification_kept : (env : Environment) (sc : Scope) (o : Option (List Ty)) → specification_tokens (resolve_specification env sc o) ≡ specification_tokens o
-specification_kept env sc None = refl
-specification_kept env sc (Some ts) = omega (arith, length-map ts (resolve_type env sc))
+specification_kept : (env : Environment) (sc : Scope) (k : FuncKind) (o : Option Specification) → specification_tokens k (resolve_specification env sc o) ≡ specification_tokens k o
+specification_kept env sc Plain None = refl
+specification_kept env sc Plain (Some (listed ts)) = omega (arith, length-map ts (resolve_type env sc))
+specification_kept env sc Plain (Some (noexcept place b)) = refl
+specification_kept env sc Method None = refl
+specification_kept env sc Method (Some (listed ts)) = omega (arith, length-map ts (resolve_type env sc))
+specification_kept env sc Method (Some (noexcept place b)) = refl
+specification_kept env sc Constructor None = refl
+specification_kept env sc Constructor (Some (listed ts)) = omega (arith, length-map ts (resolve_type env sc))
+specification_kept env sc Constructor (Some (noexcept place b)) = refl
+specification_kept env sc Destructor None = refl
+specification_kept env sc Destructor (Some (listed ts)) = omega (arith, length-map ts (resolve_type env sc))
+specification_kept env sc Destructor (Some (noexcept place b)) = refl
 
 initialisers_kept : (env : Environment) (sc : Scope) (is : List Initialiser) → initialisers_tokens (map (resolve_initialiser env sc) is) ≡ initialisers_tokens is
 initialisers_kept env sc [] = refl
@@ -86,7 +100,7 @@ function_kept head heads env sc b f =
     omega (
       arith,
       ap parameters_tokens (params_kept head heads f.parameters),
-      specification_kept head heads f.specification,
+      specification_kept head heads f.kind f.specification,
       initialisers_kept env there f.initialisers,
       body_kept env there f.body,
     )
@@ -97,7 +111,7 @@ methods_kept env c i (f ∷ fs) =
     let env' = declare_behind env (class_declaration c) in
     omega (
       arith,
-      function_kept (head_environment env c) (head_scope env f.name) env' (function_scope env' (Some (next_class env)) f.result) (Method (next_class env) i) f,
+      function_kept (head_environment env c) (head_scope env f.name) env' (function_scope env' (Some (next_class env)) f.result) (MethodBound (next_class env) i) f,
       methods_kept env c (i + 1) fs,
     )
 
@@ -134,3 +148,33 @@ declarations_kept env (function_declaration f ∷ ds) =
       function_kept env outermost env' sc b f,
       declarations_kept (declare_behind env (function_declaration f)) ds,
     )
+
+-- specifications that count have no more tokens
+
+settled_tokens : (own : Option Specification) → excess own ≡ 0 → (k : FuncKind) (o : Option Specification) → specification_tokens k (settled own k o) ≤ specification_tokens k o
+settled_tokens own e Destructor o = settled_few own Destructor o e
+settled_tokens own e Plain None = omega arith
+settled_tokens own e Plain (Some (listed ts)) = omega arith
+settled_tokens own e Plain (Some (noexcept place true)) = omega arith
+settled_tokens own e Plain (Some (noexcept place false)) = omega arith
+settled_tokens own e Method None = omega arith
+settled_tokens own e Method (Some (listed ts)) = omega arith
+settled_tokens own e Method (Some (noexcept place true)) = omega arith
+settled_tokens own e Method (Some (noexcept place false)) = omega arith
+settled_tokens own e Constructor None = omega arith
+settled_tokens own e Constructor (Some (listed ts)) = omega arith
+settled_tokens own e Constructor (Some (noexcept place true)) = omega arith
+settled_tokens own e Constructor (Some (noexcept place false)) = omega arith
+
+pub function_settled : (own : Option Specification) → excess own ≡ 0 → (f : Function) → function_tokens (settle_function own f) ≤ function_tokens f
+function_settled own e f = omega (arith, settled_tokens own e f.kind f.specification)
+
+pub functions_settled : (own : Option Specification) (fs : List Function) → excess own ≡ 0 → functions_tokens (map (settle_function own) fs) ≤ functions_tokens fs
+functions_settled own [] e = omega arith
+functions_settled own (f ∷ fs) e = omega (arith, function_settled own e f, functions_settled own fs e)
+
+pub classes_settled : (std : Std) (before : List Allowed) (cs : List Class) → classes_tokens (settle_classes std before cs) ≤ classes_tokens cs
+classes_settled std before [] = omega arith
+classes_settled std before (c ∷ cs) =
+    let own = given std before c in
+    omega (arith, functions_settled own c.functions (given_few std before c), classes_settled std (before ++ allowed_by (destructor_of own c.functions) ∷ []) cs)

@@ -11,11 +11,11 @@ use Rattle.cxx_ast.specs.declared.token.Token.{Token}
 use Rattle.cxx_ast.specs.declared.token.TokenKind.TheVariants as kind
 use Rattle.cxx_ast.specs.declared.keyword.Keyword.TheVariants as keyword
 use Rattle.cxx_ast.specs.declared.mark.Mark.TheVariants as sign
-use Rattle.cxx_ast.specs.Plain.{Expression, number, path, paren, unary, binary, call, std_call, Expressions, no_expressions, expression_then, Statement, block, empty, if_else, while, return, break, continue, throw, try, assign, evaluate, local_int, local_ref, local_object, Else, no_else, else_do, Statements, no_statements, statement_then, Handlers, no_handlers, handler_then, Initialiser, Function}
+use Rattle.cxx_ast.specs.Plain.{Expression, number, path, paren, unary, binary, call, std_call, Expressions, no_expressions, expression_then, Statement, block, empty, if_else, while, return, break, continue, throw, try, assign, evaluate, local_int, local_ref, local_object, Else, no_else, else_do, Statements, no_statements, statement_then, Handlers, no_handlers, handler_then, Initialiser, Function, Specification, listed, noexcept}
 use Rattle.cxx_ast.specs.Operator.{binary_mark}
 use Rattle.cxx_ast.specs.Piece.{Piece, anywhere, placed, named, mark, word_at, Fit}
 use Rattle.cxx_ast.specs.Spelling.{is_bad_exception, spell_class, spell_const, spell_type, spell_name, spell_param, first_at, spell_dots, spell_path, spell_expression, spell_arguments, spell_more, spell_value, spell_start, spell_object_arguments, spell_caught, spell_statement, spell_else, spell_statements, spell_handlers}
-use Rattle.cxx_ast.specs.Written.{Member, data_member, function_member, Start, no_start, start, Written, written_class, written_global, written_function, functions, spell_more_params, spell_params, spell_more_types, spell_types, spell_specification, spell_more_initialisers, spell_initialisers, spell_body, spell_result, spell_function, spell_tilde, spell_members, spell_public, spell_base, spell_minus, spell_start_value, spell_declaration, spell_declarations}
+use Rattle.cxx_ast.specs.Written.{Member, data_member, function_member, Start, no_start, start, Written, written_class, written_global, written_function, functions, spell_more_params, spell_params, spell_more_types, spell_types, spell_specification, spell_more_initialisers, spell_initialisers, spell_body, spell_result, spell_function, spell_tilde, spell_members, spell_public, spell_base, spell_minus, spell_start_value, spell_declaration, spell_declarations, in_full}
 
 -- names of pieces are not bound
 abbrev AreFree : List Piece → Type 0
@@ -248,9 +248,12 @@ types_free : (ts : List Ty) (after : List Piece) → AreFree (spell_types ts aft
 types_free [] after h = h
 types_free (t ∷ ts) after h = more_types_free ts after (type_free t (spell_more_types ts after) h)
 
-specification_free : (o : Option (List Ty)) (after : List Piece) → AreFree (spell_specification o after) → AreFree after
-specification_free None after h = h
-specification_free (Some ts) after h = types_free ts (mark sign.CloseParen ∷ after) h
+specification_free : (full : Bool) (o : Option Specification) (after : List Piece) → AreFree (spell_specification full o after) → AreFree after
+specification_free full None after h = h
+specification_free full (Some (listed ts)) after h = types_free ts (mark sign.CloseParen ∷ after) h
+specification_free full (Some (noexcept place false)) after h = h
+specification_free true (Some (noexcept place true)) after h = h
+specification_free false (Some (noexcept place true)) after h = h
 
 more_initialisers_free : (is : List Initialiser) (after : List Piece) → AreFree (spell_more_initialisers is after) → InitialisersFree is × AreFree after
 more_initialisers_free [] after h = (tt, h)
@@ -280,9 +283,9 @@ function_free : (f : Function) (after : List Piece) → AreFree (spell_function 
 function_free f after h =
     let body = spell_body f.body after in
     let inits = spell_initialisers f.initialisers body in
-    let specified = spell_specification f.specification inits in
+    let specified = spell_specification (in_full f) f.specification inits in
     let params = params_free f.parameters (mark sign.CloseParen ∷ specified) (result_free f.kind f.result (named f.name ∷ mark sign.OpenParen ∷ spell_params f.parameters (mark sign.CloseParen ∷ specified)) h).1 in
-    let first = initialisers_free f.initialisers body (specification_free f.specification inits params) in
+    let first = initialisers_free f.initialisers body (specification_free (in_full f) f.specification inits params) in
     let second = body_free f.body after first.1 in
     (record { initialisers = first.0; body = second.0 }, second.1)
 

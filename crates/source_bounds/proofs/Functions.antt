@@ -1,25 +1,26 @@
 -- What functions become. A constructor builds each part of its object, and a destructor destroys it.
-use Rattle.std.proofs.Common.{◌≡◌, ℕ, zero, suc, ◌+◌, ◌*◌, ◌≤◌, Bool, true, false, ◌==◌, List, [], ◌∷◌, ◌++◌, map, length, Option, Some, None, if◌then◌else◌, refl, arith}
+use Rattle.std.proofs.Common.{◌≡◌, ℕ, zero, suc, ◌+◌, ◌*◌, ◌≤◌, Bool, true, false, ◌==◌, List, [], ◌∷◌, map, length, Option, Some, None, if◌then◌else◌, refl, arith}
 use Rattle.std.specs.Prelude.{nat_lt}
 use Rattle.cxx_ast.specs.declared.types.Ty.{Ty}
 use Rattle.cxx_ast.specs.declared.declaration.FuncKind.{FuncKind}
 use Rattle.cxx_ast.specs.declared.declaration.FuncKind.TheVariants.{Plain, Method, Constructor, Destructor}
-use Rattle.cxx_ast.specs.Plain.{Checked, Function, Expressions, no_expressions, expression_then, Statements, Initialiser}
+use Rattle.cxx_ast.specs.Plain.{Checked, Function, Expressions, no_expressions, expression_then, Statements, Initialiser, Specification, listed, noexcept}
 use Rattle.meaning_forms.specs.Class.{ObjectType, int_type, class_type, object_type, parts_of}
 use Rattle.meaning_forms.specs.Running.{destructor}
 use Rattle.meaning_forms.specs.Call.{place_named}
 use Rattle.meaning_forms.specs.Call.{initialiser_for, statements_in}
-use Rattle.region_forms.specs.Form.{Region, in_order, destroy_part, destroy_scope}
+use Rattle.region_forms.specs.Form.{Region, in_order, destroy_part, destroy_scope, builtin, no_arguments, call, enter, op, no_clauses, protect, leave_handler}
 use Rattle.region_forms.specs.Numbering.{number_of, type_number}
-use Rattle.region_forms.specs.LowerExpression.{Lowering, first_temporary}
+use Rattle.region_forms.specs.LowerExpression.{Lowering, first_temporary, exception_slot}
 use Rattle.region_forms.specs.LowerStatement.{statements, nothing_more}
-use Rattle.region_forms.specs.LowerProgram.{part_place, limited, build_parts, destroy_parts, default_part, copy_part, initial_value, initial_part, last_result, body_of}
+use Rattle.region_forms.specs.LowerProgram.{part_place, limited, build_parts, destroy_parts, default_part, copy_part, initial_value, initial_part, last_result, body_of, ending}
 use Rattle.source_bounds.specs.LeastTokens.{tokens_in_all, tokens_given, initialisers_tokens, statements_tokens}
 use Rattle.source_bounds.specs.NamedTypes.{HaveRows, SpecificationNamesRows, BodyNamesRows, AllNameRows, FunctionNamesRows}
-use Rattle.source_bounds.proofs.Budget.{Fine, Whole, AreNamed, no_more, within, whole_within, in_front, behind, alone, one_op, ordered, protected, limited_to}
+use Rattle.source_bounds.proofs.Budget.{Fine, Whole, AreNamed, no_more, within, whole_within, in_front, behind, alone, one_op, ordered, protected, limited_to, FineClauses, guarded, clauses_within, no_clause, one_clause}
 use Rattle.source_bounds.proofs.Expressions.{built_fine}
 use Rattle.source_bounds.proofs.Statements.{Rest, valued, nothing_fine, statements_fine}
 use Rattle.source_bounds.proofs.Sums.{sum_from, one_changed}
+use Rattle.cxx_ast.specs.declared.name.Builtin.TheVariants.{Terminate}
 
 -- the words of building the parts from the j-th on
 abbrev parts_words : (ℕ → ℕ) → ℕ → List ObjectType → ℕ
@@ -55,9 +56,10 @@ initialised_words p is j [] = omega arith
 initialised_words p is j (t ∷ types) = omega (arith, initialised_words p is (j + 1) types)
 
 -- a specification
-abbrev pub specification_words : Option (List Ty) → ℕ
+abbrev pub specification_words : Option Specification → ℕ
 specification_words None = 0
-specification_words (Some types) = 273
+specification_words (Some (listed types)) = 273
+specification_words (Some (noexcept place b)) = 573
 
 -- what a kind of function does beside its statements
 abbrev pub kind_words : FuncKind → ℕ → Function → ℕ
@@ -133,15 +135,30 @@ module _ (rows : ℕ) (l : Lowering) where
   bodied Plain k f d h = within (0 + 128 * written_tokens f) (own_statements f h d) (omega arith)
   bodied Method k f d h = within (0 + 128 * written_tokens f) (own_statements f h d) (omega arith)
 
-  listed : (types : List Ty) → HaveRows rows types → AreNamed rows (map (λ t. t + 1) (map (λ t. type_number (object_type t)) types))
-  listed [] h = tt
-  listed (t ∷ types) h = (h.0, listed types h.1)
+  listed_named : (types : List Ty) → HaveRows rows types → AreNamed rows (map (λ t. t + 1) (map (λ t. type_number (object_type t)) types))
+  listed_named [] h = tt
+  listed_named (t ∷ types) h = (h.0, listed_named types h.1)
 
-  limited_cost : (o : Option (List Ty)) (act : ℕ → List Region) (m d : ℕ) → SpecificationNamesRows rows o → Rest rows l 0 m act →
-      Whole rows 0 d (m + specification_words o) (limited o act d)
+  -- the one clause of what is `noexcept`
+  ending_cost : (d : ℕ) → FineClauses rows 0 (d + 1) 567 (ending l)
+  ending_cost d =
+      let terminate = op (call (builtin Terminate) no_arguments) in
+      let inside = in_order (terminate ∷ []) in
+      let own = protected (d + 2) (d + 3) inside leave_handler (omega arith)
+      (ordered (d + 3) (d + 4) (terminate ∷ []) (omega arith) (alone (one_op rows 0 (d + 4) (call (builtin Terminate) no_arguments)))) in
+      let body = within 558 (in_front (one_op rows 0 (d + 2) (enter (exception_slot l))) (alone own)) (omega arith) in
+      clauses_within 567
+      (one_clause None (exception_slot l) (in_order (op (enter (exception_slot l)) ∷ protect inside leave_handler ∷ [])) no_clauses (omega arith)
+      (ordered (d + 1) (d + 2) (op (enter (exception_slot l)) ∷ protect inside leave_handler ∷ []) (omega arith) body) (no_clause rows 0 (d + 1) 0)) (omega arith)
+
+  limited_cost : (o : Option Specification) (act : ℕ → List Region) (m d : ℕ) → SpecificationNamesRows rows o → Rest rows l 0 m act →
+      Whole rows 0 d (m + specification_words o) (limited l o act d)
   limited_cost None act m d h r = whole_within (m + 0) (ordered d (d + 1) (act (d + 1)) (omega arith) (r (d + 1))) (omega arith)
-  limited_cost (Some types) act m d h r =
-      limited_to d (d + 1) (in_order (act (d + 2))) (map (λ t. type_number (object_type t)) types) (omega arith) (listed types h)
+  limited_cost (Some (noexcept place b)) act m d h r =
+      whole_within (m + 573)
+      (guarded d (d + 1) (in_order (act (d + 2))) (ending l) (omega arith) (ordered (d + 1) (d + 2) (act (d + 2)) (omega arith) (r (d + 2))) (ending_cost d)) (omega arith)
+  limited_cost (Some (listed types)) act m d h r =
+      limited_to d (d + 1) (in_order (act (d + 2))) (map (λ t. type_number (object_type t)) types) (omega arith) (listed_named types h)
       (ordered (d + 1) (d + 2) (act (d + 2)) (omega arith) (r (d + 2)))
 
   last_cost : (is_main : Bool) (d : ℕ) → Fine rows 0 d 4 (last_result l is_main)
@@ -150,7 +167,7 @@ module _ (rows : ℕ) (l : Lowering) where
 
   pub whole_body : (is_main : Bool) (k : ℕ) (f : Function) → FunctionNamesRows rows f →
       Whole rows 0 0 (4 + (kind_words f.kind (length (parts_of l.program k)) f + 128 * written_tokens f + specification_words f.specification))
-      (in_order (limited f.specification (body_of l f.kind k f) 1 ∷ last_result l is_main))
+      (in_order (limited l f.specification (body_of l f.kind k f) 1 ∷ last_result l is_main))
   whole_body is_main k f h =
       ordered 0 1 _ refl (within (4 + (kind_words f.kind (length (parts_of l.program k)) f + 128 * written_tokens f + specification_words f.specification)) (in_front
       (limited_cost f.specification (body_of l f.kind k f) (kind_words f.kind (length (parts_of l.program k)) f + 128 * written_tokens f) 1 h.specification (λ d. bodied f.kind k f d h))
@@ -172,9 +189,9 @@ module _ (rows : ℕ) (l : Lowering) where
   destructor_whole k =
       whole_within (47 * length (parts_of l.program k)) (ordered 0 1 _ refl (destroyed k 0 (parts_of l.program k) nothing_more 0 1 (nothing_fine rows l 0))) (omega arith)
 
--- What a constructor or a destructor of so many parts has beside what its tokens pay for. A constructor with 15 parameters or more pays for
+-- What a constructor or a destructor of so many parts has beside what its tokens pay for. A constructor with 16 parameters or more pays for
 -- all parts that an object has at most.
 abbrev pub extra_words : FuncKind → ℕ → ℕ → ℕ
-extra_words Constructor parts n = if nat_lt n 15 then 16 * parts else 0
+extra_words Constructor parts n = if nat_lt n 16 then 16 * parts else 0
 extra_words Destructor parts n = 47 * parts
 extra_words _ parts n = 0

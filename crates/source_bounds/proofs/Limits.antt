@@ -7,9 +7,9 @@ use Rattle.cxx_ast.specs.declared.name.Bound.{Bound}
 use Rattle.cxx_ast.specs.declared.name.Bound.TheVariants.{Free, Func, Method as MethodBound}
 use Rattle.cxx_ast.specs.declared.declaration.FuncKind.{FuncKind}
 use Rattle.cxx_ast.specs.declared.declaration.FuncKind.TheVariants.{Plain, Method, Constructor, Destructor}
-use Rattle.cxx_ast.specs.Plain.{Function, Class, Declaration, class_declaration, global_declaration, function_declaration, Program, Checked, Statements}
+use Rattle.cxx_ast.specs.Plain.{Function, Class, Declaration, class_declaration, global_declaration, function_declaration, Program, Checked, Statements, Specification}
 use Rattle.cxx_ast.specs.Broken.{Valid, broken, declaration_found, declarations_found, has_main, function_name_found}
-use Rattle.cxx_ast.specs.Checked.{resolve_methods, resolve_declarations, classes_of, functions_of, checked, IsChecked}
+use Rattle.cxx_ast.specs.Checked.{resolve_methods, resolve_declarations, classes_of, functions_of, checked, IsChecked, bad_exception}
 use Rattle.cxx_ast.specs.ClassRules.{is_taken, base_found, field_found, method_names, twice_among, specials_found, size_found, method_found, class_rules_found}
 use Rattle.cxx_ast.specs.Declare.{at_the_start, definitions, declare_behind, head_environment, head_scope, next_class, class_entry, name_of, body_environment, function_scope}
 use Rattle.cxx_ast.specs.DeclaredNames.{once_only_found}
@@ -27,8 +27,12 @@ use Rattle.cxx_ast.specs.TypeNames.{has_body, head_types_found, signature}
 use Rattle.cxx_ast.specs.Written.{Member, data_member, function_member, Written, written_class, written_global, written_function, data_members, functions, start_value, declared}
 use Rattle.class_layout.proofs.Sound.{front_sound, back_sound, not_broken, nothing_refused}
 use Rattle.source_bounds.specs.LeastTokens.{function_tokens}
-use Rattle.source_bounds.proofs.Bound.{function_kept}
+use Rattle.source_bounds.proofs.Bound.{function_kept, function_settled}
 use Rattle.source_bounds.proofs.Spelled.{function_spelled}
+use Rattle.cxx_ast.specs.declared.standard.Std.{Std}
+use Rattle.cxx_ast.specs.Settled.{Allowed, allowed_by, destructor_of, given, settle_function, settle_classes, excess}
+use Rattle.cxx_ast.specs.Standards.{standard_found}
+use Rattle.cxx_ast.proofs.Settled.{given_few}
 
 abbrev Short : List Function → Type 0
 Short fs = AllByRecursion (λ f. function_tokens f ≤ 2000) fs
@@ -136,16 +140,33 @@ declarations_short (written_function f ∷ ws) env g h =
           (λ there. function_short env outermost env' None sc b f g.0.0 (sym (same_body env' params f.body) ∙ there) sound) rest.own;
     }
 
-program_short : (p : Program) (ws : List Written) → map declared ws ≡ p.declarations → Each IsGrammatical ws → Valid p → AllShort (checked p).classes (checked p).functions
+-- so has one with the specification that counts
+functions_still_short : (own : Option Specification) (fs : List Function) → excess own ≡ 0 → Short fs → Short (map (settle_function own) fs)
+functions_still_short own [] e h = tt
+functions_still_short own (f ∷ fs) e h = (omega (arith, function_settled own e f, h.0), functions_still_short own fs e h.1)
+
+classes_still_short : (std : Std) (before : List Allowed) (cs : List Class) → AllByRecursion (λ c. Short c.functions) cs → AllByRecursion (λ c. Short c.functions) (settle_classes std before cs)
+classes_still_short std before [] h = tt
+classes_still_short std before (c ∷ cs) h =
+    let own = given std before c in
+    (functions_still_short own c.functions (given_few std before c) h.0, classes_still_short std (before ++ allowed_by (destructor_of own c.functions) ∷ []) cs h.1)
+
+program_short : (std : Std) (p : Program) (ws : List Written) → map declared ws ≡ p.declarations → Each IsGrammatical ws → Valid std p → AllShort (checked std p).classes (checked std p).functions
 unfolding checked broken
-program_short p ws e g valid =
+program_short std p ws e g valid =
     let walked = declarations_found (at_the_start p.declarations) p.declarations in
     let once = once_only_found p.declarations in
     let main = breaks_if (not (has_main p.declarations)) no_main p.length in
-    let sound = front_sound walked once (front_sound (walked ++ once) main (nothing_refused (definitions p.declarations) (walked ++ once ++ main) valid)) in
+    let own = standard_found std p.declarations in
+    let right = nothing_refused (definitions p.declarations) (walked ++ once ++ main ++ own) valid in
+    let sound = front_sound walked once (front_sound (walked ++ once) main (front_sound (walked ++ once ++ main) own right)) in
     let env = at_the_start p.declarations in
     let all = go p.declarations env e sound in
-    record { methods = (tt, all.methods); own = all.own }
+    let ds = resolve_declarations env p.declarations in
+    record {
+      methods = classes_still_short std [] (bad_exception ∷ classes_of ds) (tt, all.methods);
+      own = functions_still_short None (functions_of ds) refl all.own;
+    }
   where
     go : (ds : List Declaration) (env : Environment) → map declared ws ≡ ds → is_sound (declarations_found env ds) ≡ true →
         AllShort (classes_of (resolve_declarations env ds)) (functions_of (resolve_declarations env ds))
@@ -155,4 +176,4 @@ program_short p ws e g valid =
 
 pub checked_short : (p : Checked) → IsChecked p → AllShort p.classes p.functions
 checked_short p h =
-    subst (λ q. AllShort q.classes q.functions) (sym h.resolved) (program_short h.program h.tree.written h.tree.declarations h.tree.grammatical h.valid)
+    subst (λ q. AllShort q.classes q.functions) (sym h.resolved) (program_short h.std h.program h.tree.written h.tree.declarations h.tree.grammatical h.valid)

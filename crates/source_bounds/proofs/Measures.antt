@@ -8,12 +8,12 @@ use Rattle.linear_forms.specs.Distinct.{added, added_all, same_list}
 use Rattle.linear_forms.specs.Emission.{Emitting}
 use Rattle.linear_forms.specs.Filters.{table_type, type_uses, type_uses_all, type_uses_clauses, list_uses, list_uses_all, list_uses_clauses, index_of, indices_of, types_in, lists_in}
 use Rattle.landing_pads.specs.Size.{longest, longest_of_all, longest_of_clauses}
-use Rattle.source_bounds.specs.TableWeights.{guards_in, guards_in_all, guards_in_clauses}
+use Rattle.source_bounds.specs.TableWeights.{guards_in, guards_in_all, guards_in_clauses, chain_weight, all_chain_weight, clauses_chain_weight}
 use Rattle.source_bounds.proofs.Chains.{pads_in, pads_in_all, pads_in_clauses}
 
 module _ (em : Emitting) where
   mutual
-    pub region_weighs : (r : Region) → 3 * pads_in em r + 6 * longest r ≤ guards_in r
+    pub region_weighs : (r : Region) → 3 * pads_in em r + 6 * longest r ≤ chain_weight r
     region_weighs (seq rs) = regions_weigh rs
     region_weighs (op o) = omega arith
     region_weighs (branch v a b) = omega (arith, region_weighs a, region_weighs b)
@@ -24,13 +24,34 @@ module _ (em : Emitting) where
     region_weighs (barrier r) = region_weighs r
     region_weighs (leave_region n) = omega arith
 
-    regions_weigh : (rs : RegionList) → 3 * pads_in_all em rs + 6 * longest_of_all rs ≤ guards_in_all rs
+    regions_weigh : (rs : RegionList) → 3 * pads_in_all em rs + 6 * longest_of_all rs ≤ all_chain_weight rs
     regions_weigh no_regions = omega arith
     regions_weigh (region_then r rs) = omega (arith, region_weighs r, regions_weigh rs)
 
-    clauses_weigh : (cs : Clauses) → 3 * pads_in_clauses em cs + 6 * longest_of_clauses cs + 6 * length (types_of cs) ≤ guards_in_clauses cs
+    clauses_weigh : (cs : Clauses) → 3 * pads_in_clauses em cs + 6 * longest_of_clauses cs + 6 * length (types_of cs) ≤ clauses_chain_weight cs
     clauses_weigh no_clauses = omega arith
     clauses_weigh (clause_then t x r cs) = omega (arith, region_weighs r, clauses_weigh cs)
+
+-- chains depend on no more than what weighs in a table
+mutual
+  pub weight_within : (r : Region) → chain_weight r ≤ guards_in r
+  weight_within (seq rs) = weights_within rs
+  weight_within (op o) = omega arith
+  weight_within (branch v a b) = omega (arith, weight_within a, weight_within b)
+  weight_within (loop v r) = weight_within r
+  weight_within (protect r c) = weight_within r
+  weight_within (catch r cs) = omega (arith, weight_within r, clause_weights_within cs)
+  weight_within (limit r types) = omega (arith, weight_within r)
+  weight_within (barrier r) = weight_within r
+  weight_within (leave_region n) = omega arith
+
+  pub weights_within : (rs : RegionList) → all_chain_weight rs ≤ guards_in_all rs
+  weights_within no_regions = omega arith
+  weights_within (region_then r rs) = omega (arith, weight_within r, weights_within rs)
+
+  clause_weights_within : (cs : Clauses) → clauses_chain_weight cs ≤ guards_in_clauses cs
+  clause_weights_within no_clauses = omega arith
+  clause_weights_within (clause_then t x r cs) = omega (arith, weight_within r, clause_weights_within cs)
 
 -- the types that pads name
 mutual

@@ -8,7 +8,7 @@ use Rattle.cxx_ast.specs.declared.types.Ty.{Ty}
 use Rattle.cxx_ast.specs.declared.types.Ty.TheVariants.{Int, Object}
 use Rattle.cxx_ast.specs.declared.declaration.FuncKind.{FuncKind}
 use Rattle.cxx_ast.specs.declared.declaration.FuncKind.TheVariants.{Plain, Method, Constructor, Destructor}
-use Rattle.cxx_ast.specs.Plain.{Checked, Function, Expression, call, std_call, Expressions, no_expressions, expression_then, Initialiser, Statement, block, empty, if_else, while, return, break, continue, throw, try, assign, evaluate, local_int, local_ref, local_object, Else, no_else, else_do, Statements, no_statements, statement_then, Handlers, no_handlers, handler_then}
+use Rattle.cxx_ast.specs.Plain.{Checked, Function, Expression, call, std_call, Expressions, no_expressions, expression_then, Initialiser, Statement, block, empty, if_else, while, return, break, continue, throw, try, assign, evaluate, local_int, local_ref, local_object, Else, no_else, else_do, Statements, no_statements, statement_then, Handlers, no_handlers, handler_then, Specification, listed, noexcept}
 use Rattle.meaning_forms.specs.Class.{ObjectType, int_type, class_type, class_named, parts_of}
 use Rattle.meaning_forms.specs.Frame.{local_number}
 use Rattle.meaning_forms.specs.Call.{initialiser_for, statements_in, place_named}
@@ -214,16 +214,17 @@ module _ (l : Lowering) where
   bodied Plain k f d h c = own_fits f.body (length f.parameters) (omega (arith, h)) c.body d
   bodied Method k f d h c = own_fits f.body (length f.parameters) (omega (arith, h)) c.body d
 
-  limited_fits : (o : Option (List Ty)) (act : ℕ → List Region) (d : ℕ) → Others act → RegionFits (limited o act d)
+  limited_fits : (o : Option Specification) (act : ℕ → List Region) (d : ℕ) → Others act → RegionFits (limited l o act d)
   limited_fits None act d r = r (d + 1)
-  limited_fits (Some types) act d r = r (d + 2)
+  limited_fits (Some (listed types)) act d r = r (d + 2)
+  limited_fits (Some (noexcept place b)) act d r = (r (d + 2), ((tt, ((tt, tt), tt)), tt))
 
   last_fits : (is_main : Bool) → AllFit (last_result l is_main)
   last_fits false = tt
   last_fits true = (omega arith, tt)
 
   pub body_fits : (is_main : Bool) (k : ℕ) (f : Function) → function_tokens f ≤ 2000 → FunctionCallsFit f →
-      RegionFits (in_order (limited f.specification (body_of l f.kind k f) 1 ∷ last_result l is_main))
+      RegionFits (in_order (limited l f.specification (body_of l f.kind k f) 1 ∷ last_result l is_main))
   body_fits is_main k f h c =
       (limited_fits f.specification (body_of l f.kind k f) 1 (λ d. bodied f.kind k f d h c), last_fits is_main)
 

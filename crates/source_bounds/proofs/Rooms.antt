@@ -19,13 +19,13 @@ use Rattle.machine_forms.specs.Emitted.{function_routine, shape_of}
 use Rattle.machine_forms.specs.Routine.{listed_routine, listed_site, routine_table, routine_words}
 use Rattle.image_forms.specs.Room.{function_room}
 use Rattle.rv64_emit.specs.Laws.{SiteIsInside, TableIsGood}
-use Rattle.source_bounds.specs.TableWeights.{guards_in}
+use Rattle.source_bounds.specs.TableWeights.{guards_in, chain_weight}
 use Rattle.source_bounds.proofs.Bytes.{uleb_two, IsSmall, chain_short, IsNearSite, table_short}
 use Rattle.source_bounds.proofs.Chains.{behind_all, pads_in, few_chains}
 use Rattle.source_bounds.proofs.Counted.{counted_once, pieces_counted}
 use Rattle.source_bounds.proofs.FrameBytes.{frame_short}
 use Rattle.source_bounds.proofs.Measures.{region_weighs, types_weigh, list_weight, table_lists_weigh}
-use Rattle.source_bounds.proofs.Products.{chains_weigh}
+use Rattle.source_bounds.proofs.Products.{chains_weigh, most_chains}
 use Rattle.source_bounds.proofs.Regions.{functions_are_short}
 use Rattle.source_bounds.proofs.Roomy.{IsRoomy, most_room}
 use Rattle.source_bounds.proofs.Sites.{sites_are_few}
@@ -111,8 +111,9 @@ function_room_short tables first f roomy good =
     let lengths = behind_all (λ c. length c ≤ longest f.body + 1) [] r.sites tt short.chains in
     let chains = chains_short t (longest f.body + 1) t.chains (omega (arith, types, roomy.guards)) (omega (arith, lists, weight, roomy.guards)) good.chains lengths in
     let few : 3 * (longest f.body + 1) * length t.chains ≤ 3 * (longest f.body + 1) * (2 * pads_in em f.body + 1) = mul-le-mul_left (3 * (longest f.body + 1)) (few_chains f) in
-    let weighs = chains_weigh (pads_in em f.body) (longest f.body) (guards_in f.body) (region_weighs em f.body) roomy.guards in
-    let table = table_short t (near (routine_words r) t.sites words good.inside) (omega (arith, chains, few, weighs, roomy.guards)) in
+    let weighs = chains_weigh (pads_in em f.body) (longest f.body) (chain_weight f.body) (region_weighs em f.body) in
+    let most = most_chains (chain_weight f.body) roomy.weight in
+    let table = table_short t (near (routine_words r) t.sites words good.inside) (omega (arith, chains, few, weighs, most, roomy.weight)) in
     omega (
       arith,
       table,

@@ -3,10 +3,9 @@ use Rattle.std.proofs.Common.{◌≡◌, ℕ, zero, suc, ◌+◌, ◌-◌, ◌*�
 use Rattle.std.proofs.lemmas.List.{length-append, length-map}
 use Rattle.std.specs.List.{AllByRecursion}
 use Rattle.std.specs.Prelude.{nat_lt}
-use Rattle.cxx_ast.specs.declared.types.Ty.{Ty}
 use Rattle.cxx_ast.specs.declared.declaration.FuncKind.{FuncKind}
 use Rattle.cxx_ast.specs.declared.declaration.FuncKind.TheVariants.{Plain, Method, Constructor, Destructor}
-use Rattle.cxx_ast.specs.Plain.{Function, Class, Checked}
+use Rattle.cxx_ast.specs.Plain.{Function, Class, Checked, Specification, listed, noexcept}
 use Rattle.cxx_ast.specs.Checked.{IsChecked}
 use Rattle.meaning_forms.specs.Class.{class_at, no_class, parts_of, base_part, member_part}
 use Rattle.region_forms.specs.Form.{RegionFunction}
@@ -17,26 +16,29 @@ use Rattle.class_layout.specs.Fit.{CheckedClassesFit}
 use Rattle.source_bounds.specs.LeastTokens.{initialisers_tokens, parameters_tokens, specification_tokens, function_tokens, functions_tokens, base_tokens, class_tokens, classes_tokens}
 use Rattle.source_bounds.specs.NamedTypes.{FunctionNamesRows}
 use Rattle.source_bounds.specs.RegionWords.{region_words, HasFewWays}
-use Rattle.source_bounds.specs.TableWeights.{sites_in, guards_in}
+use Rattle.source_bounds.specs.TableWeights.{sites_in, guards_in, chain_weight}
 use Rattle.source_bounds.proofs.Functions.{extra_words, whole_body, default_whole, copy_whole, destructor_whole}
 use Rattle.source_bounds.proofs.Rows.{checked_named}
 use Rattle.source_bounds.proofs.Parts.{checked_parts}
 use Rattle.source_bounds.proofs.Classes.{FewSpecials, checked_few, extras, all_extras}
 use Rattle.source_bounds.proofs.Limits.{checked_short}
 use Rattle.source_bounds.proofs.Sums.{sum_from}
-use Rattle.source_bounds.proofs.TabledFunctions.{kind_sites, specification_sites, specification_guards, body_table, default_table, copy_table, destructor_table}
-use Rattle.source_bounds.proofs.Units.{many_parameters, not_small, body_counted, specification_counted, kind_counted, base_counted, summed, no_own_parts}
+use Rattle.source_bounds.proofs.TabledFunctions.{kind_sites, specification_sites, specification_guards, body_table, default_table, copy_table, destructor_table, written, body_weight}
+use Rattle.source_bounds.proofs.Units.{many_parameters, not_small, body_counted, kind_counted, base_counted, summed, no_own_parts}
 use Rattle.source_bounds.proofs.Lists.{both_all, at_or}
+use Rattle.source_bounds.proofs.Products.{chains_room, no_chains, outermost_chains}
+use Rattle.source_bounds.proofs.Measures.{weight_within}
 
 -- a function whose body is not too large
 pub record IsRoomy (f : RegionFunction) : Type 0 where
   pub few : HasFewWays f.body
   pub words : region_words f.body ≤ 300000
-  pub guards : guards_in f.body ≤ 2010
+  pub guards : guards_in f.body ≤ 2080
+  pub weight : chain_weight f.body ≤ 2010
 
 -- the bytes of a function beside its words
 abbrev pub most_room : RegionFunction → ℕ
-most_room f = 12 * sites_in f.body + 176 * guards_in f.body + 93
+most_room f = 12 * sites_in f.body + chains_room (chain_weight f.body) + 6 * guards_in f.body + 90
 
 abbrev pub all_room : List RegionFunction → ℕ
 all_room [] = 0
@@ -68,28 +70,49 @@ extra_small : (k : FuncKind) (m n : ℕ) → extra_words k m n ≤ 47 * m
 extra_small Plain m n = omega arith
 extra_small Method m n = omega arith
 extra_small Destructor m n = omega arith
-extra_small Constructor m n = go (nat_lt n 15)
+extra_small Constructor m n = go (nat_lt n 16)
   where
     go : (b : Bool) → (if b then 16 * m else 0) ≤ 47 * m
     go true = omega arith
     go false = omega arith
 
-specification_room : (o : Option (List Ty)) → 12 * specification_sites o + 176 * specification_guards o ≤ 256 * specification_tokens o + 840
-specification_room None = omega arith
-specification_room (Some types) = omega arith
+-- a list that a destructor takes over has 64 types at most
+specification_room : (k : FuncKind) (o : Option Specification) → 12 * specification_sites o + 6 * specification_guards o ≤ 256 * specification_tokens k o + 462
+specification_room Plain None = omega arith
+specification_room Plain (Some (listed types)) = omega arith
+specification_room Plain (Some (noexcept place b)) = omega arith
+specification_room Method None = omega arith
+specification_room Method (Some (listed types)) = omega arith
+specification_room Method (Some (noexcept place b)) = omega arith
+specification_room Constructor None = omega arith
+specification_room Constructor (Some (listed types)) = omega arith
+specification_room Constructor (Some (noexcept place b)) = omega arith
+specification_room Destructor None = omega arith
+specification_room Destructor (Some (listed types)) = omega arith
+specification_room Destructor (Some (noexcept place b)) = omega arith
 
-guards_counted : (o : Option (List Ty)) → specification_guards o ≤ specification_tokens o + 6
-guards_counted None = omega arith
-guards_counted (Some types) = omega arith
+guards_counted : (k : FuncKind) (o : Option Specification) → specification_guards o ≤ specification_tokens k o + 73
+guards_counted Plain None = omega arith
+guards_counted Plain (Some (listed types)) = omega arith
+guards_counted Plain (Some (noexcept place b)) = omega arith
+guards_counted Method None = omega arith
+guards_counted Method (Some (listed types)) = omega arith
+guards_counted Method (Some (noexcept place b)) = omega arith
+guards_counted Constructor None = omega arith
+guards_counted Constructor (Some (listed types)) = omega arith
+guards_counted Constructor (Some (noexcept place b)) = omega arith
+guards_counted Destructor None = omega arith
+guards_counted Destructor (Some (listed types)) = omega arith
+guards_counted Destructor (Some (noexcept place b)) = omega arith
 
 kind_room : (k : FuncKind) (m : ℕ) (f : Function) → m ≤ 256 →
     12 * kind_sites k m f ≤ 256 * parameters_tokens (length f.parameters) + 12 * initialisers_tokens f.initialisers + 2 * extra_words k m (length f.parameters)
 kind_room Plain m f h = omega arith
 kind_room Method m f h = omega arith
 kind_room Destructor m f h = omega arith
-kind_room Constructor m f h = go (nat_lt (length f.parameters) 15) refl
+kind_room Constructor m f h = go (nat_lt (length f.parameters) 16) refl
   where
-    go : (b : Bool) → nat_lt (length f.parameters) 15 ≡ b →
+    go : (b : Bool) → nat_lt (length f.parameters) 16 ≡ b →
         12 * (2 * m + initialisers_tokens f.initialisers) ≤ 256 * parameters_tokens (length f.parameters) + 12 * initialisers_tokens f.initialisers + 2 * (if b then 16 * m else 0)
     go true e = omega arith
     go false e = omega (arith, h, many_parameters (length f.parameters) (not_small (length f.parameters) e))
@@ -110,22 +133,32 @@ module _ (rows : ℕ) (p : Checked) (layout : Layout) where
       let parts = length (parts_of p k) in
       let words = whole_body rows l is_main k f h in
       let table = body_table l is_main k f in
+      let weight = body_weight l is_main k f in
+      let counted = body_counted f.body in
       one_roomy (declared_function p layout is_member is_main k f) fs
       (record {
         few = words.few;
         words = omega (
           arith,
           words.words,
-          kind_counted f.kind parts f small,
-          body_counted f.body,
-          specification_counted f.specification,
+          kind_counted f.kind parts f f.specification small,
+          counted,
           extra_small f.kind parts (length f.parameters),
           small,
           short,
         );
-        guards = omega (arith, table.guards, body_counted f.body, guards_counted f.specification, short);
+        guards = omega (arith, table.guards, counted, guards_counted f.kind f.specification, short);
+        weight = omega (arith, weight, counted, short);
       })
-      (omega (arith, table.sites, table.guards, kind_room f.kind parts f small, body_counted f.body, specification_room f.specification)) g
+      (omega (
+        arith,
+        table.sites,
+        table.guards,
+        outermost_chains (chain_weight (declared_function p layout is_member is_main k f).body) (written l f) weight (omega (arith, counted, short)),
+        kind_room f.kind parts f small,
+        counted,
+        specification_room f.kind f.specification,
+      )) g
 
   own_roomy : (n : ℕ) (fs : List Function) → length (parts_of p 0) ≡ 0 → AllByRecursion (FunctionNamesRows rows) fs → AllByRecursion (λ f. function_tokens f ≤ 2000) fs →
       RoomyFunctions (256 * functions_tokens fs) (own_functions p layout n fs)
@@ -142,7 +175,7 @@ module _ (rows : ℕ) (p : Checked) (layout : Layout) where
       more_room (256 * functions_tokens (f ∷ fs) + 2 * extras (length (parts_of p k)) (f ∷ fs))
       (declared_roomy true false k f (map (declared_function p layout true false k) fs) h.0 small short.0 (methods_roomy k fs small h.1 short.1)) (omega arith)
 
-  parts_room : (c : Class) → 654 * length (class_parts c) + 559 ≤ 256 * (3 * length c.members + base_tokens c.base + 5)
+  parts_room : (c : Class) → 686 * length (class_parts c) + 559 ≤ 256 * (3 * length c.members + base_tokens c.base + 5)
   parts_room c =
       omega (arith, length-append (base_part c.base) (map member_part c.members), length-map c.members member_part, (base_counted c.base).0, (base_counted c.base).1)
 
@@ -155,20 +188,23 @@ module _ (rows : ℕ) (p : Checked) (layout : Layout) where
       let copying = lowering p layout true (copied_type c) in
       let destroys = destructor_whole rows l k in
       let destroys-table = destructor_table l k in
+      let destroys-weight = weight_within (implicit_destructor_function p layout k).body in
       let copies = copy_whole rows copying k in
       let copies-table = copy_table copying k in
+      let copies-weight = weight_within (implicit_copy_function p layout k).body in
       let builds = default_whole rows l (some_constructor c.functions) k in
       let builds-table = default_table l (some_constructor c.functions) k in
+      let builds-weight = weight_within (implicit_default_function p layout k).body in
       let last = one_roomy {m = 24 * n + 93} (implicit_destructor_function p layout k) []
-      (record { few = destroys.few; words = omega (arith, destroys.words, small); guards = omega (arith, destroys-table.guards) })
-      (omega (arith, destroys-table.sites, destroys-table.guards)) none_roomy in
+      (record { few = destroys.few; words = omega (arith, destroys.words, small); guards = omega (arith, destroys-table.guards); weight = omega (arith, destroys-table.guards, destroys-weight) })
+      (omega (arith, destroys-table.sites, destroys-table.guards, no_chains (chain_weight (implicit_destructor_function p layout k).body) (omega (arith, destroys-table.guards, destroys-weight)))) none_roomy in
       let copied = one_roomy {m = 24 * n + 93} (implicit_copy_function p layout k) (implicit_destructor_function p layout k ∷ [])
-      (record { few = copies.few; words = omega (arith, copies.words, small); guards = omega (arith, copies-table.guards) })
-      (omega (arith, copies-table.sites, copies-table.guards)) last in
+      (record { few = copies.few; words = omega (arith, copies.words, small); guards = omega (arith, copies-table.guards); weight = omega (arith, copies-table.guards, copies-weight) })
+      (omega (arith, copies-table.sites, copies-table.guards, no_chains (chain_weight (implicit_copy_function p layout k).body) (omega (arith, copies-table.guards, copies-weight)))) last in
       let implicit = one_roomy {m = 12 * (if some_constructor c.functions then 0 else 2 * n) + 93} (implicit_default_function p layout k)
       (implicit_copy_function p layout k ∷ implicit_destructor_function p layout k ∷ [])
-      (record { few = builds.few; words = omega (arith, builds.words, default_small (some_constructor c.functions) n, small); guards = omega (arith, builds-table.guards) })
-      (omega (arith, builds-table.sites, builds-table.guards)) copied in
+      (record { few = builds.few; words = omega (arith, builds.words, default_small (some_constructor c.functions) n, small); guards = omega (arith, builds-table.guards); weight = omega (arith, builds-table.guards, builds-weight) })
+      (omega (arith, builds-table.sites, builds-table.guards, no_chains (chain_weight (implicit_default_function p layout k).body) (omega (arith, builds-table.guards, builds-weight)))) copied in
       more_room m
       (both_roomy (map (declared_function p layout true false k) c.functions)
       (implicit_default_function p layout k ∷ implicit_copy_function p layout k ∷ implicit_destructor_function p layout k ∷ []) (methods_roomy k c.functions small h short) implicit)

@@ -7,7 +7,7 @@ use Rattle.cxx_ast.specs.declared.name.Bound.TheVariants.{Class as ClassBound, F
 use Rattle.cxx_ast.specs.declared.name.Name.{Name}
 use Rattle.cxx_ast.specs.declared.types.Ty.{Ty}
 use Rattle.cxx_ast.specs.declared.types.Ty.TheVariants.{Int, Void, Object, IntRef, ObjectRef}
-use Rattle.cxx_ast.specs.Plain.{Statement, block, empty, if_else, while, return, break, continue, throw, try, assign, evaluate, local_int, local_ref, local_object, Else, no_else, else_do, Statements, no_statements, statement_then, Handlers, no_handlers, handler_then, Function, Class, Declaration, class_declaration, global_declaration, function_declaration, Program, Checked}
+use Rattle.cxx_ast.specs.Plain.{Statement, block, empty, if_else, while, return, break, continue, throw, try, assign, evaluate, local_int, local_ref, local_object, Else, no_else, else_do, Statements, no_statements, statement_then, Handlers, no_handlers, handler_then, Function, Class, Declaration, class_declaration, global_declaration, function_declaration, Program, Checked, Specification, listed, noexcept}
 use Rattle.cxx_ast.specs.Finding.{is_sound}
 use Rattle.cxx_ast.specs.Spelling.{is_bad_exception}
 use Rattle.cxx_ast.specs.Environment.{global_thing, class_thing, Environment, Scope, Meaning, unknown, a_local, a_field, a_method, a_global, a_function, a_class, a_builtin}
@@ -16,12 +16,16 @@ use Rattle.cxx_ast.specs.TypeNames.{class_wanted, has_body, signature}
 use Rattle.cxx_ast.specs.Locals.{inner, after, handler_scope, caught_count, locals_in, locals_of, scope_behind, declare_params, outermost}
 use Rattle.cxx_ast.specs.Resolve.{bind, bound_of, function_number, resolve_class, resolve_type, resolve_statement, resolve_else, resolve_statements, resolve_handlers, resolve_specification, resolve_body, resolve_function}
 use Rattle.cxx_ast.specs.Declare.{next_class, with_class_name, head_environment, head_scope, class_entry, declare_behind, at_the_start, body_environment, function_scope}
-use Rattle.cxx_ast.specs.Checked.{resolve_methods, resolve_declarations, classes_of, functions_of, checked, IsChecked}
+use Rattle.cxx_ast.specs.Checked.{resolve_methods, resolve_declarations, classes_of, functions_of, checked, IsChecked, bad_exception}
 use Rattle.meaning_forms.specs.Class.{class_named}
-use Rattle.region_forms.specs.Numbering.{type_rows, class_row}
+use Rattle.region_forms.specs.Numbering.{type_rows, class_row, class_rows}
 use Rattle.class_layout.proofs.Named.{Known, known_more, name_stands}
 use Rattle.class_layout.proofs.Declared.{named_classes, named_known, behind_function}
 use Rattle.source_bounds.specs.NamedTypes.{HasRow, NamesRows, ElseNamesRows, AllNameRows, HandlersNameRows, BodyNamesRows, HaveRows, SpecificationNamesRows, FunctionNamesRows}
+use Rattle.cxx_ast.specs.declared.standard.Std.{Std}
+use Rattle.cxx_ast.specs.Grammatical.{Each}
+use Rattle.cxx_ast.specs.Settled.{Allowed, allowed_by, destructor_of, given, settle_function, settle_classes}
+use Rattle.cxx_ast.proofs.Settled.{OfTypes, OfClass, settled_kept, settled_types, settled_length}
 
 -- the name of a class is bound to one of the first n, whether or not it stands for a class
 class_below : (n : ℕ) (env : Environment) (sc : Scope) (name : Name) → 0 < n → Known n env.names → class_named (resolve_class env sc name) < n
@@ -95,9 +99,10 @@ module _ (n rows : ℕ) (some : 0 < n) (few : n + 1 ≤ rows) where
   listed_rows env known sc [] = tt
   listed_rows env known sc (t ∷ types) = (type_has_row env known sc t, listed_rows env known sc types)
 
-  specification_named : (env : Environment) → Known n env.names → (sc : Scope) (o : Option (List Ty)) → SpecificationNamesRows rows (resolve_specification env sc o)
+  specification_named : (env : Environment) → Known n env.names → (sc : Scope) (o : Option Specification) → SpecificationNamesRows rows (resolve_specification env sc o)
   specification_named env known sc None = tt
-  specification_named env known sc (Some types) = listed_rows env known sc types
+  specification_named env known sc (Some (listed types)) = listed_rows env known sc types
+  specification_named env known sc (Some (noexcept place b)) = tt
 
   function_named : (head : Environment) (heads : Scope) (env : Environment) (sc : Scope) (b : Bound) (f : Function) → Known n head.names → Known n env.names →
       FunctionNamesRows rows (resolve_function head heads env sc b f)
@@ -162,23 +167,81 @@ declarations_named rows env (function_declaration f ∷ ds) some known few =
           (functions_of (resolve_declarations env' ds)) (function_named n rows some (omega (arith, few)) env outermost env' sc b f known there) rest.own;
     }
 
-class_rows_counted : (p : Program) → length (type_rows (checked p)) ≡ length (checked p).classes + 1
-unfolding checked
-class_rows_counted p = omega (arith, length-map (classes_of (resolve_declarations (at_the_start p.declarations) p.declarations)) (class_row 2))
+-- types that have rows, one by one
+each_row : (rows : ℕ) (types : List Ty) → HaveRows rows types → Each (HasRow rows) types
+each_row rows [] h = tt
+each_row rows (t ∷ types) h = (h.0, each_row rows types h.1)
 
-program_named : (p : Program) → AllNamed (length (checked p).classes + 1) (checked p).classes (checked p).functions
+have_rows : (rows : ℕ) (types : List Ty) → Each (HasRow rows) types → HaveRows rows types
+have_rows rows [] h = tt
+have_rows rows (t ∷ types) h = (h.0, have_rows rows types h.1)
+
+types_named : (rows : ℕ) (o : Option Specification) → SpecificationNamesRows rows o → OfTypes (HasRow rows) o
+types_named rows None h = tt
+types_named rows (Some (listed types)) h = each_row rows types h
+types_named rows (Some (noexcept place b)) h = tt
+
+named_types : (rows : ℕ) (o : Option Specification) → OfTypes (HasRow rows) o → SpecificationNamesRows rows o
+named_types rows None h = tt
+named_types rows (Some (listed types)) h = have_rows rows types h
+named_types rows (Some (noexcept place b)) h = tt
+
+-- so have the types of the specifications that count
+functions_of_types : (rows : ℕ) (fs : List Function) → AllByRecursion (FunctionNamesRows rows) fs → Each (λ (f : Function). OfTypes (HasRow rows) f.specification) fs
+functions_of_types rows [] h = tt
+functions_of_types rows (f ∷ fs) h = (types_named rows f.specification h.0.specification, functions_of_types rows fs h.1)
+
+classes_of_types : (rows : ℕ) (cs : List Class) → AllByRecursion (λ c. AllByRecursion (FunctionNamesRows rows) c.functions) cs → Each (OfClass (HasRow rows)) cs
+classes_of_types rows [] h = tt
+classes_of_types rows (c ∷ cs) h = (functions_of_types rows c.functions h.0, classes_of_types rows cs h.1)
+
+functions_still_named : (rows : ℕ) (own : Option Specification) (fs : List Function) → AllByRecursion (FunctionNamesRows rows) fs →
+    Each (λ (f : Function). OfTypes (HasRow rows) f.specification) (map (settle_function own) fs) → AllByRecursion (FunctionNamesRows rows) (map (settle_function own) fs)
+functions_still_named rows own [] h k = tt
+functions_still_named rows own (f ∷ fs) h k =
+    (record { specification = named_types rows (settle_function own f).specification k.0; body = h.0.body }, functions_still_named rows own fs h.1 k.1)
+
+classes_still_named : (rows : ℕ) (std : Std) (before : List Allowed) (cs : List Class) → AllByRecursion (λ c. AllByRecursion (FunctionNamesRows rows) c.functions) cs →
+    Each (OfClass (HasRow rows)) (settle_classes std before cs) → AllByRecursion (λ c. AllByRecursion (FunctionNamesRows rows) c.functions) (settle_classes std before cs)
+classes_still_named rows std before [] h k = tt
+classes_still_named rows std before (c ∷ cs) h k =
+    let own = given std before c in
+    (functions_still_named rows own c.functions h.0 k.0, classes_still_named rows std (before ++ allowed_by (destructor_of own c.functions) ∷ []) cs h.1 k.1)
+
+own_still_named : (rows : ℕ) (fs : List Function) → AllByRecursion (FunctionNamesRows rows) fs → AllByRecursion (FunctionNamesRows rows) (map (settle_function None) fs)
+own_still_named rows [] h = tt
+own_still_named rows (f ∷ fs) h =
+    let kept = settled_kept (HasRow rows) None f.kind f.specification tt (types_named rows f.specification h.0.specification) in
+    (record { specification = named_types rows (settle_function None f).specification kept; body = h.0.body }, own_still_named rows fs h.1)
+
+rows_of_classes : (cs : List Class) → length (class_rows cs) ≡ length cs
+rows_of_classes [] = refl
+rows_of_classes (c ∷ cs) = omega (arith, length-map cs (class_row 2))
+
+class_rows_counted : (std : Std) (p : Program) → length (type_rows (checked std p)) ≡ length (checked std p).classes + 1
+class_rows_counted std p = omega (arith, rows_of_classes (checked std p).classes)
+
+program_named : (std : Std) (p : Program) → AllNamed (length (checked std p).classes + 1) (checked std p).classes (checked std p).functions
 unfolding checked
-program_named p =
+program_named std p =
     let env = at_the_start p.declarations in
-    let rest = declarations_named (length (checked p).classes + 1) env p.declarations (omega arith) tt (omega arith) in
-    record { methods = (tt, rest.methods); own = rest.own }
+    let ds = resolve_declarations env p.declarations in
+    let rows = length (checked std p).classes + 1 in
+    let same = settled_length std [] (bad_exception ∷ classes_of ds) in
+    let rest = declarations_named rows env p.declarations (omega arith) tt (omega (arith, same)) in
+    let all : AllByRecursion (λ c. AllByRecursion (FunctionNamesRows rows) c.functions) (bad_exception ∷ classes_of ds) = (tt, rest.methods) in
+    record {
+      methods = classes_still_named rows std [] (bad_exception ∷ classes_of ds) all
+          (settled_types (HasRow rows) std [] (bad_exception ∷ classes_of ds) tt (classes_of_types rows (bad_exception ∷ classes_of ds) all));
+      own = own_still_named rows (functions_of ds) rest.own;
+    }
 
 pub checked_named : (p : Checked) → IsChecked p → AllNamed (length (type_rows p)) p.classes p.functions
 checked_named p h =
-    let all = program_named h.program in
+    let all = program_named h.std h.program in
     subst (λ q. AllNamed (length (type_rows q)) q.classes q.functions) (sym h.resolved)
-    (subst (λ n. AllNamed n (checked h.program).classes (checked h.program).functions) (sym (class_rows_counted h.program)) all)
+    (subst (λ n. AllNamed n (checked h.std h.program).classes (checked h.std h.program).functions) (sym (class_rows_counted h.std h.program)) all)
 
 -- int and each class have a row
 pub rows_counted : (p : Checked) → IsChecked p → length (type_rows p) ≡ length p.classes + 1
-rows_counted p h = subst (λ q. length (type_rows q) ≡ length q.classes + 1) (sym h.resolved) (class_rows_counted h.program)
+rows_counted p h = subst (λ q. length (type_rows q) ≡ length q.classes + 1) (sym h.resolved) (class_rows_counted h.std h.program)

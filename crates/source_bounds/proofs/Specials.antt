@@ -1,4 +1,4 @@
--- A class has at most 16 constructors with fewer than 15 parameters, and at most one destructor: no two have the same number of
+-- A class has at most 17 constructors with fewer than 16 parameters, and at most one destructor: no two have the same number of
 -- parameters, unless one of them is the copy constructor.
 use Rattle.std.proofs.Common.{◌≡◌, ◌∙◌, ℕ, ◌+◌, ◌≤◌, ◌<◌, ◌==◌, ◌&&◌, ◌||◌, Bool, true, false, List, [], ◌∷◌, length, bytes_eq, if◌then◌else◌, refl, sym, ap, subst, arith}
 use Rattle.std.specs.Prelude.{nat_lt}
@@ -102,12 +102,12 @@ one_destructor k text ss sound =
 
 -- constructors
 
--- the number of parameters; 15 for a copy constructor
+-- the number of parameters; 16 for a copy constructor
 abbrev key : ℕ → Signature → ℕ
-key k s = if are_copy_parameters k s.parameters then 15 else length s.parameters
+key k s = if are_copy_parameters k s.parameters then 16 else length s.parameters
 
 abbrev pub is_small : Signature → Bool
-is_small s = is_constructor_kind s.form && nat_lt (length s.parameters) 15
+is_small s = is_constructor_kind s.form && nat_lt (length s.parameters) 16
 
 abbrev has_key : ℕ → ℕ → Signature → Bool
 has_key k a s = is_small s && key k s == a
@@ -123,7 +123,7 @@ one_parameter k [] h = absurd (cc h)
 one_parameter k (p ∷ []) h = refl
 one_parameter k (p ∷ q ∷ ps) h = absurd (cc h)
 
-is_below : (n : ℕ) → nat_lt n 15 ≡ true → n < 15
+is_below : (n : ℕ) → nat_lt n 16 ≡ true → n < 16
 is_below n e = grind (arith, nat_tests, e)
 
 is_equal : (a b : ℕ) → (a == b) ≡ true → a ≡ b
@@ -132,7 +132,7 @@ is_equal a b e = grind (arith, nat_tests, e)
 are_equal : (a b : ℕ) → a ≡ b → (a == b) ≡ true
 are_equal a b e = grind (arith, nat_tests, e)
 
-same_key : (c d : Bool) (m n a : ℕ) → (c ≡ true → m ≡ 1) → (d ≡ true → n ≡ 1) → m < 15 → n < 15 → (if c then 15 else m) ≡ a → (if d then 15 else n) ≡ a →
+same_key : (c d : Bool) (m n a : ℕ) → (c ≡ true → m ≡ 1) → (d ≡ true → n ≡ 1) → m < 16 → n < 16 → (if c then 16 else m) ≡ a → (if d then 16 else n) ≡ a →
     (same_test d c && n == m) ≡ true
 same_key true true m n a h g below under p q = are_equal n m (omega (arith, h refl, g refl))
 same_key true false m n a h g below under p q = absurd (omega (arith, under, p, q))
@@ -143,8 +143,8 @@ constructor_clash : (k a : ℕ) (s t : Signature) → has_key k a s ≡ true →
 constructor_clash k a s t h g =
     let hs = and_parts (is_small s) (key k s == a) h in
     let ht = and_parts (is_small t) (key k t == a) g in
-    let fs = and_parts (is_constructor_kind s.form) (nat_lt (length s.parameters) 15) hs.0 in
-    let ft = and_parts (is_constructor_kind t.form) (nat_lt (length t.parameters) 15) ht.0 in
+    let fs = and_parts (is_constructor_kind s.form) (nat_lt (length s.parameters) 16) hs.0 in
+    let ft = and_parts (is_constructor_kind t.form) (nat_lt (length t.parameters) 16) ht.0 in
     let core = same_key (are_copy_parameters k s.parameters) (are_copy_parameters k t.parameters) (length s.parameters) (length t.parameters) a
     (one_parameter k s.parameters) (one_parameter k t.parameters) (is_below (length s.parameters) fs.1) (is_below (length t.parameters) ft.1)
     (is_equal (key k s) a hs.1) (is_equal (key k t) a ht.1) in
@@ -157,28 +157,28 @@ constructor_special f h = subst (λ g. has_class_name g ≡ true) (sym (is_const
 one_of_key : (k a : ℕ) (text : List ℕ) (ss : List Signature) → is_sound (specials_found k text [] ss) ≡ true → count (has_key k a) ss ≤ 1
 one_of_key k a text ss sound =
     at_most_one k text (has_key k a)
-    (λ s h. constructor_special s.form (and_parts (is_constructor_kind s.form) (nat_lt (length s.parameters) 15) (and_parts (is_small s) (key k s == a) h).0).0)
+    (λ s h. constructor_special s.form (and_parts (is_constructor_kind s.form) (nat_lt (length s.parameters) 16) (and_parts (is_small s) (key k s == a) h).0).0)
     (constructor_clash k a) ss sound
 
--- each has a key below 16
-key_below : (c : Bool) (n : ℕ) → n < 15 → (if c then 15 else n) < 16
+-- each has a key below 17
+key_below : (c : Bool) (n : ℕ) → n < 16 → (if c then 16 else n) < 17
 key_below true n h = omega arith
 key_below false n h = omega (arith, h)
 
-flag_of_key : (k : ℕ) (s : Signature) → flag (is_small s) ≤ sum_from (λ a. flag (has_key k a s)) 0 16
+flag_of_key : (k : ℕ) (s : Signature) → flag (is_small s) ≤ sum_from (λ a. flag (has_key k a s)) 0 17
 flag_of_key k s = go (is_small s) refl
   where
-    go : (b : Bool) → is_small s ≡ b → flag b ≤ sum_from (λ a. flag (b && key k s == a)) 0 16
+    go : (b : Bool) → is_small s ≡ b → flag b ≤ sum_from (λ a. flag (b && key k s == a)) 0 17
     go true e =
-        let parts = and_parts (is_constructor_kind s.form) (nat_lt (length s.parameters) 15) e in
-        found_once (key k s) 0 16 (omega arith) (key_below (are_copy_parameters k s.parameters) (length s.parameters) (is_below (length s.parameters) parts.1))
+        let parts = and_parts (is_constructor_kind s.form) (nat_lt (length s.parameters) 16) e in
+        found_once (key k s) 0 17 (omega arith) (key_below (are_copy_parameters k s.parameters) (length s.parameters) (is_below (length s.parameters) parts.1))
     go false e = omega arith
 
-all_keyed : (k : ℕ) (ss : List Signature) → count is_small ss ≤ sum_from (λ a. count (has_key k a) ss) 0 16
+all_keyed : (k : ℕ) (ss : List Signature) → count is_small ss ≤ sum_from (λ a. count (has_key k a) ss) 0 17
 all_keyed k [] = omega arith
 all_keyed k (s ∷ ss) =
-    omega (arith, flag_of_key k s, all_keyed k ss, sum_plus (λ a. flag (has_key k a s)) (λ a. count (has_key k a) ss) 0 16)
+    omega (arith, flag_of_key k s, all_keyed k ss, sum_plus (λ a. flag (has_key k a s)) (λ a. count (has_key k a) ss) 0 17)
 
-pub few_constructors : (k : ℕ) (text : List ℕ) (ss : List Signature) → is_sound (specials_found k text [] ss) ≡ true → count is_small ss ≤ 16
+pub few_constructors : (k : ℕ) (text : List ℕ) (ss : List Signature) → is_sound (specials_found k text [] ss) ≡ true → count is_small ss ≤ 17
 few_constructors k text ss sound =
-    omega (arith, all_keyed k ss, sum_of_few (λ a. count (has_key k a) ss) 0 16 (λ a. one_of_key k a text ss sound))
+    omega (arith, all_keyed k ss, sum_of_few (λ a. count (has_key k a) ss) 0 17 (λ a. one_of_key k a text ss sound))

@@ -10,12 +10,12 @@ use Rattle.cxx_ast.specs.declared.token.Token.{Token}
 use Rattle.cxx_ast.specs.declared.token.TokenKind.TheVariants as kind
 use Rattle.cxx_ast.specs.declared.keyword.Keyword.TheVariants as keyword
 use Rattle.cxx_ast.specs.declared.mark.Mark.TheVariants as sign
-use Rattle.cxx_ast.specs.Plain.{Expression, number, path, paren, unary, binary, call, std_call, Expressions, no_expressions, expression_then, Statement, block, empty, if_else, while, return, break, continue, throw, try, assign, evaluate, local_int, local_ref, local_object, Else, no_else, else_do, Statements, no_statements, statement_then, Handlers, no_handlers, handler_then, Initialiser, Function}
+use Rattle.cxx_ast.specs.Plain.{Expression, number, path, paren, unary, binary, call, std_call, Expressions, no_expressions, expression_then, Statement, block, empty, if_else, while, return, break, continue, throw, try, assign, evaluate, local_int, local_ref, local_object, Else, no_else, else_do, Statements, no_statements, statement_then, Handlers, no_handlers, handler_then, Initialiser, Function, Specification, listed, noexcept}
 use Rattle.cxx_ast.specs.Operator.{binary_mark}
 use Rattle.cxx_ast.specs.Piece.{Piece, anywhere, placed, named, word, mark, word_at, Fit}
 use Rattle.cxx_ast.specs.Spelling.{is_bad_exception, spell_class, spell_const, spell_type, spell_name, spell_param, first_at, spell_dots, spell_path, spell_expression, spell_arguments, spell_more, spell_value, spell_start, spell_object_arguments, spell_caught, spell_statement, spell_else, spell_statements, spell_handlers}
-use Rattle.cxx_ast.specs.Written.{Member, data_member, function_member, Start, no_start, start, Written, written_class, written_global, written_function, data_members, functions, declared, spell_more_params, spell_params, spell_more_types, spell_types, spell_specification, spell_initialiser, spell_more_initialisers, spell_initialisers, spell_body, spell_result, spell_function, spell_tilde, spell_members, spell_public, spell_base, spell_minus, spell_start_value, spell_declaration, spell_declarations}
-use Rattle.cxx_ast.specs.Grammatical.{Each, NotEmpty, Where, There, IsExpression, AreExpressions, IsStatement, IsElse, AreStatements, AreHandlers, IsInitialiser, IsFunction, IsMember, IsGrammatical}
+use Rattle.cxx_ast.specs.Written.{Member, data_member, function_member, Start, no_start, start, Written, written_class, written_global, written_function, data_members, functions, declared, spell_more_params, spell_params, spell_more_types, spell_types, spell_specification, spell_initialiser, spell_more_initialisers, spell_initialisers, spell_body, spell_result, spell_function, spell_tilde, spell_members, spell_public, spell_base, spell_minus, spell_start_value, spell_declaration, spell_declarations, in_full, spell_truth}
+use Rattle.cxx_ast.specs.Grammatical.{Each, NotEmpty, Where, There, IsExpression, AreExpressions, IsStatement, IsElse, AreStatements, AreHandlers, IsInitialiser, IsFunction, IsMember, IsGrammatical, HasForm}
 use Rattle.source_bounds.specs.LeastTokens.{tokens_in, tokens_in_all, tokens_in_value, statement_tokens, else_tokens, statements_tokens, handlers_tokens, initialisers_tokens, parameters_tokens, specification_tokens, body_tokens, function_tokens, functions_tokens, base_tokens, declaration_tokens, declarations_tokens}
 
 -- names and types
@@ -166,9 +166,33 @@ types_spelled : (ts : List Ty) (after : List Piece) → length ts + length after
 types_spelled [] after = omega arith
 types_spelled (t ∷ ts) after = omega (arith, type_spelled t (spell_more_types ts after), more_types ts after)
 
-specification_spelled : (o : Option (List Ty)) (after : List Piece) → specification_tokens o + length after ≤ length (spell_specification o after)
-specification_spelled None after = omega arith
-specification_spelled (Some ts) after = omega (arith, types_spelled ts (mark sign.CloseParen ∷ after))
+truth_spelled : (full b : Bool) (after : List Piece) → length after ≤ length (spell_truth full b after)
+truth_spelled full false after = omega arith
+truth_spelled true true after = omega arith
+truth_spelled false true after = omega arith
+
+types_counted : (k : FuncKind) (ts : List Ty) → specification_tokens k (Some (listed ts)) ≤ length ts + 3
+types_counted Plain ts = omega arith
+types_counted Method ts = omega arith
+types_counted Constructor ts = omega arith
+types_counted Destructor ts = omega arith
+
+none_counted : (k : FuncKind) → specification_tokens k None ≤ 0
+none_counted Plain = omega arith
+none_counted Method = omega arith
+none_counted Constructor = omega arith
+none_counted Destructor = omega arith
+
+noexcept_counted : (k : FuncKind) (place : ℕ) (b : Bool) → specification_tokens k (Some (noexcept place b)) ≤ 1
+noexcept_counted Plain place b = omega arith
+noexcept_counted Method place b = omega arith
+noexcept_counted Constructor place b = omega arith
+noexcept_counted Destructor place b = omega arith
+
+specification_spelled : (k : FuncKind) (full : Bool) (o : Option Specification) (after : List Piece) → specification_tokens k o + length after ≤ length (spell_specification full o after)
+specification_spelled k full None after = omega (arith, none_counted k)
+specification_spelled k full (Some (listed ts)) after = omega (arith, types_counted k ts, types_spelled ts (mark sign.CloseParen ∷ after))
+specification_spelled k full (Some (noexcept place b)) after = omega (arith, noexcept_counted k place b, truth_spelled full b after)
 
 initialiser_spelled : (i : Initialiser) (after : List Piece) → IsInitialiser i → tokens_in_all i.arguments + 3 + length after ≤ length (spell_initialiser i after)
 initialiser_spelled i after h = omega (arith, arguments_spelled i.arguments (mark sign.CloseParen ∷ after) h)
@@ -181,29 +205,55 @@ initialisers_spelled : (is : List Initialiser) (after : List Piece) → Each IsI
 initialisers_spelled [] after h = omega arith
 initialisers_spelled (i ∷ is) after h = omega (arith, initialiser_spelled i (spell_more_initialisers is after) h.0, more_initialisers is after h.1)
 
-body_spelled : (o : Option Statements) (after : List Piece) → Where AreStatements o → body_tokens o + length after ≤ length (spell_body o after)
+-- a semicolon is one token less than a body has
+abbrev missing : Option Statements → ℕ
+missing None = 1
+missing (Some ss) = 0
+
+body_spelled : (o : Option Statements) (after : List Piece) → Where AreStatements o → body_tokens o + length after ≤ length (spell_body o after) + missing o
 body_spelled None after h = omega arith
 body_spelled (Some ss) after h = omega (arith, statements_spelled ss (mark sign.CloseBrace ∷ after) h)
 
-result_spelled : (k : FuncKind) (t : Ty) (after : List Piece) → length after ≤ length (spell_result k t after)
+-- a function that may have no body has the type of its result
+abbrev results : FuncKind → ℕ
+results Plain = 1
+results Method = 1
+results _ = 0
+
+result_spelled : (k : FuncKind) (t : Ty) (after : List Piece) → results k + length after ≤ length (spell_result k t after)
 result_spelled Plain t after = omega (arith, type_spelled t after)
 result_spelled Method t after = omega (arith, type_spelled t after)
 result_spelled Constructor t after = omega arith
 result_spelled Destructor t after = omega arith
 
+at_most_one : (o : Option Statements) → missing o ≤ 1
+at_most_one None = omega arith
+at_most_one (Some ss) = omega arith
+
+none_missing : (o : Option Statements) → There o → missing o ≤ 0
+none_missing None h = absurd h
+none_missing (Some ss) h = omega arith
+
+result_for : (k : FuncKind) (f : Function) → HasForm k f → missing f.body ≤ results k
+result_for Plain f h = at_most_one f.body
+result_for Method f h = at_most_one f.body
+result_for Constructor f h = none_missing f.body h.1
+result_for Destructor f h = none_missing f.body h.3
+
 pub function_spelled : (f : Function) (after : List Piece) → IsFunction f → function_tokens f + length after ≤ length (spell_function f after)
 function_spelled f after h =
     let body = spell_body f.body after in
     let inits = spell_initialisers f.initialisers body in
-    let specified = spell_specification f.specification inits in
+    let specified = spell_specification (in_full f) f.specification inits in
     let params = spell_params f.parameters (mark sign.CloseParen ∷ specified) in
     omega (
       arith,
       result_spelled f.kind f.result (named f.name ∷ mark sign.OpenParen ∷ params),
       params_spelled f.parameters (mark sign.CloseParen ∷ specified),
-      specification_spelled f.specification inits,
+      specification_spelled f.kind (in_full f) f.specification inits,
       initialisers_spelled f.initialisers body h.initialisers,
       body_spelled f.body after h.body,
+      result_for f.kind f h.form,
     )
 
 -- classes and programs

@@ -1,14 +1,13 @@
 -- What functions become has few call sites, and weighs little in chains.
-use Rattle.std.proofs.Common.{◌≡◌, ℕ, ◌+◌, ◌*◌, Bool, true, false, List, [], ◌∷◌, ◌++◌, length, Option, Some, None, if◌then◌else◌, arith}
+use Rattle.std.proofs.Common.{◌≡◌, ℕ, ◌+◌, ◌*◌, ◌≤◌, Bool, true, false, List, [], ◌∷◌, length, Option, Some, None, if◌then◌else◌, arith}
 use Rattle.std.proofs.lemmas.List.{length-map}
-use Rattle.cxx_ast.specs.declared.types.Ty.{Ty}
 use Rattle.cxx_ast.specs.declared.declaration.FuncKind.{FuncKind}
 use Rattle.cxx_ast.specs.declared.declaration.FuncKind.TheVariants.{Plain, Method, Constructor, Destructor}
-use Rattle.cxx_ast.specs.Plain.{Checked, Function, Expressions, no_expressions, expression_then, Initialiser}
+use Rattle.cxx_ast.specs.Plain.{Checked, Function, Expressions, no_expressions, expression_then, Initialiser, Specification, listed, noexcept}
 use Rattle.meaning_forms.specs.Class.{ObjectType, int_type, class_type, object_type, parts_of}
 use Rattle.meaning_forms.specs.Running.{destructor}
 use Rattle.meaning_forms.specs.Call.{initialiser_for, statements_in}
-use Rattle.region_forms.specs.Form.{Region, in_order, destroy_part, destroy_scope}
+use Rattle.region_forms.specs.Form.{Region, in_order, destroy_part, destroy_scope, regions_from}
 use Rattle.region_forms.specs.Numbering.{number_of, type_number}
 use Rattle.region_forms.specs.LowerExpression.{Lowering, first_temporary}
 use Rattle.region_forms.specs.LowerStatement.{statements, nothing_more}
@@ -19,6 +18,8 @@ use Rattle.source_bounds.proofs.Sums.{sum_from}
 use Rattle.source_bounds.proofs.Tabled.{Tabled, TabledRegion, no_table, upto, first_of, single, then_others, an_op, in_a_row, a_scope}
 use Rattle.source_bounds.proofs.TabledExpressions.{built_sited}
 use Rattle.source_bounds.proofs.TabledStatements.{Others, valued_table, nothing_table, statements_table}
+use Rattle.source_bounds.specs.TableWeights.{chain_weight, all_chain_weight}
+use Rattle.source_bounds.proofs.Measures.{weights_within}
 
 -- the sites of building the parts from the j-th on
 abbrev parts_sites : (ℕ → ℕ) → ℕ → List ObjectType → ℕ
@@ -41,13 +42,15 @@ kind_sites Destructor parts f = 2 * parts
 kind_sites _ parts f = 0
 
 -- a specification
-abbrev pub specification_sites : Option (List Ty) → ℕ
+abbrev pub specification_sites : Option Specification → ℕ
 specification_sites None = 0
-specification_sites (Some types) = 2
+specification_sites (Some (listed types)) = 2
+specification_sites (Some (noexcept place b)) = 5
 
-abbrev pub specification_guards : Option (List Ty) → ℕ
+abbrev pub specification_guards : Option Specification → ℕ
 specification_guards None = 0
-specification_guards (Some types) = length types + 9
+specification_guards (Some (listed types)) = length types + 9
+specification_guards (Some (noexcept place b)) = 9
 
 module _ (l : Lowering) where
   built : (k : ℕ) (build : ℕ → ObjectType → List Region) (w : ℕ → ℕ) (j : ℕ) (types : List ObjectType) (left : ℕ → List Region) (m g d : ℕ) →
@@ -92,7 +95,7 @@ module _ (l : Lowering) where
   copy_cost k j int_type = single (an_op _)
   copy_cost k j (class_type c) = single (an_op _)
 
-  abbrev written : Function → ℕ
+  abbrev pub written : Function → ℕ
   written f = statements_tokens (statements_in f.body)
 
   own_statements : (f : Function) → Others l (written f) (written f) (λ e. statements l (statements_in f.body) 0 (length f.parameters) e)
@@ -110,11 +113,18 @@ module _ (l : Lowering) where
   bodied Plain k f d = upto (0 + written f) (written f) (own_statements f d) (omega arith) (omega arith)
   bodied Method k f d = upto (0 + written f) (written f) (own_statements f d) (omega arith) (omega arith)
 
-  limited_table : (o : Option (List Ty)) (act : ℕ → List Region) (s g d : ℕ) → Others l s g act → TabledRegion (s + specification_sites o) (g + specification_guards o) (limited o act d)
+  limited_table : (o : Option Specification) (act : ℕ → List Region) (s g d : ℕ) → Others l s g act → TabledRegion (s + specification_sites o) (g + specification_guards o) (limited l o act d)
   limited_table None act s g d r = let k = r (d + 1) in record { sites = omega (arith, k.sites); guards = omega (arith, k.guards) }
-  limited_table (Some types) act s g d r =
+  limited_table (Some (noexcept place b)) act s g d r = let k = r (d + 2) in record { sites = omega (arith, k.sites); guards = omega (arith, k.guards) }
+  limited_table (Some (listed types)) act s g d r =
       let k = r (d + 2) in
       record { sites = omega (arith, k.sites); guards = omega (arith, k.guards, length-map types (λ t. type_number (object_type t))) }
+
+  -- what guards a whole function weighs 9 in chains, whatever types it lists
+  limited_weight : (o : Option Specification) (act : ℕ → List Region) (s g d : ℕ) → Others l s g act → chain_weight (limited l o act d) ≤ g + 9
+  limited_weight None act s g d r = let k = r (d + 1) in omega (arith, k.guards, weights_within (regions_from (act (d + 1))))
+  limited_weight (Some (listed types)) act s g d r = let k = r (d + 2) in omega (arith, k.guards, weights_within (regions_from (act (d + 2))))
+  limited_weight (Some (noexcept place b)) act s g d r = let k = r (d + 2) in omega (arith, k.guards, weights_within (regions_from (act (d + 2))))
 
   last_table : (is_main : Bool) → Tabled 0 0 (last_result l is_main)
   last_table false = no_table 0 0
@@ -122,11 +132,24 @@ module _ (l : Lowering) where
 
   pub body_table : (is_main : Bool) (k : ℕ) (f : Function) →
       TabledRegion (kind_sites f.kind (length (parts_of l.program k)) f + written f + specification_sites f.specification) (written f + specification_guards f.specification)
-      (in_order (limited f.specification (body_of l f.kind k f) 1 ∷ last_result l is_main))
+      (in_order (limited l f.specification (body_of l f.kind k f) 1 ∷ last_result l is_main))
   body_table is_main k f =
       in_a_row _ (upto _ _ (first_of
       (limited_table f.specification (body_of l f.kind k f) (kind_sites f.kind (length (parts_of l.program k)) f + written f) (written f) 1 (λ d. bodied f.kind k f d))
       (last_table is_main)) (omega arith) (omega arith))
+
+  last_weight : (is_main : Bool) → all_chain_weight (regions_from (last_result l is_main)) ≤ 0
+  last_weight false = omega arith
+  last_weight true = omega arith
+
+  pub body_weight : (is_main : Bool) (k : ℕ) (f : Function) →
+      chain_weight (in_order (limited l f.specification (body_of l f.kind k f) 1 ∷ last_result l is_main)) ≤ written f + 9
+  body_weight is_main k f =
+      omega (
+        arith,
+        limited_weight f.specification (body_of l f.kind k f) (kind_sites f.kind (length (parts_of l.program k)) f + written f) (written f) 1 (λ d. bodied f.kind k f d),
+        last_weight is_main,
+      )
 
   pub default_table : (is_declared : Bool) (k : ℕ) → TabledRegion (if is_declared then 0 else 2 * length (parts_of l.program k)) 0
       (in_order (if is_declared then [] else build_parts l k (default_part l k) 0 (parts_of l.program k) nothing_more 1))

@@ -13,15 +13,16 @@ use Rattle.region_forms.specs.WellFormed.{rows_test}
 use Rattle.machine_forms.specs.Emitted.{listed_type}
 use Rattle.image_forms.specs.Linkable.{BaseIsThere}
 use Rattle.source_bounds.specs.Laws.{TokensAreFew, BasesAreThere, BadExceptionIsThere}
+use Rattle.cxx_ast.specs.declared.standard.Std.{Std}
 
-tokens_kept : (p : Program) → (checked p).program.tokens ≡ p.tokens
+tokens_kept : (std : Std) (p : Program) → (checked std p).program.tokens ≡ p.tokens
 unfolding checked
-tokens_kept p = refl
+tokens_kept std p = refl
 
 pub tokens_are_few : TokensAreFew
 tokens_are_few p h =
-    let same : p.program.tokens ≡ (checked h.program).program.tokens = ap (λ q. q.program.tokens) h.resolved in
-    omega (arith, same, tokens_kept h.program, h.tree.tokens_counted, h.lexed.few)
+    let same : p.program.tokens ≡ (checked h.std h.program).program.tokens = ap (λ q. q.program.tokens) h.resolved in
+    omega (arith, same, tokens_kept h.std h.program, h.tree.tokens_counted, h.lexed.few)
 
 -- rows whose bases stand before them
 bases_within : (rows : List TypeRow) (n all : ℕ) → rows_test n rows ≡ true → n + length rows ≤ all →
@@ -44,9 +45,9 @@ pub bases_are_there : ((p : Checked) → IsChecked p → rows_test 0 (type_rows 
 bases_are_there before p h =
     bases_within (type_rows p) 0 (length (map listed_type (type_rows p))) (before p h) (omega (arith, length-map (type_rows p) listed_type))
 
-some_class : (p : Program) → 1 < length (map listed_type (type_rows (checked p)))
+some_class : (std : Std) (p : Program) → 1 < length (map listed_type (type_rows (checked std p)))
 unfolding checked
-some_class p = omega arith
+some_class std p = omega arith
 
 pub bad_exception_is_there : BadExceptionIsThere
-bad_exception_is_there p h = subst (λ q. 1 < length (map listed_type (type_rows q))) (sym h.resolved) (some_class h.program)
+bad_exception_is_there p h = subst (λ q. 1 < length (map listed_type (type_rows q))) (sym h.resolved) (some_class h.std h.program)

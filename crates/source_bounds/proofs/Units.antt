@@ -5,11 +5,10 @@ use Rattle.std.proofs.lemmas.List.{length-append, length-map}
 use Rattle.std.specs.List.{AllByRecursion}
 use Rattle.std.specs.Prelude.{nat_lt, slice_get, unwrap_or}
 use Rattle.cxx_ast.specs.declared.name.Name.{Name}
-use Rattle.cxx_ast.specs.declared.types.Ty.{Ty}
 use Rattle.cxx_ast.specs.declared.declaration.FuncKind.{FuncKind}
 use Rattle.cxx_ast.specs.declared.declaration.FuncKind.TheVariants.{Plain, Method, Constructor, Destructor}
-use Rattle.cxx_ast.specs.Plain.{Function, Class, Program, Checked, Statements}
-use Rattle.cxx_ast.specs.Checked.{checked, IsChecked}
+use Rattle.cxx_ast.specs.Plain.{Function, Class, Program, Checked, Statements, Specification, listed, noexcept}
+use Rattle.cxx_ast.specs.Checked.{checked, IsChecked, bad_exception, resolve_declarations, classes_of, functions_of}
 use Rattle.cxx_ast.specs.Declare.{at_the_start}
 use Rattle.meaning_forms.specs.Class.{class_at, no_class, parts_of, base_part, member_part}
 use Rattle.meaning_forms.specs.Call.{statements_in}
@@ -25,12 +24,13 @@ use Rattle.source_bounds.specs.RegionWords.{region_words, HasFewWays}
 use Rattle.source_bounds.proofs.Budget.{Whole, AreNamed}
 use Rattle.source_bounds.proofs.Functions.{specification_words, kind_words, extra_words, whole_body, default_whole, copy_whole, destructor_whole}
 use Rattle.source_bounds.proofs.Spelled.{source_spelled}
-use Rattle.source_bounds.proofs.Bound.{declarations_kept}
+use Rattle.source_bounds.proofs.Bound.{declarations_kept, classes_settled, functions_settled}
 use Rattle.source_bounds.proofs.Rows.{checked_named}
 use Rattle.source_bounds.proofs.Parts.{checked_parts}
 use Rattle.source_bounds.proofs.Classes.{FewSpecials, checked_few, extras, all_extras}
 use Rattle.source_bounds.proofs.Sums.{sum_from}
 use Rattle.source_bounds.proofs.Lists.{both_all, at_or}
+use Rattle.cxx_ast.specs.declared.standard.Std.{Std}
 
 -- the words of functions, with ten beside each body
 abbrev pub code_words : List RegionFunction → ℕ
@@ -63,32 +63,40 @@ both_functions {rows} {m} {k} fs gs h g = record {
 with_more : {rows m : ℕ} {fs : List RegionFunction} (k : ℕ) → FineFunctions rows m fs → m ≤ k → FineFunctions rows k fs
 with_more k h le = record { few = h.few; named = h.named; words = omega (arith, h.words, le) }
 
--- a body has its statements' tokens, and one more
-pub body_counted : (o : Option Statements) → statements_tokens (statements_in o) + 1 ≤ body_tokens o
+-- a body has its statements' tokens, and two more
+pub body_counted : (o : Option Statements) → statements_tokens (statements_in o) + 2 ≤ body_tokens o
 body_counted None = omega arith
 body_counted (Some ss) = omega arith
 
-pub specification_counted : (o : Option (List Ty)) → specification_words o ≤ 128 * specification_tokens o
-specification_counted None = omega arith
-specification_counted (Some types) = omega arith
-
-pub many_parameters : (n : ℕ) → 15 ≤ n → 29 ≤ parameters_tokens n
+pub many_parameters : (n : ℕ) → 16 ≤ n → 31 ≤ parameters_tokens n
 many_parameters zero h = absurd (omega (arith, h))
 many_parameters (suc n) h = omega (arith, h)
 
-pub not_small : (n : ℕ) → nat_lt n 15 ≡ false → 15 ≤ n
+pub not_small : (n : ℕ) → nat_lt n 16 ≡ false → 16 ≤ n
 not_small n e = grind (arith, nat_tests, e)
 
--- what a kind of function does beside its statements is paid for, but for the extra words
-pub kind_counted : (k : FuncKind) (m : ℕ) (f : Function) → m ≤ 256 →
-    kind_words k m f + 14 ≤ 128 * (parameters_tokens (length f.parameters) + initialisers_tokens f.initialisers + 4) + extra_words k m (length f.parameters)
-kind_counted Plain m f h = omega arith
-kind_counted Method m f h = omega arith
-kind_counted Destructor m f h = omega arith
-kind_counted Constructor m f h = go (nat_lt (length f.parameters) 15) refl
+-- what a kind of function does beside its statements is paid for, with its specification, but for the extra words
+pub kind_counted : (k : FuncKind) (m : ℕ) (f : Function) (o : Option Specification) → m ≤ 256 →
+    kind_words k m f + specification_words o + 14
+    ≤ 128 * (parameters_tokens (length f.parameters) + initialisers_tokens f.initialisers + specification_tokens k o + 5) + extra_words k m (length f.parameters)
+kind_counted Plain m f None h = omega arith
+kind_counted Plain m f (Some (listed types)) h = omega arith
+kind_counted Plain m f (Some (noexcept place b)) h = omega arith
+kind_counted Method m f None h = omega arith
+kind_counted Method m f (Some (listed types)) h = omega arith
+kind_counted Method m f (Some (noexcept place b)) h = omega arith
+kind_counted Destructor m f None h = omega arith
+kind_counted Destructor m f (Some (listed types)) h = omega arith
+kind_counted Destructor m f (Some (noexcept place b)) h = omega arith
+kind_counted Constructor m f o h = omega (arith, go (nat_lt (length f.parameters) 16) refl, of_constructor o)
   where
-    go : (b : Bool) → nat_lt (length f.parameters) 15 ≡ b →
-        16 * m + 32 * initialisers_tokens f.initialisers + 14 ≤ 128 * (parameters_tokens (length f.parameters) + initialisers_tokens f.initialisers + 4) + (if b then 16 * m else 0)
+    of_constructor : (s : Option Specification) → specification_words s ≤ 128 * specification_tokens Constructor s + 445
+    of_constructor None = omega arith
+    of_constructor (Some (listed types)) = omega arith
+    of_constructor (Some (noexcept place b)) = omega arith
+
+    go : (b : Bool) → nat_lt (length f.parameters) 16 ≡ b →
+        16 * m + 32 * initialisers_tokens f.initialisers + 459 ≤ 128 * (parameters_tokens (length f.parameters) + initialisers_tokens f.initialisers + 5) + (if b then 16 * m else 0)
     go true e = omega arith
     go false e = omega (arith, h, many_parameters (length f.parameters) (not_small (length f.parameters) e))
 
@@ -102,7 +110,7 @@ module _ (rows : ℕ) (p : Checked) (layout : Layout) where
   declared_fine is_member is_main k f fs h small g =
       let l = lowering p layout is_member (variables_of f) in
       one_function (declared_function p layout is_member is_main k f) fs (whole_body rows l is_main k f h)
-      (omega (arith, kind_counted f.kind (length (parts_of p k)) f small, body_counted f.body, specification_counted f.specification)) g
+      (omega (arith, kind_counted f.kind (length (parts_of p k)) f f.specification small, body_counted f.body)) g
 
   own_fine : (n : ℕ) (fs : List Function) → length (parts_of p 0) ≡ 0 → AllByRecursion (FunctionNamesRows rows) fs →
       FineFunctions rows (128 * functions_tokens fs) (own_functions p layout n fs)
@@ -116,7 +124,7 @@ module _ (rows : ℕ) (p : Checked) (layout : Layout) where
       nothing_extra Plain m c e = omega arith
       nothing_extra Method m c e = omega arith
       nothing_extra Destructor m c e = omega (arith, e)
-      nothing_extra Constructor m c e = go (nat_lt c 15)
+      nothing_extra Constructor m c e = go (nat_lt c 16)
         where
           go : (b : Bool) → (if b then 16 * m else 0) ≤ 0
           go true = omega (arith, e)
@@ -129,9 +137,9 @@ module _ (rows : ℕ) (p : Checked) (layout : Layout) where
       with_more (128 * functions_tokens (f ∷ fs) + extras (length (parts_of p k)) (f ∷ fs))
       (declared_fine true false k f (map (declared_function p layout true false k) fs) h.0 small (methods_fine k fs small h.1)) (omega arith)
 
-  parts_counted : (c : Class) → 369 * length (class_parts c) + 30 ≤ 128 * (3 * length c.members + base_tokens c.base + 5)
-  parts_counted c =
-      omega (arith, length-append (base_part c.base) (map member_part c.members), length-map c.members member_part, (base_counted c.base).0, (base_counted c.base).1)
+  parts_counted : (c : Class) → length (class_parts c) ≤ 256 → 385 * length (class_parts c) + 30 ≤ 128 * (3 * length c.members + base_tokens c.base + 5)
+  parts_counted c small =
+      omega (arith, small, length-append (base_part c.base) (map member_part c.members), length-map c.members member_part, (base_counted c.base).0, (base_counted c.base).1)
 
   class_fine : (k : ℕ) → length (class_parts (class_at p k)) ≤ 256 → AllByRecursion (FunctionNamesRows rows) (class_at p k).functions → FewSpecials (class_at p k) →
       FineFunctions rows (128 * class_tokens (class_at p k)) (functions_of_class p layout k)
@@ -147,7 +155,7 @@ module _ (rows : ℕ) (p : Checked) (layout : Layout) where
       with_more (128 * class_tokens c)
       (both_functions (map (declared_function p layout true false k) c.functions)
       (implicit_default_function p layout k ∷ implicit_copy_function p layout k ∷ implicit_destructor_function p layout k ∷ []) (methods_fine k c.functions small h) implicit)
-      (omega (arith, all_extras m c few, parts_counted c))
+      (omega (arith, all_extras m c few, parts_counted c small))
 
   -- what holds of each class
   record ClassFits (c : Class) : Type 0 where
@@ -178,18 +186,23 @@ summed (c ∷ cs) =
 
 -- a checked program
 
-no_parts : (p : Program) → length (parts_of (checked p) 0) ≡ 0
+no_parts : (std : Std) (p : Program) → length (parts_of (checked std p) 0) ≡ 0
 unfolding checked
-no_parts p = refl
+no_parts std p = refl
 
-program_tokens : (p : Program) →
-    classes_tokens (checked p).classes + functions_tokens (checked p).functions + 3 * length (checked p).globals ≤ declarations_tokens p.declarations + 5
+program_tokens : (std : Std) (p : Program) →
+    classes_tokens (checked std p).classes + functions_tokens (checked std p).functions + 3 * length (checked std p).globals ≤ declarations_tokens p.declarations + 5
 unfolding checked
-program_tokens p = let kept = declarations_kept (at_the_start p.declarations) p.declarations in omega (arith, kept)
+program_tokens std p =
+    let ds = resolve_declarations (at_the_start p.declarations) p.declarations in
+    let kept = declarations_kept (at_the_start p.declarations) p.declarations in
+    let classes = classes_settled std [] (bad_exception ∷ classes_of ds) in
+    let functions = functions_settled None (functions_of ds) refl in
+    omega (arith, kept, classes, functions)
 
-kept_tokens : (p : Program) → (checked p).program.tokens ≡ p.tokens
+kept_tokens : (std : Std) (p : Program) → (checked std p).program.tokens ≡ p.tokens
 unfolding checked
-kept_tokens p = refl
+kept_tokens std p = refl
 
 pub checked_tokens : (p : Checked) → IsChecked p → classes_tokens p.classes + functions_tokens p.functions + 3 * length p.globals ≤ p.program.tokens + 5
 checked_tokens p h =
@@ -197,11 +210,11 @@ checked_tokens p h =
     let spelled = source_spelled h.tokens tree.written tree.grammatical tree.spelled in
     let same : declarations_tokens h.program.declarations ≡ declarations_tokens _ = ap declarations_tokens (sym tree.declarations) in
     subst (λ q. classes_tokens q.classes + functions_tokens q.functions + 3 * length q.globals ≤ q.program.tokens + 5) (sym h.resolved)
-    (omega (arith, program_tokens h.program, same, spelled, kept_tokens h.program, tree.tokens_counted))
+    (omega (arith, program_tokens h.std h.program, same, spelled, kept_tokens h.std h.program, tree.tokens_counted))
 
 -- a function of no class has no parts to build
 pub no_own_parts : (p : Checked) → IsChecked p → length (parts_of p 0) ≡ 0
-no_own_parts p h = subst (λ q. length (parts_of q 0) ≡ 0) (sym h.resolved) (no_parts h.program)
+no_own_parts p h = subst (λ q. length (parts_of q 0) ≡ 0) (sym h.resolved) (no_parts h.std h.program)
 
 pub checked_fine : CheckedClassesFit → (p : Checked) (l : Layout) → IsChecked p →
     FineFunctions (length (type_rows p)) (128 * p.program.tokens + 640) (regions_of p l).functions

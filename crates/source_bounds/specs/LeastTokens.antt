@@ -2,8 +2,10 @@
 -- other tokens are not counted.
 use Rattle.std.specs.Prelude.{ℕ, zero, suc, ◌+◌, ◌*◌, List, [], ◌∷◌, length, Option, Some, None}
 use Rattle.cxx_ast.specs.declared.name.Name.{Name}
-use Rattle.cxx_ast.specs.declared.types.Ty.{Ty}
-use Rattle.cxx_ast.specs.Plain.{Expression, number, path, paren, unary, binary, call, std_call, Expressions, no_expressions, expression_then, Statement, block, empty, if_else, while, return, break, continue, throw, try, assign, evaluate, local_int, local_ref, local_object, Else, no_else, else_do, Statements, no_statements, statement_then, Handlers, no_handlers, handler_then, Initialiser, Function, Class, Declaration, class_declaration, global_declaration, function_declaration}
+use Rattle.cxx_ast.specs.Plain.{Expression, number, path, paren, unary, binary, call, std_call, Expressions, no_expressions, expression_then, Statement, block, empty, if_else, while, return, break, continue, throw, try, assign, evaluate, local_int, local_ref, local_object, Else, no_else, else_do, Statements, no_statements, statement_then, Handlers, no_handlers, handler_then, Initialiser, Function, Class, Declaration, class_declaration, global_declaration, function_declaration, Specification, listed, noexcept}
+use Rattle.cxx_ast.specs.declared.declaration.FuncKind.{FuncKind}
+use Rattle.cxx_ast.specs.declared.declaration.FuncKind.TheVariants.{Destructor}
+use Rattle.cxx_ast.specs.Settled.{excess}
 
 abbrev mutual
   pub tokens_in : Expression → ℕ
@@ -69,20 +71,23 @@ abbrev pub parameters_tokens : ℕ → ℕ
 parameters_tokens zero = 0
 parameters_tokens (suc n) = 2 * n + 1
 
--- a specification has a word and two parentheses beside its types
-abbrev pub specification_tokens : Option (List Ty) → ℕ
-specification_tokens None = 0
-specification_tokens (Some types) = length types + 3
+-- A specification that lists types has a word and two parentheses beside them. A destructor may have taken over as many types as may be, and
+-- `noexcept`, without a token of its own.
+abbrev pub specification_tokens : FuncKind → Option Specification → ℕ
+specification_tokens Destructor s = excess s
+specification_tokens kind None = 0
+specification_tokens kind (Some (listed types)) = length types + 3
+specification_tokens kind (Some (noexcept place b)) = 1
 
--- a body stands in braces, and a semicolon where there is none
+-- a body stands in braces; where there is none, there is a semicolon, and a type before the function's name
 abbrev pub body_tokens : Option Statements → ℕ
-body_tokens None = 1
+body_tokens None = 2
 body_tokens (Some ss) = statements_tokens ss + 2
 
 -- a function has a name and two parentheses
 abbrev pub function_tokens : Function → ℕ
 function_tokens f =
-    parameters_tokens (length f.parameters) + specification_tokens f.specification + initialisers_tokens f.initialisers + body_tokens f.body + 3
+    parameters_tokens (length f.parameters) + specification_tokens f.kind f.specification + initialisers_tokens f.initialisers + body_tokens f.body + 3
 
 abbrev pub functions_tokens : List Function → ℕ
 functions_tokens [] = 0

@@ -1,7 +1,7 @@
 -- The types that handlers catch, and those that specifications list, are among the first so many of a program.
 use Rattle.std.specs.Prelude.{ℕ, ◌+◌, ◌≤◌, List, [], ◌∷◌, Option, Some, None}
 use Rattle.cxx_ast.specs.declared.types.Ty.{Ty}
-use Rattle.cxx_ast.specs.Plain.{Statement, block, if_else, while, try, Else, no_else, else_do, Statements, no_statements, statement_then, Handlers, no_handlers, handler_then, Function}
+use Rattle.cxx_ast.specs.Plain.{Statement, block, if_else, while, try, Else, no_else, else_do, Statements, no_statements, statement_then, Handlers, no_handlers, handler_then, Function, Specification, listed, noexcept}
 use Rattle.meaning_forms.specs.Class.{object_type}
 use Rattle.region_forms.specs.Numbering.{type_number}
 
@@ -41,9 +41,10 @@ HaveRows rows [] = Unit {0}
 HaveRows rows (t ∷ types) = HasRow rows t × HaveRows rows types
 
 -- a specification
-abbrev pub SpecificationNamesRows : ℕ → Option (List Ty) → Type 0
+abbrev pub SpecificationNamesRows : ℕ → Option Specification → Type 0
 SpecificationNamesRows rows None = Unit {0}
-SpecificationNamesRows rows (Some types) = HaveRows rows types
+SpecificationNamesRows rows (Some (listed types)) = HaveRows rows types
+SpecificationNamesRows rows (Some (noexcept place b)) = Unit {0}
 
 -- a function
 pub record FunctionNamesRows (rows : ℕ) (f : Function) : Type 0 where

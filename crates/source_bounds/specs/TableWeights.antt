@@ -51,3 +51,24 @@ abbrev mutual
   pub guards_in_clauses : Clauses → ℕ
   guards_in_clauses no_clauses = 0
   guards_in_clauses (clause_then t x r cs) = guards_in r + guards_in_clauses cs + 6
+
+-- of these what guards and its filters alone, without the types of lists: the length of chains and their number depend on no more
+abbrev mutual
+  pub chain_weight : Region → ℕ
+  chain_weight (seq rs) = all_chain_weight rs
+  chain_weight (op o) = 0
+  chain_weight (branch v a b) = chain_weight a + chain_weight b
+  chain_weight (loop v r) = chain_weight r
+  chain_weight (protect r c) = chain_weight r
+  chain_weight (catch r cs) = chain_weight r + clauses_chain_weight cs + 3
+  chain_weight (limit r types) = chain_weight r + 9
+  chain_weight (barrier r) = chain_weight r
+  chain_weight (leave_region n) = 0
+
+  pub all_chain_weight : RegionList → ℕ
+  all_chain_weight no_regions = 0
+  all_chain_weight (region_then r rs) = chain_weight r + all_chain_weight rs
+
+  pub clauses_chain_weight : Clauses → ℕ
+  clauses_chain_weight no_clauses = 0
+  clauses_chain_weight (clause_then t x r cs) = chain_weight r + clauses_chain_weight cs + 6

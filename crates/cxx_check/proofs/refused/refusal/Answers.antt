@@ -2,6 +2,7 @@ use Rattle.std.proofs.Common.{ap, ◌∙◌, map, not, if◌then◌else◌}
 use Rattle.cxx_ast.specs.Broken.{has_main, declarations_found}
 use Rattle.cxx_ast.specs.Declare.{definitions}
 use Rattle.cxx_ast.specs.DeclaredNames.{once_only_found}
+use Rattle.cxx_ast.specs.Standards.{standard_found}
 use Rattle.cxx_ast.specs.Rule.{no_main}
 use Rattle.cxx_ast.specs.View.{declaration_of, program_of}
 use Rattle.cxx_rules.specs.Known.{known_at_first}
@@ -15,10 +16,11 @@ returns c =
     let start = c.in_ok-env.env in
     let env = c.in_ok-walked.walked.env in
     let place = c.args.program.now.length in
-    refused_by (program_of c.args.program.now) c.in_ok-walked.walked.found c.in_ok-once.once c.broken_if-main.result c.and-2.result start env
+    refused_by c.args.standard (program_of c.args.program.now) c.in_ok-walked.walked.found c.in_ok-once.once c.broken_if-main.result c.in_ok-own.own c.and-3.result start env
     (c.in_ok-env.ensures ∙ ap known_at_first (c.in_ok-definitions.ensures ∙ ap (λ ds. definitions (map declaration_of ds)) slice))
     c.in_ok-walked.ensures.env
     (c.in_ok-walked.ensures.found ∙ ap (λ ds. seen start (declarations_found start (map declaration_of ds))) slice)
     (c.in_ok-once.ensures ∙ ap (λ ds. seen env (once_only_found (map declaration_of ds))) slice)
     (c.broken_if-main.ensures ∙ ap (λ b. if not b then broken_at no_main place else nothing_found) (c.has_main.ensures ∙ ap (λ ds. has_main (map declaration_of ds)) slice))
-    (c.and-2.ensures ∙ ap (λ f. both f c.broken_if-main.result) c.and.ensures)
+    (c.in_ok-own.ensures ∙ ap (λ ds. seen env (standard_found c.args.standard (map declaration_of ds))) slice)
+    (c.and-3.ensures ∙ ap (λ f. both f c.in_ok-own.own) (c.and-2.ensures ∙ ap (λ f. both f c.broken_if-main.result) c.and.ensures))

@@ -11,7 +11,7 @@ returns-in_err-tokens c =
     let told = c.in_err-tokens.ensures in
     let lexed : Lexed c.args.source.now (Err c.in_err-tokens.field-0.0) =
     record { tokens = told.tokens; bad_byte = told.bad_byte; literal_range = told.literal_range; open_comment = told.open_comment; too_many_tokens = told.too_many_tokens } in
-    subst (Answers c.args.source.now) (sym (p.1 ∙ ap Err p.2)) (lexer_refuses c.args.source.now c.in_err-tokens.field-0.0 lexed)
+    subst (Answers c.args.standard c.args.source.now) (sym (p.1 ∙ ap Err p.2)) (lexer_refuses c.args.standard c.args.source.now c.in_err-tokens.field-0.0 lexed)
 
 pub parse-requires : goal.parse-requires
 parse-requires c =
@@ -24,19 +24,19 @@ returns-in_err-program c =
     let p = err_from_is_err_and c.from_residual-in_err-program.result c.from_residual-in_err-program.ensures.1 in
     let told = c.in_ok-tokens.ensures in
     let has = lexer_reads c.args.source.now c.in_ok-tokens.tokens c.as_slice.result.now c.as_slice.ensures.value told.tokens told.bad_byte told.literal_range told.open_comment told.too_many_tokens in
-    subst (Answers c.args.source.now) (sym (p.1 ∙ ap Err p.2))
-    (parser_refuses c.args.source.now c.as_slice.result.now has c.in_err-program.ensures.one c.in_err-program.field-0.0 c.in_err-program.ensures.refusal)
+    subst (Answers c.args.standard c.args.source.now) (sym (p.1 ∙ ap Err p.2))
+    (parser_refuses c.args.standard c.args.source.now c.as_slice.result.now has c.in_err-program.ensures.one c.in_err-program.field-0.0 c.in_err-program.ensures.refusal)
 
 pub returns-in_err-checked : goal.returns-in_err-checked
 returns-in_err-checked c =
     let p = err_from_is_err_and c.from_residual-in_err-checked.result c.from_residual-in_err-checked.ensures.1 in
     let told = c.in_ok-tokens.ensures in
     let has = lexer_reads c.args.source.now c.in_ok-tokens.tokens c.as_slice.result.now c.as_slice.ensures.value told.tokens told.bad_byte told.literal_range told.open_comment told.too_many_tokens in
-    subst (Answers c.args.source.now) (sym (p.1 ∙ ap Err p.2))
-    (checker_refuses c.args.source.now c.as_slice.result.now has c.in_ok-program.ensures.one (program_of c.in_ok-program.program) c.in_ok-program.ensures.tree c.in_err-checked.field-0.0 c.in_err-checked.ensures)
+    subst (Answers c.args.standard c.args.source.now) (sym (p.1 ∙ ap Err p.2))
+    (checker_refuses c.args.standard c.args.source.now c.as_slice.result.now has c.in_ok-program.ensures.one (program_of c.in_ok-program.program) c.in_ok-program.ensures.tree c.in_err-checked.field-0.0 c.in_err-checked.ensures)
 
 pub returns : goal.returns
 returns c =
     let told = c.in_ok-tokens.ensures in
     let has = lexer_reads c.args.source.now c.in_ok-tokens.tokens c.as_slice.result.now c.as_slice.ensures.value told.tokens told.bad_byte told.literal_range told.open_comment told.too_many_tokens in
-    checker_accepts c.args.source.now c.as_slice.result.now has c.in_ok-program.ensures.one (program_of c.in_ok-program.program) c.in_ok-program.ensures.tree c.in_ok-checked.checked c.in_ok-checked.ensures
+    checker_accepts c.args.standard c.args.source.now c.as_slice.result.now has c.in_ok-program.ensures.one (program_of c.in_ok-program.program) c.in_ok-program.ensures.tree c.in_ok-checked.checked c.in_ok-checked.ensures

@@ -1,4 +1,5 @@
 use Rattle.std.proofs.Common.{◌∙◌, ◌≤◌, Err, sym, subst, length}
+use Rattle.cxx_ast.specs.declared.standard.Std.TheVariants.{Cxx03}
 use Rattle.cxx_ast.specs.View.{checked_of}
 use Rattle.cxx_front.specs.Answer.{Answers}
 use Rattle.cxx_front.specs.Fate.{HasOnly, refused}
@@ -16,12 +17,12 @@ checked-requires g c =
 pub unreachable-requires : goal.unreachable-requires
 unreachable-requires g c =
     let source = c.as_slice.result.now in
-    let only = subst (λ e. Answers source (Err e)) c.in-Err-Refused.field-0-is c.in-Err-Refused.ensures in
+    let only = subst (λ e. Answers Cxx03 source (Err e)) c.in-Err-Refused.field-0-is c.in-Err-Refused.ensures in
     c.generated_sources_are_valid.ensures.none_refused c.args.size c.requires.size c.in-Err-Refused.field-0-0 c.in-Err-Refused.field-0-1
-    (subst (λ s. HasOnly s (refused c.in-Err-Refused.field-0-0 c.in-Err-Refused.field-0-1)) (c.as_slice.ensures.value ∙ c.in-Ok.ensures) only)
+    (subst (λ s. HasOnly Cxx03 s (refused c.in-Err-Refused.field-0-0 c.in-Err-Refused.field-0-1)) (c.as_slice.ensures.value ∙ c.in-Ok.ensures) only)
 
 pub count_program-requires : goal.count_program-requires
-count_program-requires g c = record { turns = c.requires.turns; program = is_checked c.as_slice.result.now c.in-Ok-checked.program c.in-Ok-checked.ensures }
+count_program-requires g c = record { turns = c.requires.turns; program = is_checked Cxx03 c.as_slice.result.now c.in-Ok-checked.program c.in-Ok-checked.ensures }
 
 pub returns : goal.returns
 returns g c =

@@ -1,4 +1,4 @@
-use Rattle.std.proofs.Common.{◌≡◌, ◌∷◌, List, ap, map, string_bytes}
+use Rattle.std.proofs.Common.{◌≡◌, ◌∷◌, ap, map, string_bytes}
 use Rattle.eh_commands.proofs.HartReading.{inputs_next, inputs_fail}
 use Rattle.eh_commands.proofs.hart_files.read_inputs.Goals as goal
 

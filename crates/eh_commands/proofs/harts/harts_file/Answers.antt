@@ -1,9 +1,9 @@
-use Rattle.std.proofs.Common.{◌≡◌, ◌≤◌, ◌∙◌, ◌^◌, ℕ, [], length, map, string_bytes, sym, subst}
+use Rattle.std.proofs.Common.{◌≡◌, ◌≤◌, ◌∙◌, [], length, string_bytes, sym, subst}
 use Rattle.std.proofs.lemmas.List.{length-map}
 use Rattle.eh_commands.specs.HartFiles.{harts_asked, kept_bytes}
 use Rattle.eh_commands.specs.Question.{asked_by}
 use Rattle.eh_commands.proofs.HartReading.{as_many}
-use Rattle.eh_commands.proofs.HartsCauses.{harts_execute, harts_named, harts_unread}
+use Rattle.eh_commands.proofs.HartsCauses.{harts_execute, harts_unread}
 use Rattle.eh_commands.proofs.harts.harts_file.Goals as goal
 
 pub returns-in-Err-clause-cause : goal.returns-in-Err-clause-cause

@@ -13,7 +13,7 @@ returns-in-Err g c =
 
 pub run_program-requires : goal.run_program-requires
 run_program-requires g c =
-    record { turns = c.requires.turns; program = is_checked c.args.source.now c.in-Ok.program c.in-Ok.ensures }
+    record { turns = c.requires.turns; program = is_checked c.args.question.now.std c.args.source.now c.in-Ok.program c.in-Ok.ensures }
 
 pub returns-in-Ok : goal.returns-in-Ok
 returns-in-Ok g c =

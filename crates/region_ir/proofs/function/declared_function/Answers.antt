@@ -19,7 +19,7 @@ returns c =
     let variables : map type_in c.as_slice.result.now ≡ variables_of f = ap (map type_in) c.as_slice.ensures.value ∙ c.in_ok-variables.ensures in
     let counted : c.len.result ≡ length f.parameters = search (rules, c.len.ensures) in
     let parameters : c.in_ok-params.params ≡ l.first_variable + length f.parameters = omega (arith, c.in_ok-params.ensures, counted) in
-    let limits = limited f.specification (body_of l f.kind c.args.class f) 1 in
+    let limits = limited l f.specification (body_of l f.kind c.args.class f) 1 in
     let body : region_of c.in_order-body.result ≡ guarded c.args.is_main c.args.class f l =
     c.in_order-body.ensures ∙ ap in_order (c.in_ok-last_result.ensures ∙ ap (λ rs. rs ++ last_result l c.args.is_main)
     (ap (map region_of) c.in_ok-push.ensures.items ∙ ap (λ xs. map region_of (xs ++ c.in_ok-limited.field-0 ∷ [])) c.new-regions.ensures.items ∙
