@@ -149,7 +149,7 @@ apart_first f1 e1 f2 e2 a none low high = by (nat_lt a f2) refl
         let over : min e1 e2 ≤ max f1 f2 = grind (arith, nat_tests, none) in
         inr (omega (arith, over, from, low, high))
 
-none_shared : (b : Bool) (place : ℕ) → (if b then fault TableShared place ∷ [] else []) ≡ [] → b ≡ false
+pub none_shared : (b : Bool) (place : ℕ) → (if b then fault TableShared place ∷ [] else []) ≡ [] → b ≡ false
 none_shared true place e = absurd cc
 none_shared false place e = refl
 

@@ -217,6 +217,10 @@ elf_same file other i long all read =
     ap (λ fs. answer (least (fs ++ [])) (image_of other headers)) segments ∙
     ap (λ o. answer o (image_of other headers)) given.0 ∙ ap (λ (x : Image). Ok x) image
 
+pub headers_kept : (file other : List ℕ) → length other ≡ length file → AllStay file other (file_parts file) → headers_of other ≡ headers_of file
+headers_kept file other long all =
+    headers_same file other long all.0 (all_front file other (headers_in (headers_of file)) (record_in (runtime_header (headers_of file))) all.1)
+
 -- what is known of a file that was read
 pub record ElfFacts (file : List ℕ) (i : Image) : Type 0 where
   pub is : image_of file (headers_of file) ≡ i

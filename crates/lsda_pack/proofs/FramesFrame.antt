@@ -32,25 +32,25 @@ pub record FramesKept (memory other : Memory) (header : ℕ) (part : Part) : Typ
   pub own : PartKept other header part (header - part.address) (header - part.address + header_size (header_at part (header - part.address)).rows)
   pub frames : (a : ℕ) → (header_at part (header - part.address)).frames_at ≡ Some a → FramesAt memory other a
 
-abbrev frames_made : Parts → Frames
+abbrev pub frames_made : Parts → Frames
 frames_made parts = record { cies = parts.cies; fdes = parts.fdes }
 
-abbrev frames_agreed : Part → ℕ → Header → Parts → Bool → Result Frames Fault
+abbrev pub frames_agreed : Part → ℕ → Header → Parts → Bool → Result Frames Fault
 frames_agreed part p header parts whole = answer (table_disagreement (part.file_at + (p + 12)) header.rows parts.fdes) (frames_made parts)
 
-abbrev frames_by : Part → ℕ → Header → Parts → Result Frames Fault
+abbrev pub frames_by : Part → ℕ → Header → Parts → Result Frames Fault
 frames_by part p header parts = answer (least (header.faults ++ parts.faults)) true >>= frames_agreed part p header parts
 
-in_steps : (memory : Memory) (p : ℕ) (part : Part) → frames_in memory p part ≡ frames_by part p (header_at part p) (parts_behind memory (part.file_at + (p + 4)) (header_at part p).frames_at)
+pub in_steps : (memory : Memory) (p : ℕ) (part : Part) → frames_in memory p part ≡ frames_by part p (header_at part p) (parts_behind memory (part.file_at + (p + 4)) (header_at part p).frames_at)
 unfolding frames_in
 in_steps memory p part = refl
 
-answered : (o : Option Fault) (b : Bool) → answer o true ≡ Ok b → o ≡ None
+pub answered : (o : Option Fault) (b : Bool) → answer o true ≡ Ok b → o ≡ None
 answered None b e = refl
 answered (Some f) b e = absurd cc
 
 -- no part leaves its segment where nothing is refused of the parts
-none_cut : (part : Part) (p : ℕ) → (parts_at part p).faults ≡ [] → (spans_within (length part.bytes) part p).cut ≡ []
+pub none_cut : (part : Part) (p : ℕ) → (parts_at part p).faults ≡ [] → (spans_within (length part.bytes) part p).cut ≡ []
 unfolding parts_at
 none_cut part p none =
     let spans = spans_within (length part.bytes) part p in
@@ -85,3 +85,14 @@ frames_same memory other header part f kept read =
     in_steps other p new ∙
     ap (λ h. frames_by part p h (parts_behind other place h.frames_at)) head ∙
     ap (frames_by part p H) (behind_same memory other place H.frames_at kept.frames none.1) ∙ by
+
+-- nothing is refused of the header of frames that are read
+pub header_clean : (memory : Memory) (header : ℕ) (part : Part) (f : Frames) → part_with memory header ≡ Some part → frames memory header ≡ Ok f → (header_at part (header - part.address)).faults ≡ []
+unfolding frames
+header_clean memory header part f here read =
+    let p = header - part.address in
+    let H = header_at part p in
+    let P = parts_behind memory (part.file_at + (p + 4)) H.frames_at in
+    let by = sym (in_steps memory p part) ∙ sym (ap (frames_from memory header) here) ∙ read in
+    let whole = bind_ok (answer (least (H.faults ++ P.faults)) true) (frames_agreed part p H P) f by in
+    (both_none H.faults P.faults (none_refused (H.faults ++ P.faults) (answered (least (H.faults ++ P.faults)) whole.0 whole.1))).0

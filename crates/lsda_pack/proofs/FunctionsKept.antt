@@ -16,12 +16,14 @@ use Rattle.table_forms.specs.Verdict.{Thrown, verdict}
 use Rattle.table_forms.specs.WrittenTable.{HasBytes, SiteFits, TableStands}
 use Rattle.table_forms.proofs.Alls.{all_more}
 use Rattle.table_forms.proofs.Kept.{IsIn}
+use Rattle.eh_write.specs.Fits.{NumbersFit}
 use Rattle.eh_write.specs.Written.{entries_from, lists_bytes}
 use Rattle.personality.proofs.Members.{all_front, all_back}
 use Rattle.elf_image.specs.declared.program.ProgramHeader.{ProgramHeader}
 use Rattle.elf_image.specs.Loads as forms
 use Rattle.elf_image.specs.Loads.{part_of}
 use Rattle.elf_image.specs.Runtime.{has_address}
+use Rattle.lsda_pack.specs.Laws.{CanPack}
 use Rattle.lsda_pack.specs.PackedBytes.{body_bytes, front_bytes, no_names, with_names, packed_bytes}
 use Rattle.lsda_pack.specs.PackedImage.{spare, rewritten}
 use Rattle.lsda_pack.specs.Placed.{Placed}
@@ -91,7 +93,7 @@ bytes_some list address =
     front_some : (l : ListedTable) (a : ℕ) → 0 < length (front_bytes l a)
     front_some l a = omega arith
 
-bytes_are : (u : Placed) → bytes_for u ≡ packed_bytes (lists_for u) u.first
+pub bytes_are : (u : Placed) → bytes_for u ≡ packed_bytes (lists_for u) u.first
 unfolding bytes_for
 bytes_are u = refl
 
@@ -100,7 +102,7 @@ module _ (file : List ℕ) (hs : List ProgramHeader) (placed : AllByRecursion (f
   abbrev other : List ℕ
   other = fold rewritten file chosen
 
-  long : length other ≡ length file
+  pub long : length other ≡ length file
   long = all_size chosen file (all_more (Lies (length file) hs) (FitsIn (length file)) (λ t l. l.fits) chosen lies)
 
   -- a table that no packed one touches is read as before
@@ -126,7 +128,7 @@ module _ (file : List ℕ) (hs : List ProgramHeader) (placed : AllByRecursion (f
           word_same (part_of file q.0) (part_of other q.0).bytes from (part_long file other q.0 long both.placed) stays ∙
           sym (ap (option_and_then (λ part. word_in part (v - part.address))) both.here)
 
-  words_kept : (part : Part) (types : Option Types) (t : Table) → AllByRecursion (λ u. AllByRecursion (λ e. with_extent u e ≡ []) (words_of (map (part_of file) hs) part types t.types)) chosen →
+  pub words_kept : (part : Part) (types : Option Types) (t : Table) → AllByRecursion (λ u. AllByRecursion (λ e. with_extent u e ≡ []) (words_of (map (part_of file) hs) part types t.types)) chosen →
       WordsKept (map (part_of file) hs) (map (part_of other) hs) part types t
   words_kept part None t none = tt
   words_kept part (Some types) t none = each t.types none
@@ -173,9 +175,14 @@ module _ (file : List ℕ) (hs : List ProgramHeader) (placed : AllByRecursion (f
       table_stays (map (part_of file) hs) (map (part_of other) hs) t.part ys t.region (t.first - t.part.address) t.head t.table in'.head (read_in (map (part_of file) hs) t in') size
       (code_stays file other hs long placed) same' (words_kept t.part t.head.types t.table words)
 
-  -- a packed table decides as before
+  -- a packed table is read as its packed lists, and decides as before
   pub record Decides (t : Placed) (u : Table) : Type 0 where
     pub verdicts : (ip : ℕ) (signal : Bool) (thrown : Thrown) → verdict (Some u) ip signal thrown ≡ verdict (Some t.table) ip signal thrown
+    pub numbers : NumbersFit (lists_for t)
+    pub can : CanPack (lists_for t) t.first
+    pub few : length (packed_bytes (lists_for t) t.first) < 2 ^ 63
+    pub has : HasBytes (map (part_of other) hs) t.first (packed_bytes (lists_for t) t.first)
+    pub stands : TableStands (lists_for t) t.region u
 
   fits_too : (region : Region64) (memory new : Memory) → ((a : ℕ) → is_code new a ≡ is_code memory a) → (t : Placed) → AllByRecursion (SiteFits memory region) (lists_for t).sites →
       AllByRecursion (SiteFits new region) (lists_for t).sites
@@ -212,7 +219,7 @@ module _ (file : List ℕ) (hs : List ProgramHeader) (placed : AllByRecursion (f
       subst (λ o. IsSomeAnd o (λ part. (more : List ℕ) × (drop (t.first - part.address) part.bytes ≡ packed_bytes (lists_for t) t.first ++ more))) (sym both.there)
       (segment.0, segment.1 ∙ ap (λ xs. xs ++ segment.0) (bytes_are t)) in
       let table = bytes_stand (lists_for t) t.first numbers can few N t.region has (fits_too t.region M N (code_stays file other hs long placed) t (packed_fit M t in' packed)) in
-      by (lsda N t.first t.region) refl table
+      by numbers can few has (lsda N t.first t.region) refl table
     where
       some_bytes : (u : Placed) → 0 < length (bytes_for u)
       some_bytes u = subst (λ xs. 0 < length xs) (sym (bytes_are u)) (bytes_some (lists_for u) u.first)
@@ -231,9 +238,16 @@ module _ (file : List ℕ) (hs : List ProgramHeader) (placed : AllByRecursion (f
             each n above below us ls.1 fs.1,
           )
 
-      by : (r : Result Table Fault) → lsda (map (part_of other) hs) t.first t.region ≡ r → IsOkAnd r (TableStands (lists_for t) t.region) → IsOkAnd r (Decides t)
-      by (Err f) at none = absurd none
-      by (Ok u) at stands = record {
+      by : NumbersFit (lists_for t) → CanPack (lists_for t) t.first → length (packed_bytes (lists_for t) t.first) < 2 ^ 63 →
+          HasBytes (map (part_of other) hs) t.first (packed_bytes (lists_for t) t.first) → (r : Result Table Fault) → lsda (map (part_of other) hs) t.first t.region ≡ r →
+          IsOkAnd r (TableStands (lists_for t) t.region) → IsOkAnd r (Decides t)
+      by numbers can few has (Err f) at none = absurd none
+      by numbers can few has (Ok u) at stands = record {
+        numbers = numbers;
+        can = can;
+        few = few;
+        has = has;
+        stands = stands;
         verdicts = λ ip signal thrown. packed_table_decides (map (part_of file) hs) (map (part_of other) hs) t.first t.first t.region t.table u in'.read
             (allowed t (fewer t packed).0).pads (in_row t.part t.head.types t.table.lists (allowed t (fewer t packed).0).lists) at stands ip signal thrown;
       }

@@ -1,5 +1,5 @@
 -- The form of a table that was read says where its parts are.
-use Rattle.std.proofs.Common.{◌≡◌, ◌+◌, ◌-◌, ◌==◌, ℕ, Bool, true, false, map, Option, Some, None, Result, Ok, Err, refl, ap, sym, subst, ◌∙◌, arith, if◌then◌else◌}
+use Rattle.std.proofs.Common.{◌≡◌, ◌+◌, ◌-◌, ◌==◌, ℕ, Bool, true, false, [], ◌∷◌, map, Option, Some, None, Result, Ok, Err, refl, ap, sym, subst, ◌∙◌, arith, if◌then◌else◌}
 use Rattle.std.proofs.lemmas.Bool.Decides.{nat_tests}
 use Rattle.std.specs.Prelude.{option_map, IsErrAnd}
 use Rattle.eh_bytes.specs.declared.frames.Region64.{Region64}
@@ -13,8 +13,9 @@ use Rattle.table_forms.specs.LsdaSites.{site_of, site_records}
 use Rattle.elf_image.specs.declared.program.ProgramHeader.{ProgramHeader}
 use Rattle.lsda_read.specs.declared.shape.Shape.{Shape}
 use Rattle.lsda_read.specs.Shapes.{encoding_of, base_of, shape_of, shape_at, shape_in, shape}
-use Rattle.lsda_pack.specs.MayPack.{IsHead, base_by, first_packed, packed_for, placed_as}
+use Rattle.lsda_pack.specs.MayPack.{IsHead, base_by, placed_as}
 use Rattle.lsda_pack.specs.Placed.{placed_with, placed_in}
+use Rattle.lsda_pack.specs.Placings.{AreSized, HasTypes}
 use Rattle.lsda_pack.proofs.HeadFrame.{bind_ok, TypesFound, head_types}
 use Rattle.lsda_pack.proofs.LsdaFrame.{answer_ok, answered}
 use Rattle.lsda_pack.proofs.LsdaFrame as tables
@@ -43,6 +44,11 @@ pub record Shaped (part : Part) (region : Region64) (t : Table) (p : ℕ) (s : S
   pub formed : shape_at part region p ≡ Ok s
   pub reads : head_at part region p ≡ Ok head
   pub is : IsHead part region t (s.actions - part.address) (base_by s part.address) head
+  pub types : HasTypes s head.types
+
+are_sized : (p : ℕ) (o : Option Types) → TypesFound p o → AreSized o
+are_sized p None found = tt
+are_sized p (Some types) found = found.0
 
 abbrev as_shape : Shape → Result Shape Fault
 as_shape s = Ok s
@@ -81,6 +87,7 @@ shaped_in memory part region p t s read formed =
       formed = formed;
       reads = head.1;
       is = subst (λ x. IsHead part region t (x.actions - part.address) (base_by x part.address) head.0) made (is_by memory part region p start.0.0 head.0 t head.1 read);
+      types = subst (λ x. HasTypes x head.0.types) made (record { formed = refl; sized = are_sized p head.0.types (head_types part region p head.0 head.1) });
     }
 
 pub shaped : (memory : Memory) (part : Part) (a : ℕ) (region : Region64) (t : Table) (s : Shape) → part_with memory a ≡ Some part → lsda memory a region ≡ Ok t → shape memory a region ≡ Ok s →
@@ -92,20 +99,20 @@ shaped memory part a region t s found read formed =
 -- the table is placed as its form says
 pub placed_by : (part : Part) (load : ProgramHeader) (a : ℕ) (region : Region64) (t : Table) (s : Shape) (file_end : ℕ) → load.offset + load.file_size ≡ file_end →
     (found : Shaped part region t (a - part.address) s) →
-    packed_for (placed_as a region (part.file_at + (a - part.address)) file_end part s found.head t) ≡ first_packed (placed_in a region t (Some part) (Some load))
+    placed_in a region t (Some part) (Some load) ≡ placed_as a region (part.file_at + (a - part.address)) file_end part s found.head t ∷ []
 placed_by part load a region t s file_end stop found =
-    ap (λ e. packed_for (placed_as a region (part.file_at + (a - part.address)) e part s found.head t)) (sym stop) ∙
-    ap (λ r. first_packed (placed_with a region t part load r (Ok found.head))) (sym found.formed) ∙
-    ap (λ r. first_packed (placed_with a region t part load (shape_at part region (a - part.address)) r)) (sym found.reads)
+    ap (λ r. placed_with a region t part load (shape_at part region (a - part.address)) r) found.reads ∙
+    ap (λ r. placed_with a region t part load r (Ok found.head)) found.formed ∙
+    ap (λ e. placed_as a region (part.file_at + (a - part.address)) e part s found.head t ∷ []) stop
 
 -- without a form it is not
 pub not_placed : (memory : Memory) (part : Part) (load : ProgramHeader) (a : ℕ) (region : Region64) (t : Table) (P : Fault → Type 0) → part_with memory a ≡ Some part →
-    IsErrAnd (shape memory a region) P → None ≡ first_packed (placed_in a region t (Some part) (Some load))
+    IsErrAnd (shape memory a region) P → placed_in a region t (Some part) (Some load) ≡ []
 unfolding shape
 not_placed memory part load a region t P found refused =
     by (shape_at part region (a - part.address)) refl (subst (λ o. IsErrAnd (shape_in region a o) P) found refused)
   where
     by : (r : Result Shape Fault) → shape_at part region (a - part.address) ≡ r → IsErrAnd (shape_at part region (a - part.address)) P →
-        None ≡ first_packed (placed_in a region t (Some part) (Some load))
+        placed_in a region t (Some part) (Some load) ≡ []
     by (Ok s) e none = absurd (subst (λ r. IsErrAnd r P) e none)
-    by (Err f) e none = ap (λ r. first_packed (placed_with a region t part load r (head_at part region (a - part.address)))) (sym e)
+    by (Err f) e none = ap (λ r. placed_with a region t part load r (head_at part region (a - part.address))) e

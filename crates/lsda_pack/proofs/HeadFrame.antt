@@ -1,5 +1,5 @@
 -- The head of an exception table depends only on its own bytes.
-use Rattle.std.proofs.Common.{◌≡◌, ◌+◌, ◌==◌, ◌≤◌, ℕ, Bool, true, false, nat_lt, List, [], ◌∷◌, drop, Result, Ok, Err, refl, ap, sym, subst, ◌∙◌, arith}
+use Rattle.std.proofs.Common.{◌≡◌, ◌<◌, ◌+◌, ◌==◌, ◌≤◌, ℕ, Bool, true, false, nat_lt, List, [], ◌∷◌, drop, Result, Ok, Err, refl, ap, sym, subst, ◌∙◌, arith}
 use Rattle.std.specs.Prelude.{⊤, Option, Some, None, is_some, ◌&&◌, if◌then◌else◌}
 use Rattle.eh_bytes.specs.declared.error.ByteError.{ByteError}
 use Rattle.eh_bytes.specs.declared.encoded.Pointer.{Pointer}
@@ -41,7 +41,7 @@ field_reads f front part p a read =
     let r = reads_at f front part.bytes p a.0 a.1 (reason_ok table_reason (part.file_at + p) (at f part.bytes p) a read) in
     record { forward = r.forward; same = λ ys same. ap (with_reason table_reason (part.file_at + p)) (r.same ys same) }
 
-byte_ends : (part : Part) (p : ℕ) (a : ℕ × ℕ) → in_table byte part p ≡ Ok a → a.1 ≡ p + 1
+pub byte_ends : (part : Part) (p : ℕ) (a : ℕ × ℕ) → in_table byte part p ≡ Ok a → a.1 ≡ p + 1
 byte_ends part p a read = step (drop p part.bytes) (reason_ok table_reason (part.file_at + p) (at byte part.bytes p) a read)
   where
     step : (xs : List ℕ) → behind p (byte xs) ≡ Ok a → a.1 ≡ p + 1
@@ -155,6 +155,7 @@ in_steps part region p = refl
 
 pub record HeadReads (part : Part) (region : Region64) (p : ℕ) (h : Head) : Type 0 where
   pub forward : p ≤ h.sites_at
+  pub some : p < h.sites_at
   pub order : h.sites_at ≤ h.actions_at
   pub same : (ys : List ℕ) → Same p h.sites_at part.bytes ys → head_at (with_bytes part ys) region p ≡ Ok h
 
@@ -180,6 +181,7 @@ head_reads part region p h read =
     let ends : size.0.1 + size.0.0 ≡ h.actions_at = ap (λ x. x.actions_at) (head_same (head_for pads.0 table.0 sites.0 size.0) h size.2) in
     record {
       forward = omega (arith, f2, f4, f5, f6, last);
+      some = omega (arith, f2, f4, f5, f6, last);
       order = omega (arith, last, ends);
       same = λ ys same.
           let other = with_bytes part ys in

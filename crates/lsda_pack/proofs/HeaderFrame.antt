@@ -45,22 +45,22 @@ word_same part ys p end n next long inside high same read =
     (reads.same ys long (same_inside p end p next part.bytes ys (omega arith) (omega (arith, four, high)) same), omega (arith, four, own), four)
 
 -- the encodings
-abbrev encodings_made : ℕ × ℕ → ℕ × ℕ → ℕ × ℕ → Result Encodings Fault
+abbrev pub encodings_made : ℕ × ℕ → ℕ × ℕ → ℕ × ℕ → Result Encodings Fault
 encodings_made pointer count table = Ok (record { pointer = pointer.0; count = count.0; table = table.0 })
 
-abbrev after_count : Part → ℕ → ℕ × ℕ → ℕ × ℕ → Result Encodings Fault
+abbrev pub after_count : Part → ℕ → ℕ × ℕ → ℕ × ℕ → Result Encodings Fault
 after_count part p pointer count = in_header byte part (p + 3) >>= encodings_made pointer count
 
-abbrev after_pointer : Part → ℕ → ℕ × ℕ → Result Encodings Fault
+abbrev pub after_pointer : Part → ℕ → ℕ × ℕ → Result Encodings Fault
 after_pointer part p pointer = in_header byte part (p + 2) >>= after_count part p pointer
 
-abbrev after_known : Part → ℕ → Bool → Result Encodings Fault
+abbrev pub after_known : Part → ℕ → Bool → Result Encodings Fault
 after_known part p known = in_header byte part (p + 1) >>= after_pointer part p
 
-abbrev after_version : Part → ℕ → ℕ × ℕ → Result Encodings Fault
+abbrev pub after_version : Part → ℕ → ℕ × ℕ → Result Encodings Fault
 after_version part p version = demand (version.0 == 1) Version (part.file_at + p) >>= after_known part p
 
-in_steps : (part : Part) (p : ℕ) → encodings_at part p ≡ (in_header byte part p >>= after_version part p)
+pub in_steps : (part : Part) (p : ℕ) → encodings_at part p ≡ (in_header byte part p >>= after_version part p)
 unfolding encodings_at
 in_steps part p = refl
 
@@ -151,7 +151,7 @@ counted_same part ys start p (Ok (n, next)) long inside is cut same =
     rows_same n part ys start next long (omega (arith, room, four)) cut (same_inside p end next (next + 8 * length rows) part.bytes ys (omega (arith, four)) (omega (arith, four)) same)
 
 -- the address of the frames
-abbrev frames_from : Part → ℕ → Encodings → ℕ → Option ℕ
+abbrev pub frames_from : Part → ℕ → Encodings → ℕ → Option ℕ
 frames_from part p e n = if e.pointer == 0x1b then Some (if n == 0 then 0 else (part.address + (p + 4) + encodings.extended 4 n) % 2 ^ 64) else None
 
 pub header_same : (part : Part) (ys : List ℕ) (p : ℕ) → length ys ≡ length part.bytes → p ≤ length part.bytes → (header_at part p).faults ≡ [] →

@@ -21,17 +21,19 @@ use Rattle.elf_image.specs.Clean.{Function, table_read, table_named, function_of
 use Rattle.personality.proofs.Members.{all_front, all_back}
 use Rattle.lsda_pack.specs.Laws.{FunctionStays}
 use Rattle.lsda_pack.specs.PackedImage.{rewritten}
-use Rattle.lsda_pack.specs.Placed.{Placed}
+use Rattle.lsda_pack.specs.Placed.{Placed, placed_of}
 use Rattle.lsda_pack.specs.Rule.{is_packed}
 use Rattle.lsda_pack.specs.SharedTables.{Extent, InFile, with_table, with_extent, with_file, among_tables, extent_in, frames_end, frames_in, frames_extent, header_size, header_in, words_of}
 use Rattle.lsda_pack.proofs.Apart.{NoneMeet, Lies, extent_apart, table_behind, table_before, file_apart, range_stays, flat_none, split_apart}
 use Rattle.lsda_pack.proofs.ElfFrame.{AllStay}
-use Rattle.lsda_pack.proofs.FramesFrame.{PartKept, FramesAt, frames_same}
+use Rattle.lsda_pack.proofs.FramesFrame.{PartKept, FramesAt, FramesKept, frames_same}
+use Rattle.lsda_pack.proofs.FramesPlaces.{PlacesSame, places_same}
 use Rattle.lsda_pack.proofs.FunctionsKept.{Free, Decides, untouched, touched}
 use Rattle.elf_image.proofs.Sound.{size_seen}
 use Rattle.lsda_pack.proofs.LsdaFrame.{both_none}
+use Rattle.lsda_pack.proofs.PackedAgain.{IsShort, Shrinks, again_unpacked, stays_unpacked}
 use Rattle.lsda_pack.proofs.Rewrites.{IsOutside, all_outside}
-use Rattle.lsda_pack.proofs.Segments.{part_same, part_long, in_both, found_part}
+use Rattle.lsda_pack.proofs.Segments.{part_same, part_long, placed_too, in_both, found_part}
 use Rattle.lsda_pack.proofs.Sizes.{FitsIn, all_size}
 use Rattle.lsda_pack.proofs.TablesPlaced.{placed_for, IsGood, placed_by, NamesNone, NamesTable, names, functions_ok, with_first}
 
@@ -68,11 +70,27 @@ filter_no before after t e = filter-append is_packed before (t ∷ after) ∙ ap
 pub filtered : (P : Placed → Type 0) (ts : List Placed) → AllByRecursion P ts → AllByRecursion P (filter is_packed ts)
 filtered P ts all = all_filter P is_packed ts (all_more P (λ t. is_packed t ≡ true → P t) (λ t own e. own) ts all)
 
-both_ok : (g : Function) (gs : List Function) (r : Result Function Fault) (s : Result (List Function) Fault) → IsOkAnd r (FunctionStays g) → IsOkAnd s (AllZip FunctionStays gs) →
-    IsOkAnd (r >>= λ x. s >>= with_first x) (AllZip FunctionStays (g ∷ gs))
-both_ok g gs (Err f) s one more = absurd one
-both_ok g gs (Ok x) (Err f) one more = absurd more
-both_ok g gs (Ok x) (Ok xs) one more = (one, more)
+both_ok : (R : Function → Function → Type 0) (g : Function) (gs : List Function) (r : Result Function Fault) (s : Result (List Function) Fault) → IsOkAnd r (R g) → IsOkAnd s (AllZip R gs) →
+    IsOkAnd (r >>= λ x. s >>= with_first x) (AllZip R (g ∷ gs))
+both_ok R g gs (Err f) s one more = absurd one
+both_ok R g gs (Ok x) (Err f) one more = absurd more
+both_ok R g gs (Ok x) (Ok xs) one more = (one, more)
+
+-- a function stays, and its table is packed no more
+pub record StaysShort (file other : List ℕ) (hs : List ProgramHeader) (g x : Function) : Type 0 where
+  pub stays : FunctionStays g x
+  pub short : AllByRecursion (λ t. is_packed t ≡ false) (placed_by other hs x)
+  pub shrinks : AllZip (Shrinks (map (part_of file) hs) (map (part_of other) hs)) (placed_by file hs g) (placed_by other hs x)
+
+from_short : (file other : List ℕ) (hs : List ProgramHeader) (g x : Function) (t : Placed) → FunctionStays g x → placed_by file hs g ≡ t ∷ [] →
+    IsShort (map (part_of file) hs) (map (part_of other) hs) t (placed_by other hs x) → StaysShort file other hs g x
+from_short file other hs g x t stays only is =
+    let Z = Shrinks (map (part_of file) hs) (map (part_of other) hs) in
+    record {
+      stays = stays;
+      short = subst (AllByRecursion (λ u. is_packed u ≡ false)) (sym is.is) (is.short, tt);
+      shrinks = subst (λ ts. AllZip Z ts (placed_by other hs x)) (sym only) (subst (AllZip Z (t ∷ [])) (sym is.is) (is.shrinks, tt));
+    }
 
 module _ (file : List ℕ) (hs : List ProgramHeader) (placed : AllByRecursion (forms.Placed (length file)) hs) (apart : NoneMeet hs) (tables : List Placed)
     (good : AllByRecursion (IsGood file hs) tables) (alone : among_tables tables ≡ []) where
@@ -133,22 +151,28 @@ module _ (file : List ℕ) (hs : List ProgramHeader) (placed : AllByRecursion (f
       } in
       subst (λ x. PartKept N first x (first - x.address) (end - x.address)) q.2 kept
 
+  placed_there : AllByRecursion (forms.Placed (length other)) hs
+  placed_there = placed_too file other hs stays_long placed
+
   -- one function
   function_kept : (f : Fde) (g : Function) (before rest : List Placed) → function_of M f ≡ Ok g → tables ≡ before ++ (placed_by file hs g ++ rest) →
       f.region.start + f.region.length < 2 ^ 64 →
-      AllByRecursion (λ u. AllByRecursion (λ e. with_extent u e ≡ []) (flat_map (λ t. words_of M t.part t.head.types t.table.types) tables)) chosen → IsOkAnd (function_of N f) (FunctionStays g)
+      AllByRecursion (λ u. AllByRecursion (λ e. with_extent u e ≡ []) (flat_map (λ t. words_of M t.part t.head.types t.table.types) tables)) chosen → IsOkAnd (function_of N f) (StaysShort file other hs g)
   function_kept f g before rest read split short none = by (names file hs f g placed read)
     where
       fde_is : Function → Fde
       fde_is x = x.fde
 
-      without : (g.fde ≡ f) → NamesNone file hs f g → IsOkAnd (function_of N f) (FunctionStays g)
+      without : (g.fde ≡ f) → NamesNone file hs f g → IsOkAnd (function_of N f) (StaysShort file other hs g)
       without same bare =
           let read' : table_named N f.lsda f.region ≡ Ok None = ap (λ b. if b then Ok None else table_read (lsda N f.lsda f.region)) bare.none in
-          subst (λ r. IsOkAnd (r >>= λ t. Ok (record { fde = f; table = t })) (FunctionStays g)) (sym read')
-          (record { fde = sym same; verdict = λ ip signal thrown inside. ap (λ o. verdict o ip signal thrown) (sym bare.is) })
+          subst (λ r. IsOkAnd (r >>= λ t. Ok (record { fde = f; table = t })) (StaysShort file other hs g)) (sym read') (record {
+            stays = record { fde = sym same; verdict = λ ip signal thrown inside. ap (λ o. verdict o ip signal thrown) (sym bare.is) };
+            short = tt;
+            shrinks = subst (λ ts. AllZip (Shrinks M N) ts []) (sym bare.nothing) tt;
+          })
 
-      with : (g.fde ≡ f) → (some : NamesTable file hs f g) → IsOkAnd (function_of N f) (FunctionStays g)
+      with : (g.fde ≡ f) → (some : NamesTable file hs f g) → IsOkAnd (function_of N f) (StaysShort file other hs g)
       with same some = by_packed (is_packed t) refl
         where
           t : Placed
@@ -176,46 +200,44 @@ module _ (file : List ℕ) (hs : List ProgramHeader) (placed : AllByRecursion (f
               (subst (λ ts. AllByRecursion (λ e. with_extent u e ≡ []) (flat_map (λ v. words_of M v.part v.head.types v.table.types) ts)) whole all)) chosen none
 
           told : (u : Table) → lsda N f.lsda f.region ≡ Ok u → ((ip : ℕ) (signal : Bool) (thrown : Thrown) → verdict (Some u) ip signal thrown ≡ verdict (Some some.table) ip signal thrown) →
-              IsOkAnd (function_of N f) (FunctionStays g)
-          told u reads alike =
+              IsShort M N t (placed_of N hs f.lsda f.region (Some u)) → IsOkAnd (function_of N f) (StaysShort file other hs g)
+          told u reads alike short' =
               let read' : table_named N f.lsda f.region ≡ Ok (Some u) =
               ap (λ b. if b then Ok None else table_read (lsda N f.lsda f.region)) some.some ∙ ap table_read reads in
-              subst (λ r. IsOkAnd (r >>= λ x. Ok (record { fde = f; table = x })) (FunctionStays g)) (sym read')
-              (record { fde = sym same; verdict = λ ip signal thrown inside. alike ip signal thrown ∙ ap (λ o. verdict o ip signal thrown) (sym some.is) })
+              subst (λ r. IsOkAnd (r >>= λ x. Ok (record { fde = f; table = x })) (StaysShort file other hs g)) (sym read')
+              (from_short file other hs g (record { fde = f; table = Some u }) t
+              (record { fde = sym same; verdict = λ ip signal thrown inside. alike ip signal thrown ∙ ap (λ o. verdict o ip signal thrown) (sym some.is) }) some.only short')
 
-          by_read : (r : Result Table Fault) → lsda N f.lsda f.region ≡ r → IsOkAnd r (λ u. (ip : ℕ) (signal : Bool) (thrown : Thrown) → verdict (Some u) ip signal thrown ≡ verdict (Some some.table) ip signal thrown) →
-              IsOkAnd (function_of N f) (FunctionStays g)
-          by_read (Err x) reads all = absurd all
-          by_read (Ok u) reads all = told u reads all
+          by_read : is_packed t ≡ true → (r : Result Table Fault) → lsda N f.lsda f.region ≡ r → IsOkAnd r (Decides file hs placed apart chosen lies t) → IsOkAnd (function_of N f) (StaysShort file other hs g)
+          by_read e (Err x) reads all = absurd all
+          by_read e (Ok u) reads all =
+              told u reads all.verdicts (again_unpacked M t some.placed.load some.good.in_memory e all.numbers all.can all.few other hs placed_there some.placed.found refl refl all.has u reads all.stands)
 
-          by_packed : (b : Bool) → is_packed t ≡ b → IsOkAnd (function_of N f) (FunctionStays g)
+          by_packed : (b : Bool) → is_packed t ≡ b → IsOkAnd (function_of N f) (StaysShort file other hs g)
           by_packed false e =
               let without_it : chosen ≡ filter is_packed before ++ filter is_packed rest = ap (filter is_packed) whole ∙ filter_no before rest t e in
               let free = subst (AllByRecursion (Free t.first t.end)) (sym without_it)
               (all_append (Free t.first t.end) (filter is_packed before) (filter is_packed rest) (filtered (Free t.first t.end) before free_before) (filtered (Free t.first t.end) rest free_after)) in
-              told some.table (untouched file hs placed apart chosen lies t some.placed.load some.good.in_memory some.placed.found refl refl free own_words) (λ ip signal thrown. refl)
+              let reads = untouched file hs placed apart chosen lies t some.placed.load some.good.in_memory some.placed.found refl refl free own_words in
+              told some.table reads (λ ip signal thrown. refl)
+              (stays_unpacked file hs placed apart chosen lies f.lsda f.region some.table some.placed some.good.in_memory free own_words e reads)
           by_packed true e =
               let own = some.good.in_file e in
               let reads = touched file hs placed apart chosen lies t some.placed.load (filter is_packed before) (filter is_packed rest) some.good.in_memory e own.0 some.placed.found refl own.1
               (ap (filter is_packed) whole ∙ filter_yes before rest t e)
               (lies_in before (all_front (IsGood file hs) before (t ∷ rest) goods)) (lies_in rest (all_back (IsGood file hs) before (t ∷ rest) goods).1)
               (filtered (Free t.first t.end) rest free_after) short in
-              by_read (lsda N f.lsda f.region) refl (verdicts (lsda N f.lsda f.region) reads)
-            where
-              verdicts : (r : Result Table Fault) → IsOkAnd r (Decides file hs placed apart chosen lies t) →
-                  IsOkAnd r (λ u. (ip : ℕ) (signal : Bool) (thrown : Thrown) → verdict (Some u) ip signal thrown ≡ verdict (Some some.table) ip signal thrown)
-              verdicts (Err x) all = all
-              verdicts (Ok u) all = all.verdicts
+              by_read e (lsda N f.lsda f.region) refl reads
 
-      by : (g.fde ≡ f) × (NamesNone file hs f g ⊎ NamesTable file hs f g) → IsOkAnd (function_of N f) (FunctionStays g)
+      by : (g.fde ≡ f) × (NamesNone file hs f g ⊎ NamesTable file hs f g) → IsOkAnd (function_of N f) (StaysShort file other hs g)
       by (same, inl bare) = without same bare
       by (same, inr some) = with same some
 
   pub functions_kept : (fs : List Fde) (gs : List Function) (before : List Placed) → functions_of M fs ≡ Ok gs → tables ≡ before ++ flat_map (placed_by file hs) gs →
       AllByRecursion (λ f. f.region.start + f.region.length < 2 ^ 64) fs →
       AllByRecursion (λ u. AllByRecursion (λ e. with_extent u e ≡ []) (flat_map (λ t. words_of M t.part t.head.types t.table.types) tables)) chosen →
-      IsOkAnd (functions_of N fs) (AllZip FunctionStays gs)
-  functions_kept [] gs before read split short none = let nothing : [] ≡ gs = cc in subst (λ x. IsOkAnd (functions_of N []) (AllZip FunctionStays x)) nothing tt
+      IsOkAnd (functions_of N fs) (AllZip (StaysShort file other hs) gs)
+  functions_kept [] gs before read split short none = let nothing : [] ≡ gs = cc in subst (λ x. IsOkAnd (functions_of N []) (AllZip (StaysShort file other hs) x)) nothing tt
   functions_kept (f ∷ fs) gs before read split short none =
       let both = functions_ok file hs f fs gs read in
       let g = both.first in
@@ -224,17 +246,17 @@ module _ (file : List ℕ) (hs : List ProgramHeader) (placed : AllByRecursion (f
       let one = function_kept f g before (flat_map (placed_by file hs) rest) both.first_read split' short.0 none in
       let more = functions_kept fs rest (before ++ placed_by file hs g) both.rest_read
       (split' ∙ sym (append_assoc before (placed_by file hs g) (flat_map (placed_by file hs) rest))) short.1 none in
-      subst (λ x. IsOkAnd (functions_of N (f ∷ fs)) (AllZip FunctionStays x)) both.is (both_ok g rest (function_of N f) (functions_of N fs) one more)
+      subst (λ x. IsOkAnd (functions_of N (f ∷ fs)) (AllZip (StaysShort file other hs) x)) both.is (both_ok (StaysShort file other hs) g rest (function_of N f) (functions_of N fs) one more)
 
   -- header and frames
-  pub frames_kept : (header : ℕ) (read : Frames) → frames M header ≡ Ok read →
+  frames_known : (header : ℕ) (read : Frames) → frames M header ≡ Ok read →
       AllByRecursion (λ t. AllByRecursion (λ e. with_extent t e ≡ []) (frames_extent M (frames_start M header))) chosen →
-      AllByRecursion (λ t. AllByRecursion (λ e. with_extent t e ≡ []) (header_in header (part_with M header))) chosen → frames N header ≡ Ok read
+      AllByRecursion (λ t. AllByRecursion (λ e. with_extent t e ≡ []) (header_in header (part_with M header))) chosen → (part : Part) × FramesKept M N header part
   unfolding frames
-  frames_kept header read e frames_none header_none = by (part_with M header) refl e header_none
+  frames_known header read e frames_none header_none = by (part_with M header) refl e header_none
     where
       by : (o : Option Part) → part_with M header ≡ o → frames_from M header o ≡ Ok read → AllByRecursion (λ t. AllByRecursion (λ x. with_extent t x ≡ []) (header_in header o)) chosen →
-          frames N header ≡ Ok read
+          (part : Part) × FramesKept M N header part
       by None is e' none = absurd cc
       by (Some part) is e' none =
           let p = header - part.address in
@@ -247,12 +269,13 @@ module _ (file : List ℕ) (hs : List ProgramHeader) (placed : AllByRecursion (f
           let whole = size_seen file q.0 both.placed in
           let room : header - part.address ≤ length part.bytes = subst (λ x. header - x.address ≤ length x.bytes) q.2 (omega (arith, high, whole)) in
           let end : header + size - part.address ≡ p + size = omega (arith, low) in
-          frames_same M N header part read (record {
+          let kept : FramesKept M N header part = record {
             here = is;
             inside = room;
             own = subst (PartKept N header part p) end (extent_kept header (header + size) part is none);
             frames = λ a at. frames_at a part is at;
-          }) e
+          } in
+          (part, kept)
         where
           frames_at : (a : ℕ) (part : Part) → part_with M header ≡ Some part → (header_at part (header - part.address)).frames_at ≡ Some a → FramesAt M N a
           frames_at a part is at second is' =
@@ -262,3 +285,10 @@ module _ (file : List ℕ) (hs : List ProgramHeader) (placed : AllByRecursion (f
               let stop = frames_end second (a - second.address) in
               let end : second.address + stop - second.address ≡ stop = omega arith in
               subst (PartKept N a second (a - second.address)) end (extent_kept a (second.address + stop) second is' none'')
+
+  pub frames_kept : (header : ℕ) (read : Frames) → frames M header ≡ Ok read →
+      AllByRecursion (λ t. AllByRecursion (λ e. with_extent t e ≡ []) (frames_extent M (frames_start M header))) chosen →
+      AllByRecursion (λ t. AllByRecursion (λ e. with_extent t e ≡ []) (header_in header (part_with M header))) chosen → (frames N header ≡ Ok read) × PlacesSame M N header
+  frames_kept header read e frames_none header_none =
+      let known = frames_known header read e frames_none header_none in
+      (frames_same M N header known.0 read known.1 e, places_same M N header known.0 read known.1 e)

@@ -100,3 +100,14 @@ packed_by first region place file_end part shape h t actions_at base bytes types
     let here : goal part.bytes (keys (lists_named t)) (stop_at part t actions_at base) = packed_is first region place file_end part shape h t actions_at base is w in
     subst (λ bs. goal bs lists (part.address + stop)) (sym eb)
     (subst (λ ls. goal part.bytes ls (part.address + stop)) (sym el) (subst (goal part.bytes (keys (lists_named t))) (sym end) here))
+
+-- so is the end
+pub end_by : (part : Part) (region : Region64) (h : Head) (t : Table) (actions_at : ℕ) (base : Option ℕ) (bytes types lists : List ℕ) (stop : ℕ) →
+    bytes ≡ part.bytes → types ≡ keys (types_named t) → lists ≡ keys (lists_named t) → stop ≡ stop_of bytes actions_at base t.sites types lists →
+    IsHead part region t actions_at base h → IsWhole t → stop ≡ table_end part h t
+end_by part region h t actions_at base bytes types lists stop eb et el es is w =
+    let ts = keys (types_named t) in
+    let ls = keys (lists_named t) in
+    es ∙ ap (λ bs. stop_of bs actions_at base t.sites types lists) eb ∙ ap (λ xs. stop_of part.bytes actions_at base t.sites xs lists) et ∙
+    ap (stop_of part.bytes actions_at base t.sites ts) el ∙ ap (λ a. stop_of part.bytes a base t.sites ts ls) (sym is.begins) ∙
+    ap (λ b. stop_of part.bytes h.actions_at b t.sites ts ls) (sym is.stands) ∙ stop_is part h region t is.listed w

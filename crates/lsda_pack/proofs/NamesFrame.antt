@@ -18,7 +18,7 @@ use Rattle.lsda_pack.proofs.FieldFrame.{reads_at, front_uleb, front_encoded}
 use Rattle.lsda_pack.proofs.HeadFrame.{with_bytes, bind_ok, demand_ok, field_reads}
 
 -- the indices of a list, up to its 0
-index_ok : (part : Part) (first p : ℕ) (r : Result (ℕ × ℕ) ByteError) (a : ℕ × ℕ) → cut_by part first p r ≡ Ok a → r ≡ Ok a
+pub index_ok : (part : Part) (first p : ℕ) (r : Result (ℕ × ℕ) ByteError) (a : ℕ × ℕ) → cut_by part first p r ≡ Ok a → r ≡ Ok a
 index_ok part first p (Ok x) a e = let same : x ≡ a = cc in ap Ok same
 index_ok part first p (Err cause) a e = absurd cc
 

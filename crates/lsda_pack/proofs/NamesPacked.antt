@@ -23,7 +23,7 @@ use Rattle.lsda_pack.proofs.ListsRead.{chain_there}
 use Rattle.lsda_pack.proofs.TypesKept.{below}
 
 -- a chain is kept that a site has by its action
-action_chain : (chains : List (List ℤ)) (es : List (ℕ × List ℤ)) (a : ℕ) → chains ≡ map (λ (e : ℕ × List ℤ). e.1) es → (a == 0) ≡ false → IsIn a (map (λ e. e.0) es) →
+pub action_chain : (chains : List (List ℤ)) (es : List (ℕ × List ℤ)) (a : ℕ) → chains ≡ map (λ (e : ℕ × List ℤ). e.1) es → (a == 0) ≡ false → IsIn a (map (λ e. e.0) es) →
     option_and_then (slice_get chains) (number_of es a) ≡ Some (value_at [] es a)
 action_chain chains es a is some named =
     let k = position_or_len (λ (e : ℕ × List ℤ). e.0 == a) es in
@@ -31,7 +31,7 @@ action_chain chains es a is some named =
     ap (λ cs. slice_get cs k) is ∙ slice_get-map (λ (e : ℕ × List ℤ). e.1) es k ∙
     ap (option_map (λ (e : ℕ × List ℤ). e.1)) (sym (find_at (λ (e : ℕ × List ℤ). e.0 == a) es)) ∙ chain_there a es named
 
-site_kept : (chains kept : List (List ℤ)) (start : ℕ) (es : List (ℕ × List ℤ)) → chains ≡ map (λ (e : ℕ × List ℤ). e.1) es → (ss : List Site) →
+pub site_kept : (chains kept : List (List ℤ)) (start : ℕ) (es : List (ℕ × List ℤ)) → chains ≡ map (λ (e : ℕ × List ℤ). e.1) es → (ss : List Site) →
     AllByRecursion (HasKept chains kept) (map (site_listed start es) ss) → (a : ℕ) → (a == 0) ≡ false → IsIn a (map (λ e. e.0) es) → IsIn a (map (λ s. s.action) ss) →
     is_kept kept (value_at [] es a) ≡ true
 site_kept chains kept start es is [] has a some named at = absurd at
@@ -47,7 +47,7 @@ chain_reached lists kept c e =
     all_at (λ d. AllByRecursion (λ i. IsIn i (indices_reached lists kept)) (flat_map (indices_by lists) d)) kept (number_in kept c) c
     (all_given (flat_map (indices_by lists)) kept) (found_at c kept e)
 
-each_of : {X : Type 0} (P : ℕ → Type 0) (f : X → List ℕ) (xs : List X) → AllByRecursion P (flat_map f xs) → AllByRecursion (λ x. AllByRecursion P (f x)) xs
+pub each_of : {X : Type 0} (P : ℕ → Type 0) (f : X → List ℕ) (xs : List X) → AllByRecursion P (flat_map f xs) → AllByRecursion (λ x. AllByRecursion P (f x)) xs
 each_of P f [] all = tt
 each_of P f (x ∷ xs) all = (all_front P (f x) (flat_map f xs) all, each_of P f xs (all_back P (f x) (flat_map f xs) all))
 
@@ -82,7 +82,7 @@ values_long zero i types = refl
 values_long (suc n) i types = let more = values_long n (i + 1) types in omega (arith, more)
 
 -- what holds of chains holds of those that sites have, and of these each once
-chains_named : (P : List ℤ → Type 0) (chains : List (List ℤ)) → AllByRecursion P chains → (ss : List ListSite) → AllByRecursion P (filter_map (chain_of chains) ss)
+pub chains_named : (P : List ℤ → Type 0) (chains : List (List ℤ)) → AllByRecursion P chains → (ss : List ListSite) → AllByRecursion P (filter_map (chain_of chains) ss)
 chains_named P chains all [] = tt
 chains_named P chains all (s ∷ ss) = by s.chain (chains_named P chains all ss)
   where
@@ -94,7 +94,7 @@ chains_named P chains all (s ∷ ss) = by s.chain (chains_named P chains all ss)
     by None more = more
     by (Some k) more = found (slice_get chains k) (λ c at. all_at P chains k c all at) more
 
-chains_added : (P : List ℤ → Type 0) (cs kept : List (List ℤ)) → AllByRecursion P cs → AllByRecursion P kept → AllByRecursion P (fold add_chain kept cs)
+pub chains_added : (P : List ℤ → Type 0) (cs kept : List (List ℤ)) → AllByRecursion P cs → AllByRecursion P kept → AllByRecursion P (fold add_chain kept cs)
 chains_added P [] kept all own = own
 chains_added P (c ∷ cs) kept all own =
     chains_added P cs (add_chain kept c) all.1

@@ -22,7 +22,7 @@ use Rattle.lsda_pack.proofs.Fronts.{Same, same_inside}
 use Rattle.lsda_pack.proofs.FieldFrame.{sized_at}
 use Rattle.lsda_pack.proofs.HeadFrame.{with_bytes, reason_ok, TypesFound, head_types, head_reads}
 use Rattle.lsda_pack.proofs.NamesFrame.{SameWord, entry_field, field_end, entry_lies}
-use Rattle.lsda_pack.proofs.LsdaFrame.{EntryKept, FilterKept, none_refused, both_none, refusal_none, answer_ok, answered, faults_are, in_steps, table_in_same}
+use Rattle.lsda_pack.proofs.LsdaFrame.{EntryKept, FilterKept, TableKept, none_refused, both_none, refusal_none, answer_ok, answered, faults_are, in_steps, table_in_same}
 use Rattle.lsda_pack.proofs.TableEnds.{ends_before}
 use Rattle.lsda_pack.proofs.TableStays.{NamesKept, table_kept}
 use Rattle.lsda_pack.proofs.TableVerdict.{IsPositive, positive_list}
@@ -130,14 +130,14 @@ made_named memory part region h =
     zero_not a other = grind (arith, nat_tests, other)
 
 -- a table from a place up to a stop, where all that it names stays
-record Around (memory other : Memory) (part : Part) (ys : List ℕ) (h : Head) (types : Types) (p stop : ℕ) (entries lists : List ℕ) : Type 0 where
-  sized : format_size (encoding_format types.encoding) ≡ Some types.size
-  behind : p ≤ types.base
-  same : Same p stop part.bytes ys
-  from : p ≤ h.actions_at
-  base : (i : ℕ) → IsIn i entries → types.base ≤ stop
-  ends : (j : ℕ) → IsIn j lists → list_end part types j ≤ stop
-  words : (i : ℕ) → IsIn i entries → SameWord memory other (entry_field part types i)
+pub record Around (memory other : Memory) (part : Part) (ys : List ℕ) (h : Head) (types : Types) (p stop : ℕ) (entries lists : List ℕ) : Type 0 where
+  pub sized : format_size (encoding_format types.encoding) ≡ Some types.size
+  pub behind : p ≤ types.base
+  pub same : Same p stop part.bytes ys
+  pub from : p ≤ h.actions_at
+  pub base : (i : ℕ) → IsIn i entries → types.base ≤ stop
+  pub ends : (j : ℕ) → IsIn j lists → list_end part types j ≤ stop
+  pub words : (i : ℕ) → IsIn i entries → SameWord memory other (entry_field part types i)
 
 one_less : (i n : ℕ) → 0 < i → n ≤ i * n
 one_less zero n some = absurd (omega (arith, some))
@@ -146,7 +146,7 @@ one_less (suc i) n some = omega arith
 between : (p first m base stop size end : ℕ) → p ≤ first → first + m ≤ base → size ≤ m → base ≤ stop → end ≡ base - m + size → (p ≤ base - m) × (end ≤ stop)
 between p first m base stop size end from room less last is = (omega (arith, from, room), omega (arith, room, less, last, is))
 
-entry_kept : (memory other : Memory) (part : Part) (ys : List ℕ) (h : Head) (types : Types) (p stop : ℕ) (entries lists : List ℕ) (named_at i v : ℕ) →
+pub entry_kept : (memory other : Memory) (part : Part) (ys : List ℕ) (h : Head) (types : Types) (p stop : ℕ) (entries lists : List ℕ) (named_at i v : ℕ) →
     Around memory other part ys h types p stop entries lists → 0 < i → IsIn i entries → entry_at memory part h types named_at i ≡ Ok v → EntryKept memory other part ys types i
 entry_kept memory other part ys h types p stop entries lists named_at i v all some at' read =
     let lies = entry_lies memory part h types named_at i v read in
@@ -202,7 +202,7 @@ links_kept memory other part ys h types p stop entries lists (l ∷ ls) all name
     )
 
 -- with a base, or without one
-abbrev AllAround : Memory → Memory → Part → List ℕ → Head → Option Types → ℕ → ℕ → List ℕ → List ℕ → Type 0
+abbrev pub AllAround : Memory → Memory → Part → List ℕ → Head → Option Types → ℕ → ℕ → List ℕ → List ℕ → Type 0
 AllAround memory other part ys h None p stop entries lists = ⊤
 AllAround memory other part ys h (Some types) p stop entries lists = Around memory other part ys h types p stop entries lists
 
@@ -260,7 +260,7 @@ base_ends part types stop (e ∷ es) more all i is = step (length (e ∷ es) == 
     step true none a = absurd (grind (arith, nat_tests, none))
     step false some a = a.0
 
-around : (memory other : Memory) (part : Part) (ys : List ℕ) (h : Head) (types : Option Types) (p stop : ℕ) (t : Table) → TypesFound p types → Same p stop part.bytes ys →
+pub around : (memory other : Memory) (part : Part) (ys : List ℕ) (h : Head) (types : Option Types) (p stop : ℕ) (t : Table) → TypesFound p types → Same p stop part.bytes ys →
     p ≤ h.actions_at → AllByRecursion (λ n. n ≤ stop) (name_ends part types t) → WordsKept memory other part types t →
     AllAround memory other part ys h types p stop (numbers t.types) (numbers t.lists)
 around memory other part ys h None p stop t found same from ends words = tt
@@ -277,10 +277,10 @@ around memory other part ys h (Some types) p stop t found same from ends words =
       words = words;
     }
 
-pub table_stays : (memory other : Memory) (part : Part) (ys : List ℕ) (region : Region64) (p : ℕ) (h : Head) (t : Table) → head_at part region p ≡ Ok h →
+pub table_keeps : (memory other : Memory) (part : Part) (ys : List ℕ) (region : Region64) (p : ℕ) (h : Head) (t : Table) → head_at part region p ≡ Ok h →
     lsda_in memory region p part ≡ Ok t → length ys ≡ length part.bytes → ((a : ℕ) → is_code other a ≡ is_code memory a) → Same p (table_end part h t) part.bytes ys →
-    WordsKept memory other part h.types t → lsda_in other region p (with_bytes part ys) ≡ Ok t
-table_stays memory other part ys region p h t head read long code same words =
+    WordsKept memory other part h.types t → TableKept memory other part ys p h
+table_keeps memory other part ys region p h t head read long code same words =
     let r = head_reads part region p h head in
     let order = r.order in
     let forward = r.forward in
@@ -291,6 +291,11 @@ table_stays memory other part ys region p h t head read long code same words =
     let none = both_none (records_faults memory part region h 0 S.records) S.cut (sym (faults_are memory part region h) ∙ none_refused (table_faults memory part region h) given.0) in
     let named = subst (λ x. AllByRecursion (RecordNamed part h.types h (numbers x.types) (numbers x.lists)) S.records) given.1 (made_named memory part region h) in
     let all = around memory other part ys h h.types p stop t (head_types part region p h head) same (omega (arith, order, forward)) (ends_before part h t).names words in
-    table_in_same memory other part ys region p h t head
-    (table_kept memory other part ys region p h t head read long code same
-    (records_kept memory other part ys region h p stop (numbers t.types) (numbers t.lists) 0 S.records all named none.0)) read
+    table_kept memory other part ys region p h t head read long code same
+    (records_kept memory other part ys region h p stop (numbers t.types) (numbers t.lists) 0 S.records all named none.0)
+
+pub table_stays : (memory other : Memory) (part : Part) (ys : List ℕ) (region : Region64) (p : ℕ) (h : Head) (t : Table) → head_at part region p ≡ Ok h →
+    lsda_in memory region p part ≡ Ok t → length ys ≡ length part.bytes → ((a : ℕ) → is_code other a ≡ is_code memory a) → Same p (table_end part h t) part.bytes ys →
+    WordsKept memory other part h.types t → lsda_in other region p (with_bytes part ys) ≡ Ok t
+table_stays memory other part ys region p h t head read long code same words =
+    table_in_same memory other part ys region p h t head (table_keeps memory other part ys region p h t head read long code same words) read

@@ -34,7 +34,7 @@ part_is file (h ∷ hs) a placed =
     step true rest = refl
     step false rest = rest
 
-placed_too : (file other : List ℕ) (hs : List ProgramHeader) → length other ≡ length file → AllByRecursion (Placed (length file)) hs → AllByRecursion (Placed (length other)) hs
+pub placed_too : (file other : List ℕ) (hs : List ProgramHeader) → length other ≡ length file → AllByRecursion (Placed (length file)) hs → AllByRecursion (Placed (length other)) hs
 placed_too file other hs long placed = subst (λ n. AllByRecursion (Placed n) hs) (sym long) placed
 
 -- what is code stays code

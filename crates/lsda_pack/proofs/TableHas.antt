@@ -83,12 +83,12 @@ links_some (suc n) part h p ends = by (action_at part h p) ends
     by (Ranged q) e = absurd cc
     by (Record filter next) e = omega arith
 
-not_zero : (a : ℕ) → not (a == 0) ≡ true → a ≢ 0
+pub not_zero : (a : ℕ) → not (a == 0) ≡ true → a ≢ 0
 not_zero zero e z = absurd cc
 not_zero (suc a) e z = absurd cc
 
 -- all that passes a test stands in the list
-filtered_in : (test : ℕ → Bool) (ns : List ℕ) → AllByRecursion (λ n. IsIn n ns × (test n ≡ true)) (filter test ns)
+pub filtered_in : (test : ℕ → Bool) (ns : List ℕ) → AllByRecursion (λ n. IsIn n ns × (test n ≡ true)) (filter test ns)
 filtered_in test ns = all_filter (λ n. IsIn n ns × (test n ≡ true)) test ns (all_more (λ n. IsIn n ns) (λ n. test n ≡ true → IsIn n ns × (test n ≡ true)) (λ n is e. (is, e)) ns (all_members ns))
 
 values_are : (f : ℕ → List ℤ) (all ns : List ℕ) → AllByRecursion (λ n. IsIn n all) ns → AllByRecursion (λ (e : ℕ × List ℤ). value_at [] (under f all) e.0 ≡ e.1) (under f ns)

@@ -26,7 +26,7 @@ use Rattle.lsda_pack.proofs.Looked.{Looked, looked}
 use Rattle.lsda_pack.proofs.TypesKept.{list_found}
 
 -- a type is found under its index
-type_found : (ts : List ℕ) (m i : ℕ) → value_at 0 (by_index m ts) (m + i) ≡ unwrap_or (slice_get ts i) 0
+pub type_found : (ts : List ℕ) (m i : ℕ) → value_at 0 (by_index m ts) (m + i) ≡ unwrap_or (slice_get ts i) 0
 type_found [] m i = refl
 type_found (t ∷ ts) m zero = step (m == m + 0) refl
   where

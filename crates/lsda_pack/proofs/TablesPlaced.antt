@@ -1,6 +1,6 @@
 -- The tables of an image as they are placed in it.
 use Rattle.std.proofs.Common.{◌≡◌, ◌+◌, ◌-◌, ◌≤◌, ◌==◌, ℕ, Bool, true, false, nat_le, List, [], ◌∷◌, length, map, Result, Ok, Err, refl, ap, sym, subst, ◌∙◌, arith, ◌⊎◌, inl, inr}
-use Rattle.std.specs.Prelude.{Option, Some, None, find, flat_map, if◌then◌else◌}
+use Rattle.std.specs.Prelude.{Option, Some, None, filter, find, flat_map, if◌then◌else◌}
 use Rattle.std.specs.List.{AllByRecursion}
 use Rattle.std.proofs.lemmas.Bool.Decides.{nat_tests}
 use Rattle.eh_bytes.specs.declared.frames.Region64.{Region64}
@@ -15,7 +15,8 @@ use Rattle.elf_image.specs.Loads as forms
 use Rattle.elf_image.specs.Loads.{part_of}
 use Rattle.elf_image.specs.Runtime.{has_address}
 use Rattle.elf_image.specs.Clean.{Function, table_read, table_named, function_of, functions_of}
-use Rattle.eh_write.proofs.Alls.{all_append}
+use Rattle.table_forms.proofs.Alls.{all_more}
+use Rattle.eh_write.proofs.Alls.{all_append, all_filter}
 use Rattle.lsda_read.specs.declared.shape.Shape.{Shape}
 use Rattle.lsda_read.specs.Shapes.{encoding_of, shape_of, shape_at}
 use Rattle.lsda_pack.specs.Placed.{Placed, placed_with, placed_in, placed_of}
@@ -26,6 +27,7 @@ use Rattle.lsda_pack.proofs.CanPacks.{PlacedIn, allowed, fewer}
 use Rattle.lsda_pack.proofs.HeadFrame.{bind_ok, after_start, in_steps}
 use Rattle.lsda_pack.proofs.LsdaFrame as tables
 use Rattle.lsda_pack.proofs.Segments.{in_both, found_part}
+use Rattle.lsda_pack.proofs.Sizes.{FitsIn}
 
 -- a table in a segment of the file
 abbrev pub placed_for : List ℕ → ProgramHeader → ℕ → Region64 → Table → Shape → Head → Placed
@@ -51,6 +53,7 @@ pub record IsPlaced (file : List ℕ) (hs : List ProgramHeader) (a : ℕ) (regio
   pub reads : head_at (part_of file load) region (a - load.address) ≡ Ok head
   pub here : part_with (map (part_of file) hs) a ≡ Some (part_of file load)
   pub formed : shape.ttype ≡ encoding_of head.types
+  pub shaped : shape_at (part_of file load) region (a - load.address) ≡ Ok shape
   pub is : placed_of (map (part_of file) hs) hs a region (Some table) ≡ placed_for file load a region table shape head ∷ []
 
 shape_read : (part : Part) (region : Region64) (p : ℕ) (h : Head) → head_at part region p ≡ Ok h → (s : Shape) × (shape_at part region p ≡ Ok s) × (s.ttype ≡ encoding_of h.types)
@@ -88,6 +91,7 @@ is_placed file hs a region table placed read = by (part_with (map (part_of file)
           reads = head.1;
           here = both.here;
           formed = shape.2;
+          shaped = shape.1;
           is = ap (λ o. placed_in a region table o (find (has_address a) hs)) both.here ∙ ap (placed_in a region table (Some (part_of file load.0))) load.1 ∙
               ap (λ s. placed_with a region table (part_of file load.0) load.0 s (head_at (part_of file load.0) region (a - load.0.address))) shape.1 ∙
               ap (placed_with a region table (part_of file load.0) load.0 (Ok shape.0)) head.1;
@@ -227,3 +231,11 @@ all_good file hs (f ∷ fs) gs placed read =
     of_one : {g : Function} → NamesNone file hs f g ⊎ NamesTable file hs f g → AllByRecursion (IsGood file hs) (placed_by file hs g)
     of_one (inl none) = subst (AllByRecursion (IsGood file hs)) (sym none.nothing) tt
     of_one (inr some) = subst (AllByRecursion (IsGood file hs)) (sym some.only) (some.good, tt)
+
+-- those that are packed fit in the file
+pub all_fit : (file : List ℕ) (hs : List ProgramHeader) (ts : List Placed) → AllByRecursion (IsGood file hs) ts → AllByRecursion (FitsIn (length file)) (filter is_packed ts)
+all_fit file hs ts good =
+    all_filter (FitsIn (length file)) is_packed ts (all_more (IsGood file hs) (λ t. is_packed t ≡ true → FitsIn (length file) t) (λ t g e. fits_of t (g.in_file e).0) ts good)
+  where
+    fits_of : (t : Placed) → Lies (length file) hs t → FitsIn (length file) t
+    fits_of t l = l.fits

@@ -30,7 +30,7 @@ use Rattle.lsda_pack.proofs.SitesJoined.{right_true}
 abbrev pub IsPlain : ℕ → Type 0
 IsPlain e = (e ≡ 27) ⊎ (e ≡ 255)
 
-abbrev IsDirect : Pointer → Type 0
+abbrev pub IsDirect : Pointer → Type 0
 IsDirect pointer = (pointer.indirect ≡ false) × (pointer.value < 2 ^ 64)
 
 applied_direct : (a m : ℕ) → IsDirect (applied 27 a m)
@@ -48,7 +48,7 @@ omitted_none : (a : ℕ) (xs : List ℕ) (pointer : Pointer) (n : ℕ) → encod
 unfolding encoded raw
 omitted_none a xs pointer n read = cc
 
-plain_direct : (e a : ℕ) (xs : List ℕ) (pointer : Pointer) (n : ℕ) → IsPlain e → encoded e a xs ≡ Ok (pointer, n) → IsDirect pointer
+pub plain_direct : (e a : ℕ) (xs : List ℕ) (pointer : Pointer) (n : ℕ) → IsPlain e → encoded e a xs ≡ Ok (pointer, n) → IsDirect pointer
 plain_direct e a xs pointer n (inl is) read = relative_direct a xs pointer n (ap (λ k. encoded k a xs) (sym is) ∙ read)
 plain_direct e a xs pointer n (inr is) read = absurd (omitted_none a xs pointer n (ap (λ k. encoded k a xs) (sym is) ∙ read))
 
@@ -71,7 +71,7 @@ entry_word memory part h types i plain = by_room (nat_le (h.actions_at + i * typ
     by_room false = omega arith
     by_room true = by_field (encoded types.encoding (part.address + (types.base - i * types.size)) (drop (types.base - i * types.size) part.bytes)) refl
 
-abbrev TypesPlain : Option Types → Type 0
+abbrev pub TypesPlain : Option Types → Type 0
 TypesPlain types = IsPlain (encoding_of types)
 
 value_word : (memory : Memory) (part : Part) (h : Head) (types : Option Types) (i : ℕ) → TypesPlain types → IsWord (entry_value memory part h types i)

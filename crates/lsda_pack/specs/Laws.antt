@@ -27,6 +27,10 @@ KeepsVerdicts list packed = (start place : ℕ) (thrown : Thrown) → listed_ver
 abbrev pub ListsDecideAlike : Type 0
 ListsDecideAlike = (list : ListedTable) → AllByRecursion (λ s. ChainIsThere list s.chain) list.sites → KeepsVerdicts list (packed_lists list)
 
+-- packed lists stay as they are when they are packed again
+abbrev pub PackedOnce : Type 0
+PackedOnce = (list : ListedTable) → packed_lists (packed_lists list) ≡ packed_lists list
+
 -- so do tables that stand for the lists and for the packed ones, wherever these lie
 abbrev pub TablesDecideAlike : Type 0
 TablesDecideAlike =
@@ -99,3 +103,9 @@ abbrev pub PackingKeeps : Type 0
 PackingKeeps =
     (file : List ℕ) (i : CleanImage) (p : Packing) → clean file ≡ Ok i → packing file ≡ Ok p →
     KeepsOthers file i p × IsOkAnd (clean p.bytes) (ImageStays i)
+
+-- a packed image that is packed again is not refused, and stays as it is
+abbrev pub PacksNoMore : Type 0
+PacksNoMore =
+    (file : List ℕ) (i : CleanImage) (p : Packing) → clean file ≡ Ok i → packing file ≡ Ok p →
+    packing p.bytes ≡ Ok (record { bytes = p.bytes; tables = p.tables; packed = 0; saved = 0 })

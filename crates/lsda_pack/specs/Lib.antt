@@ -16,6 +16,11 @@ pub mod MayPack
 pub mod SharedFile
 pub mod SharedTables
 pub mod Reaches
+pub mod Extents
+pub mod Placings
+pub mod Gathered
 pub mod PackedImage
+pub mod Counted
+pub mod Packs
 pub mod Line
 pub mod Laws

@@ -58,11 +58,6 @@ pub record IsHead (part : Part) (region : Region64) (table : Table) (actions_at 
   pub begins : h.actions_at ≡ actions_at
   pub stands : option_map (λ x. x.base) h.types ≡ base
 
--- the packed bytes of a table, where there is one and it is packed
-abbrev pub first_packed : List Placed → Option (List ℕ)
-first_packed [] = None
-first_packed (t ∷ ts) = packed_for t
-
 -- the base by the form of a table in a segment with this address
 abbrev pub base_by : Shape → ℕ → Option ℕ
 base_by s address = if s.ttype == 255 then None else Some (s.base - address)

@@ -6,8 +6,13 @@
 mod actions;
 mod chains;
 mod ends;
+mod extents;
 mod file_shared;
 mod filter;
+mod gathered;
+mod image;
+#[cfg(test)]
+mod image_tests;
 mod indices;
 mod joined;
 mod kept_types;
@@ -18,14 +23,19 @@ mod lists;
 mod packed;
 mod packed_bytes;
 mod packing;
+mod placing;
 mod reach;
+mod refusals;
 mod rewrite;
+mod rewriting;
 mod rule;
 mod shared;
 mod suffixes;
 #[cfg(test)]
 mod tests;
 
+pub use image::pack_image;
 pub use packed::pack_lists;
 pub use packed_bytes::write_packed;
+pub use rewriting::Packed;
 pub use std::alloc::AllocError as NoMemory;
