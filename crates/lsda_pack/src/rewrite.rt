@@ -14,8 +14,7 @@ fn put_at(file: &mut Vec<u8>, place: usize, bytes: &[u8])
     file[place..end].copy_from_slice(bytes);
 }
 
-/// The new bytes of a table that took so many bytes, and zeros behind them. The file is unchanged
-/// where memory is wanted.
+/// The new bytes of a table that took so many bytes, and zeros behind them.
 pub fn rewrite(
     file: &mut Vec<u8>,
     place: usize,
