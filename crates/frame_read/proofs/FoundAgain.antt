@@ -37,7 +37,7 @@ holds : (part : Part) (a : ℕ) → covers part a ≡ true → Holds (extent_at 
 holds part a e = (grind (arith, nat_tests, e), grind (arith, nat_tests, e))
 
 -- a part that is found at a place is found at each of its places
-same_part : (parts : List Segment) (a b : ℕ) (part : Part) → AreApart (extents_of parts) → part_with (map part_of parts) a ≡ Some part → covers part b ≡ true →
+pub same_part : (parts : List Segment) (a b : ℕ) (part : Part) → AreApart (extents_of parts) → part_with (map part_of parts) a ≡ Some part → covers part b ≡ true →
     part_with (map part_of parts) b ≡ Some part
 same_part [] a b part apart found covered = absurd cc
 same_part (s ∷ parts) a b part apart found covered =

@@ -31,3 +31,7 @@ mod FoundAgain
 mod Searches
 mod Searched
 pub mod RowWalks
+mod Moved
+mod Locations
+mod Stays
+mod Kept

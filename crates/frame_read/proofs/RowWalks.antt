@@ -1,15 +1,14 @@
 -- A walk over instructions: what is left behind one of them, and how long a row holds on.
-use Rattle.std.proofs.Common.{◌≡◌, ◌≤◌, ◌<◌, ◌+◌, ℕ, zero, suc, true, false, List, [], ◌∷◌, Option, Some, None, Result, Ok, Err, refl, ap, sym, ◌∙◌, subst, arith, nat_lt, fold}
+use Rattle.std.proofs.Common.{◌≡◌, ◌≤◌, ◌<◌, ◌+◌, ℕ, zero, suc, true, false, List, [], ◌∷◌, Option, Some, None, Ok, Err, refl, ap, sym, ◌∙◌, subst, arith, nat_lt, fold}
 use Rattle.std.proofs.lemmas.Bool.Decides.{nat_tests}
 use Rattle.eh_bytes.specs.Memory.{Part}
 use Rattle.table_forms.specs.declared.found.Row.{Row}
 use Rattle.table_forms.specs.Fault.{Fault}
 use Rattle.table_forms.specs.Fde.{Fde, row_at}
 use Rattle.table_forms.specs.Instruction.{Instruction, nop, go_to, advance, set_cfa, set_cfa_register, set_cfa_offset, set_rule, restore, remember_state, restore_state, Coding, instruction_at}
-use Rattle.table_forms.specs.Instructions.{Instructions, states_after, instructions_after, instructions_within}
+use Rattle.table_forms.specs.Instructions.{states_after, instructions_after, instructions_within}
 use Rattle.table_forms.specs.Row.{Folding, begun, row_of, restored, after, location_after, stepped, with_initial}
 use Rattle.table_forms.proofs.RowFold.{fold_off, stepped_off, stepped_on}
-use Rattle.frame_read.specs.Heads.{cie_with, fde_with}
 use Rattle.frame_read.specs.Known.{IsKnown}
 use Rattle.frame_read.specs.RowWalk.{AtEnd, Comes, Goes, HoldsUntil, IsCommon, IsIn, IsLeft, IsNext, IsOwn, Stops}
 use Rattle.frame_read.specs.Seen.{coding_seen}

@@ -28,3 +28,8 @@ pub mod ReadsFrames
 pub mod Given
 pub mod Search
 pub mod RowWalk
+pub mod Moves
+pub mod Locations
+pub mod CieFold
+pub mod CieFolds
+pub mod FdeRows

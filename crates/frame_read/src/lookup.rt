@@ -1,5 +1,5 @@
 // An FDE by the place of its length.
-ghost use Rattle.std.specs.Prelude.{◌≡◌, ◌+◌, ◌≤◌, length, Ok, Some, IfSome, IsSomeAnd, IsOk, option_map};
+ghost use Rattle.std.specs.Prelude.{◌≡◌, ◌+◌, ◌<◌, ◌≤◌, ◌^◌, length, Ok, Some, IfSome, IsSomeAnd, IsOk, option_map};
 ghost use Rattle.eh_bytes.specs.Memory.{part_of, memory_of};
 ghost use Rattle.table_forms.specs.Instructions.{instructions_at};
 ghost use Rattle.table_forms.specs.Cie.{Cie};
@@ -56,6 +56,7 @@ fn cie_place(segment: &Segment, at: usize) -> Option<(Span, usize)>
     ensures cie { cie_here (part_of segment.now) at ≡ cie_at_place (part_of segment.now) (option_map (λ x. (span_seen x.0, x.1)) result) }
     ensures at { IfSome result (λ x. x.0.at ≡ at) }
     ensures stop { IfSome result (λ x. x.0.stop ≤ length segment.now.bytes.items) }
+    ensures start { IfSome result (λ x. x.0.at < x.0.stop) }
     ensures next { IfSome result (λ x. x.1 ≤ x.0.stop) }
 {
     match span_at(segment, at) {
@@ -93,6 +94,8 @@ fn cie_here(segment: &Segment, at: usize) -> Option<CiePart<'_>>
 fn known_cie(segment: &Segment, at: usize) -> Option<CiePart<'_>>
     requires { at ≤ length segment.now.bytes.items }
     ensures cie { (cie : Cie) → cie_here (part_of segment.now) at ≡ Some cie → IsSomeAnd result (λ c. cie_after (part_of segment.now) c ≡ Ok cie) }
+    ensures at { IfSome result (λ c. c.at ≡ at) }
+    ensures start { IfSome result (λ c. c.at < c.stop) }
     ensures stop { IfSome result (λ c. c.stop ≤ length segment.now.bytes.items) }
     ensures first { IfSome result (λ c. c.first ≤ c.stop) }
 {
@@ -174,7 +177,10 @@ fn fde_here(segment: &Segment, at: usize) -> Option<FdeHere<'_>>
 pub(crate) fn known_fde(segment: &Segment, at: usize) -> Option<FdeHere<'_>>
     requires { at ≤ length segment.now.bytes.items }
     ensures fde { (f : Fde) → fde_here (part_of segment.now) at ≡ Some f → IsSomeAnd result (λ h. IsKnown (part_of segment.now) h f) }
+    ensures cie { (f : Fde) → fde_here (part_of segment.now) at ≡ Some f → IfSome result (λ h. cie_here (part_of segment.now) h.cie.at ≡ Some f.cie) }
     ensures places { IfSome result (λ h. HasPlaces segment.now.bytes.items h) }
+    ensures start { IfSome result (λ h. h.cie.at < h.cie.stop) }
+    ensures ends { IfSome result (λ h. h.fde.region.start + h.fde.region.length < 2 ^ 64) }
 {
     match fde_place(segment, at) {
         None => None,

@@ -11,7 +11,7 @@ use Rattle.table_forms.specs.LsdaTypes.{filter_faults}
 use Rattle.table_forms.specs.Lsda.{action_faults}
 use Rattle.table_forms.proofs.Least.{least-append, joined_none, joined_joined}
 
-before_same : (f : Fault) → is_before f f ≡ true
+pub before_same : (f : Fault) → is_before f f ≡ true
 unfolding is_before
 before_same f = grind (arith, nat_tests)
 
@@ -28,7 +28,7 @@ unfolding is_before
 outside_before m n order = grind (arith, nat_tests, order)
 
 -- a refusal with itself
-twice : (o : Option Fault) → joined o o ≡ o
+pub twice : (o : Option Fault) → joined o o ≡ o
 twice None = refl
 twice (Some f) = ap (λ b. if b then Some f else Some f) (before_same f)
 

@@ -8,3 +8,16 @@ mod Fits
 mod Judged
 mod Sets
 pub mod Whole
+mod Absorbed
+mod Unknown
+mod Turning
+mod KnownMore
+mod Path
+mod Adds
+mod Walking
+mod ListTurning
+mod ListWalking
+mod Asking
+mod Coded
+mod Moved
+mod Suited

@@ -8,3 +8,8 @@ pub mod Left
 pub mod Names
 pub mod Shapes
 pub mod WholeTable
+pub mod Known
+pub mod Turns
+pub mod KnownLists
+pub mod Demands
+pub mod Holds

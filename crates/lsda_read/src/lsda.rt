@@ -1,5 +1,5 @@
 // A table that was read.
-ghost use Rattle.std.specs.Prelude.{◌≡◌, ◌+◌, ◌≤◌, ◌<◌, ◌^◌, [], Contains, length, vec_len};
+ghost use Rattle.std.specs.Prelude.{◌≡◌, ◌+◌, ◌≤◌, ◌<◌, ◌^◌, [], IfOk, Contains, length, vec_len};
 ghost use Rattle.eh_bytes.specs.Memory.{memory_of, part_of};
 ghost use Rattle.table_forms.specs.Keys.{value_at};
 ghost use Rattle.table_forms.specs.Lsda.{lsda, lsda_in, table_of};
@@ -14,7 +14,9 @@ use crate::head_fields::head_of;
 use crate::list::SpecList;
 use crate::sites::Sites;
 use crate::table::table_refusal;
+use crate::table_walk::table_judged;
 use eh_bytes::{Region64, Segment, Segments};
+use std::alloc::{AllocError, Global};
 use std::marker::Model;
 use table_forms::{Reason, Refusal, refused};
 
@@ -77,6 +79,34 @@ fn read_in<'a>(
     }
 }
 
+// The table at a place of a segment, with what was judged kept.
+#[tactic(auto, unfolding(table_forms::specs::Lsda::lsda_in))]
+fn judged_in<'a>(
+    alloc: Global,
+    memory: &'a Segments,
+    segment: &'a Segment,
+    region: Region64,
+    place: usize,
+) -> Result<Result<Lsda<'a>, Refusal>, AllocError>
+    requires place { place ≤ vec_len segment.now.bytes }
+    requires region { region.start + region.length < 2 ^ 64 }
+    ensures { IfOk result (λ read. Reads (λ table. table) read (lsda_in (memory_of memory.now) region place (part_of segment.now))) }
+{
+    let head = match head_of(segment, region, place) {
+        Err(e) => return Ok(Err(e)),
+        Ok(head) => head,
+    };
+    match table_judged(alloc, memory, segment, &head, region)? {
+        Some(e) => Ok(Err(e)),
+        None => Ok(Ok(Lsda {
+            memory,
+            segment,
+            region,
+            head,
+        })),
+    }
+}
+
 // The table at an address.
 #[tactic(auto, unfolding(table_forms::specs::Lsda::lsda))]
 fn read_from<'a>(memory: &'a Segments, address: u64, region: Region64) -> Result<Lsda<'a>, Refusal>
@@ -87,6 +117,29 @@ fn read_from<'a>(memory: &'a Segments, address: u64, region: Region64) -> Result
         return Err(refused(Reason::TableTruncated, 0));
     };
     read_in(
+        memory,
+        segment,
+        region,
+        (address - segment.address) as usize,
+    )
+}
+
+// The table at an address, with what was judged kept.
+#[tactic(auto, unfolding(table_forms::specs::Lsda::lsda))]
+fn judged_from<'a>(
+    alloc: Global,
+    memory: &'a Segments,
+    address: u64,
+    region: Region64,
+) -> Result<Result<Lsda<'a>, Refusal>, AllocError>
+    requires { region.start + region.length < 2 ^ 64 }
+    ensures { IfOk result (λ read. Reads (λ table. table) read (lsda (memory_of memory.now) address region)) }
+{
+    let Some(segment) = memory.segment_with(address) else {
+        return Ok(Err(refused(Reason::TableTruncated, 0)));
+    };
+    judged_in(
+        alloc,
         memory,
         segment,
         region,
@@ -107,6 +160,24 @@ impl<'a> Lsda<'a> {
         ensures { ReadsTable result (lsda (memory_of memory.now) address region) }
     {
         Ok(read_from(memory, address, region)?)
+    }
+
+    /// The same table or refusal as `read_at` gives, in time proportional to the call-site table and
+    /// to the records and lists that it names, but for a logarithm: a chain is walked up to a record
+    /// that was met before, a list up to such an index. What was judged takes memory.
+    pub fn judged_at(
+        alloc: Global,
+        memory: &'a Segments,
+        address: u64,
+        region: Region64,
+    ) -> Result<Result<Lsda<'a>, TableError>, AllocError>
+        requires { region.start + region.length < 2 ^ 64 }
+        ensures { IfOk result (λ read. ReadsTable read (lsda (memory_of memory.now) address region)) }
+    {
+        match judged_from(alloc, memory, address, region)? {
+            Err(e) => Ok(Err(e.into())),
+            Ok(table) => Ok(Ok(table)),
+        }
     }
 
     /// The sites, in order.

@@ -34,8 +34,8 @@ fn is_pad(memory: &Segments, pad: u128) -> bool
     pad == 0 || memory.is_code(pad)
 }
 
-// What is refused of a record behind a site with this end.
-fn site_refusal(
+/// What is refused of a record behind a site with this end.
+pub fn site_refusal(
     memory: &Segments,
     file_at: u64,
     head: &Head,

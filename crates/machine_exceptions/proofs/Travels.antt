@@ -4,7 +4,7 @@ use Rattle.std.specs.Prelude.{not, if◌then◌else◌}
 use Rattle.std.proofs.lemmas.Bool.Decides.{nat_tests}
 use Rattle.meaning_forms.specs.Class.{some_of, contains}
 use Rattle.region_forms.specs.Caught.{Entry}
-use Rattle.region_forms.specs.World.{World, Exception, Live, building, native, foreign, exception_in, exception_at}
+use Rattle.region_forms.specs.World.{World, Exception, building, native, foreign, exception_at}
 use Rattle.region_forms.specs.Lives.{is_live, is_built, is_being_built, can_travel, is_on_top, may_enter}
 use Rattle.linear_forms.specs.Activation.{Activation}
 use Rattle.machine_simulation.specs.Exceptions.{destroyed, live_in}

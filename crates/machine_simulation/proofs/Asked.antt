@@ -1,14 +1,14 @@
 -- What is asked of a program is all that is needed, since all but exceptions whose address a call's slots hold is live.
-use Rattle.std.proofs.Common.{◌≡◌, ◌∙◌, refl, ap, subst, ℕ, ◌<◌, ◌≤◌, List, length, Option, Some, None}
+use Rattle.std.proofs.Common.{◌≡◌, refl, subst, ℕ, ◌<◌, List, length, Option, Some, None}
 use Rattle.std.specs.Prelude.{true}
 use Rattle.rv64_isa.specs.State.{Part}
 use Rattle.region_forms.specs.Form.{SlotKind, int_slot, address_slot, object_slot, help_slot, Root, in_slot, through, in_global, Place, Value, number, load, unary, binary, call_value, Argument, int_argument, address_argument, handler_argument, Arguments, no_arguments, argument_then, evaluate, store, bind}
 use Rattle.region_forms.specs.World.{Base, of_global, of_variable, of_exception, Address, address_in, behind, Frame, World}
-use Rattle.region_forms.specs.Evaluation.{Location, in_memory, in_frame, slot_location, location_behind, root_location, with_some, location_address, locate}
+use Rattle.region_forms.specs.Evaluation.{Location, in_memory, in_frame, slot_location, location_behind, root_location, locate}
 use Rattle.linear_forms.specs.Linear.{LinearOp, plain, label, jump, jump_zero}
 use Rattle.machine_pieces.specs.Frames.{RootFits, RootIsLive, ValueStands}
 use Rattle.machine_simulation.specs.Plan.{Plan, shape, slot_kinds, setting}
-use Rattle.machine_simulation.specs.Extents.{AddressStands, LocationStands}
+use Rattle.machine_simulation.specs.Extents.{LocationStands}
 use Rattle.machine_simulation.specs.Calls.{HeldBy, CallStands}
 use Rattle.machine_simulation.specs.Operations.{IsQuiet, PlaceStands, OperationStands}
 use Rattle.machine_simulation.specs.Returns.{WantedStands}

@@ -1,6 +1,6 @@
 -- A call of a compiled function is matched.
 use Rattle.std.proofs.Common.{◌≡◌, ◌∙◌, refl, sym, ap, subst, arith, ℕ, ◌+◌, ◌-◌, ◌*◌, ◌^◌, ◌<◌, ◌≤◌, List, [], ◌∷◌, ◌++◌, length, length-append, append_assoc, Option, Some, None, inl, inr}
-use Rattle.std.specs.Prelude.{◌⊎◌, slice_get, true}
+use Rattle.std.specs.Prelude.{◌⊎◌, slice_get}
 use Rattle.rv64_isa.specs.State.{State, Part, with_value}
 use Rattle.rv64_isa.specs.Step.{x}
 use Rattle.cxa_runtime.specs.World as abi

@@ -1,6 +1,6 @@
 -- A function is called, takes its frame, and begins.
 use Rattle.std.proofs.Common.{◌≡◌, ◌∙◌, sym, ap, subst, arith, ℕ, ◌+◌, ◌-◌, ◌*◌, ◌%◌, ◌^◌, ◌<◌, ◌≤◌, pos, List, length, flat_map, Some}
-use Rattle.std.specs.Prelude.{slice_get, true}
+use Rattle.std.specs.Prelude.{slice_get}
 use Rattle.rv64_isa.specs.State.{State, Part, with_value}
 use Rattle.rv64_isa.specs.Step.{x}
 use Rattle.region_forms.specs.World.{Address, Word, address_in, Frame, World}

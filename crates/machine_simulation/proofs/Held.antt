@@ -1,5 +1,5 @@
 -- What a place's address begins at need not be live: a call may hold the address, and its bytes are below 2^64.
-use Rattle.std.proofs.Common.{◌≡◌, ◌∙◌, refl, ap, subst, arith, ℕ, ◌+◌, ◌^◌, ◌<◌, ◌≤◌, List, length, Option, Some, None}
+use Rattle.std.proofs.Common.{◌≡◌, ◌∙◌, refl, ap, subst, arith, ℕ, ◌+◌, ◌^◌, ◌<◌, List, length, Option, Some, None}
 use Rattle.rv64_isa.specs.State.{Part}
 use Rattle.region_forms.specs.Form.{SlotKind, int_slot, address_slot, object_slot, help_slot, Root, in_slot, through, in_global, Place}
 use Rattle.region_forms.specs.World.{Base, of_global, of_variable, of_exception, Address, address_in, behind, Frame, World}

@@ -14,7 +14,7 @@ use Rattle.machine_pieces.specs.Memory.{MayWrite, Apart}
 use Rattle.machine_pieces.specs.Frames.{IntAt, WordHolds}
 use Rattle.machine_simulation.specs.Plan.{Plan, function, shape, slot_kinds, setting}
 use Rattle.machine_simulation.specs.Extents.{newer, StandApart, IntsInside}
-use Rattle.machine_simulation.specs.Calls.{HeldBy, IsBegun, CallStands, CallsWait}
+use Rattle.machine_simulation.specs.Calls.{HeldBy, CallStands, CallsWait}
 use Rattle.machine_simulation.specs.Matches.{FrameIs, StillFresh, IsAway, is_exception, ObjectsStand, MemoryMatches}
 use Rattle.machine_simulation.specs.Entering.{is_slot, slot_room, WordFits, opened}
 use Rattle.machine_simulation.proofs.Keeping.{IntsHold, held_later}

@@ -1,7 +1,7 @@
 -- There are no more FDEs, and no more sites of one table, than bytes.
 use Rattle.std.proofs.Common.{◌≡◌, ◌+◌, ◌≤◌, ◌^◌, ◌-◌, ℕ, zero, suc, Bool, true, false, List, [], ◌∷◌, length, Option, Some, None, Result, Ok, Err, refl, ap, subst, ◌∙◌, ◌++◌, arith, nat_lt, nat_le, take, if◌then◌else◌}
 use Rattle.std.proofs.lemmas.List.{length-map}
-use Rattle.std.specs.Prelude.{find}
+use Rattle.std.specs.Prelude.{find, IsOkAnd}
 use Rattle.std.specs.List.{AllByRecursion}
 use Rattle.std.specs.Int.{w32}
 use Rattle.eh_bytes.specs.declared.frames.Region64.{Region64}
@@ -154,3 +154,10 @@ lsda_few memory address region small = by (part_with memory address) refl
 
 pub sites_few : (memory : Memory) (address : ℕ) (region : Region64) (t : Table) → AllByRecursion IsSmall memory → lsda memory address region ≡ Ok t → HasFew t
 sites_few memory address region t small is = read_at {A = Table} HasFew (lsda memory address region) t is (lsda_few memory address region small)
+
+pub counted_few : (memory : Memory) (address : ℕ) (region : Region64) (n : ℕ) → AllByRecursion IsSmall memory → IsOkAnd (lsda memory address region) (λ t. length t.sites ≡ n) → n ≤ 2 ^ 30 + 1
+counted_few memory address region n small counted = by (lsda memory address region) refl counted
+  where
+    by : (r : Result Table Fault) → lsda memory address region ≡ r → IsOkAnd r (λ t. length t.sites ≡ n) → n ≤ 2 ^ 30 + 1
+    by (Ok t) read count = let few = sites_few memory address region t small read in omega (arith, few, count)
+    by (Err f) read count = absurd count

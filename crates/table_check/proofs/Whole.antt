@@ -11,6 +11,7 @@ use Rattle.table_forms.specs.Lsda.{Table}
 use Rattle.table_forms.specs.Frames.{Frames, frames, sorted}
 use Rattle.elf_image.specs.declared.elf.Elf.{Elf}
 use Rattle.elf_image.specs.declared.error.ImageError.{ImageError}
+use Rattle.elf_image.specs.declared.error.ImageError.TheVariants as errors
 use Rattle.elf_image.specs.Elf.{elf}
 use Rattle.elf_image.specs.Reads.{image_seen}
 use Rattle.elf_image.specs.Reports.{reported}
@@ -97,6 +98,13 @@ reports_tables file run e l order x is read ordered said =
         IsErrAnd (r >>= sums 0 0) (λ f. x ≡ reported f) → IsReported x (judged file run)
     by d r (Ok fs) t said = absurd said
     by d r (Err f) t said = reports f x (judged file run) (behind_frames file run (image_seen e) d (Err f) is r t) said
+
+pub reports_counted : (file : List ℕ) (run : Bool) (e : Elf) (l : Listing) (order : List Fde) (x : ImageError) → elf file run ≡ Ok (image_seen e) →
+    IsOkAnd (frames (memory_of e.segments) e.frame_header) (λ d. l ≡ listing d) → IsOrder l order →
+    IsReported x (tallied (memory_of e.segments) 0 0 order) → IsReported x (judged file run)
+reports_counted file run e l order (errors.Refused reason place location other) is read ordered said =
+    reports_tables file run e l order (errors.Refused reason place location other) is read ordered said
+reports_counted file run e l order errors.NoMemory is read ordered said = tt
 
 pub reads_clean : (file : List ℕ) (run : Bool) (e : Elf) (l : Listing) (order : Vec Fde Global) (n k tables sites : ℕ) → elf file run ≡ Ok (image_seen e) →
     IsOkAnd (frames (memory_of e.segments) e.frame_header) (λ d. l ≡ listing d) → IsOrder l order.items → tallied (memory_of e.segments) 0 0 order.items ≡ Ok (tables, sites) →

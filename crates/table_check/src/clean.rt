@@ -24,7 +24,7 @@ pub struct CleanImage {
 /// The clean image in a file, or the first of its refusals: those of the file, with `run` also those
 /// of one that is to run, then of the header and the frames, then of each exception table in the
 /// order of its function's region (docs/TABLES.md), or memory ran out. It takes time in proportion
-/// to the file, the memory of its segments and the tables, and n log n in the number of FDEs.
+/// to the file, the memory of its segments and the tables, but for a logarithm.
 pub fn read_image(alloc: Global, bytes: &[u8], run: bool) -> Result<CleanImage, ImageError>
     ensures { ReadsClean result (judged bytes.now run) }
 {
@@ -34,7 +34,7 @@ pub fn read_image(alloc: Global, bytes: &[u8], run: bool) -> Result<CleanImage, 
         Ok(frames) => frames,
     };
     let order = in_order(alloc, frames.fdes())?;
-    let counted = count_tables(&elf.segments, order.as_slice())?;
+    let counted = count_tables(alloc, &elf.segments, order.as_slice())?;
     let summary = Summary {
         cies: frames.cies().len() as u64,
         frames: order.len() as u64,

@@ -3,6 +3,7 @@
 #![tactic(auto)]
 
 mod clean;
+mod known;
 mod order;
 mod refusal;
 mod summary;

@@ -3,6 +3,7 @@ pub mod Heads
 pub mod Listed
 pub mod Pointed
 pub mod Rows
+pub mod Rising
 pub mod Entry
 pub mod Seen
 pub mod Tables

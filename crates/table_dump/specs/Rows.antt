@@ -30,6 +30,10 @@ cfa_text pc row = codes "  row " ++ hex pc ++ codes " cfa " ++ register row.cfa_
 abbrev pub row_line : ℕ → Row → List ℕ
 row_line pc row = cfa_text pc row ++ rules_text 0 row.rules ++ codes "\n"
 
+-- the line of the row of a location
+abbrev pub row_text : Fde → ℕ → List ℕ
+row_text f pc = row_line pc (row_at f pc)
+
 -- at most so many rows: that of a location, and those of the next locations
 unfoldable pub rows_within : ℕ → Fde → Option ℕ → List ℕ
 rows_within zero f pc = []

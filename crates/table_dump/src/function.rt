@@ -3,6 +3,7 @@ ghost use Rattle.std.specs.Prelude.{◌≡◌, ◌++◌, ◌+◌, ◌<◌, ◌^�
 ghost use Rattle.eh_bytes.specs.Memory.{memory_of};
 ghost use Rattle.table_forms.specs.Lsda.{Table};
 ghost use Rattle.elf_image.specs.Clean.{Function, table_named};
+ghost use Rattle.frame_read.specs.CieFolds.{AreFolds};
 ghost use Rattle.table_dump.specs.Seen.{IsFunction, AreFunctions};
 ghost use Rattle.lsda_read.specs.WholeTable.{IsWhole};
 ghost use Rattle.table_dump.specs.Dump.{named_text, function_text};
@@ -12,7 +13,7 @@ use crate::line::put_lsda;
 use crate::row::put_frame;
 use crate::table::put_table;
 use eh_bytes::Segments;
-use frame_read::{Fde, Frames};
+use frame_read::{CieFolds, Fde, Frames};
 use lsda_read::Lsda;
 use std::alloc::{AllocError, Global};
 
@@ -44,7 +45,7 @@ fn put_lsda_of(
     if fde.lsda == 0 {
         return Ok(());
     }
-    match Lsda::read_at(memory, fde.lsda, fde.region) {
+    match Lsda::judged_at(alloc, memory, fde.lsda, fde.region)? {
         Err(_) => unreachable!(),
         Ok(table) => put_named(alloc, out, fde.lsda, &table),
     }
@@ -55,13 +56,16 @@ fn put_function(
     out: &mut Vec<u8>,
     memory: &Segments,
     frames: &Frames,
+    folds: &mut CieFolds,
     fde: &Fde,
 ) -> Result<(), AllocError>
-    requires { (g : Function) × IsFunction (memory_of memory.now) frames.now fde.now g }
-    ensures { OnOk result ((g : Function) → IsFunction (memory_of memory.now) frames.now fde.now g → out.new.items ≡ out.old.items ++ function_text g) }
+    requires function { (g : Function) × IsFunction (memory_of memory.now) frames.now fde.now g }
+    requires folds { AreFolds (memory_of memory.now) folds.old }
+    ensures folds { AreFolds (memory_of memory.now) folds.new }
+    ensures function { OnOk result ((g : Function) → IsFunction (memory_of memory.now) frames.now fde.now g → out.new.items ≡ out.old.items ++ function_text g) }
 {
     put_frame(alloc, out, fde.region.start, fde.region.length)?;
-    put_rows(alloc, out, memory, frames, fde)?;
+    put_rows(alloc, out, memory, frames, folds, fde)?;
     put_lsda_of(alloc, out, memory, fde)?;
     Ok(())
 }
@@ -77,9 +81,10 @@ pub fn put_functions(
     requires { (gs : List Function) × AreFunctions (memory_of memory.now) frames.now fdes.now gs }
     ensures { OnOk result ((gs : List Function) → AreFunctions (memory_of memory.now) frames.now fdes.now gs → out.new.items ≡ out.old.items ++ flat_map function_text gs) }
 {
+    let mut folds = CieFolds::new(alloc);
     let mut rest = fdes;
     'fdes: while let Some((fde, others)) = rest.split_first() {
-        put_function(alloc, out, memory, frames, fde)?;
+        put_function(alloc, out, memory, frames, &mut folds, fde)?;
         rest = others;
     }
     Ok(())

@@ -128,6 +128,39 @@ static CHANGES_ANYWHERE: &[(usize, &[u8], (u8, u64))] = &[
     (0x78, b"\x31\x58\x48\x6e", (68, 0x78)),
 ];
 
+// Three functions of 16 bytes at 0x128 name one table at 0x11c, of two sites; the second has a pad 8 bytes behind its function's start.
+static SHARED: &[u8] = b"\x7fELF\x02\x01\x01\0\0\0\0\0\0\0\0\0\
+\x02\0\xf3\0\x01\0\0\0\0\0\x01\0\0\0\0\0\
+@\0\0\0\0\0\0\0\0\0\0\0\0\0\0\0\
+\0\0\0\0@\08\0\x02\0\0\0\0\0\0\0\
+\x01\0\0\0\x05\0\0\0\0\0\0\0\0\0\0\0\
+\0\0\x01\0\0\0\0\0\0\0\x01\0\0\0\0\0\
+X\x01\0\0\0\0\0\0X\x01\0\0\0\0\0\0\
+\0\x10\0\0\0\0\0\0P\xe5td\x04\0\0\0\
+\xb0\0\0\0\0\0\0\0\xb0\0\x01\0\0\0\0\0\
+\xb0\0\x01\0\0\0\0\0\x08\0\0\0\0\0\0\0\
+\x08\0\0\0\0\0\0\0\x04\0\0\0\0\0\0\0\
+\x01\x1b\xff\xff\x04\0\0\0\x14\0\0\0\0\0\0\0\
+\x01zLR\0\x04x\x01\x02\x1b\x1b\x0c\x02\0\0\0\
+\x14\0\0\0\x1c\0\0\0P\0\0\0\x10\0\0\0\
+\x04;\0\0\0\0\0\0\x14\0\0\04\0\0\0\
+H\0\0\0\x10\0\0\0\x04#\0\0\0\0\0\0\
+\x14\0\0\0L\0\0\0@\0\0\0\x10\0\0\0\
+\x04\x0b\0\0\0\0\0\0\0\0\0\0\xff\xff\x01\x08\
+\0\x04\0\0\x04\x04\x08\0\x13\0\0\0\x13\0\0\0\
+\x13\0\0\0\x13\0\0\0\x13\0\0\0\x13\0\0\0\
+\x13\0\0\0\x13\0\0\0\x13\0\0\0\x13\0\0\0\
+\x13\0\0\0\x13\0\0\0";
+
+static CHANGES_SHARED: &[(usize, &[u8], (u8, u64))] = &[
+    // The third function is too short for the table.
+    (0x10c, b"\x07", (5, 0x124)),
+    // The pad lies behind the code for the third function, or for the second.
+    (0x126, b"\x18", (6, 0x124)),
+    (0x126, b"\x28", (6, 0x124)),
+    (0x126, b"\x0f", (0, 0)),
+];
+
 // An image with some bytes changed, cut to a length.
 fn changed(
     alloc: Global,
@@ -212,6 +245,23 @@ fn cuts_of_it(rt: HostRuntime) -> Result<(), Fail> {
     for &(length, wanted) in CUTS {
         let found = refusal(alloc, &changed(alloc, WORKED, 0, b"".as_slice(), length)?);
         assert_eq!(rt; (found.0, found.1), wanted, "{length} bytes");
+    }
+    Ok(())
+}
+
+#[test]
+fn a_table_of_three_functions(rt: HostRuntime) -> Result<(), Fail> {
+    let alloc = rt.alloc();
+    let summary = Summary {
+        cies: 1,
+        frames: 3,
+        tables: 3,
+        sites: 6,
+    };
+    assert_eq!(rt; check_image(alloc, SHARED), Ok(summary));
+    for &(at, bytes, wanted) in CHANGES_SHARED {
+        let found = refusal(alloc, &changed(alloc, SHARED, at, bytes, SHARED.len())?);
+        assert_eq!(rt; (found.0, found.1), wanted, "{bytes:?} at {at}");
     }
     Ok(())
 }

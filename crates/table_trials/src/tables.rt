@@ -59,6 +59,14 @@ fn refusal_of(memory: &Segments, address: u64) -> Option<(u8, u64)> {
     }
 }
 
+// The same, where what was judged is kept.
+fn judged(alloc: Global, memory: &Segments, address: u64) -> Result<Option<(u8, u64)>, Fail> {
+    Ok(match Lsda::judged_at(alloc, memory, address, REGION)? {
+        Ok(_) => None,
+        Err(TableError { reason, place, .. }) => Some((reason.number(), place)),
+    })
+}
+
 // By hand from the Itanium C++ ABI's "Exception Handling Tables".
 #[test]
 fn worked_tables_with_their_lists(rt: HostRuntime) -> Result<(), Fail> {
@@ -174,8 +182,59 @@ fn changes_that_are_refused(rt: HostRuntime) -> Result<(), Fail> {
     for (table, changes, wanted) in cases {
         let changed = memory(alloc, table, changes)?;
         assert_eq!(rt; refusal_of(&changed, 0x2_0000), wanted);
+        assert_eq!(rt; judged(alloc, &changed, 0x2_0000)?, wanted);
     }
     let valid = memory(alloc, TWO_SITES, &[])?;
     assert_eq!(rt; refusal_of(&valid, 0x3_0000), Some((1, 0)));
+    Ok(())
+}
+
+// Records that several chains come to, and lists that several records name: the first of all refusals.
+#[test]
+fn parts_that_are_met_again(rt: HostRuntime) -> Result<(), Fail> {
+    let alloc = rt.alloc();
+    let cases: [(&[u8], &[(usize, u8)], Option<(u8, u64)>); 6] = [
+        // Sites name records 0, 2, 0 and 4 of one chain.
+        (
+            b"\xff\xff\x01\x10\0\x04\0\x01\x04\x04\0\x03\x08\x04\0\x01\x0c\x04\0\x05\0\x01\0\x01\0\0",
+            &[],
+            None,
+        ),
+        // Records 2 and 0 of one loop are named; it is refused at the first record of each chain.
+        (
+            b"\xff\xff\x01\x08\0\x04\0\x03\x04\x04\0\x01\0\x01\0\x7d",
+            &[],
+            Some((8, 0x100c)),
+        ),
+        // Behind a chain that ends, two sites name one that leads outside.
+        (
+            b"\xff\xff\x01\x0c\0\x04\0\x06\x04\x04\0\x03\x08\x04\0\x01\0\x01\0\xff\x03\0\0",
+            &[],
+            Some((7, 0x1008)),
+        ),
+        // Two records name the list 5, whose entry would begin before the action table: the one that stands first comes last in the chain.
+        (
+            b"\xff\x1b\x0a\x01\x04\0\x04\0\x03\x7f\0\x7f\x7d\x05\0",
+            &[],
+            Some((9, 0x1009)),
+        ),
+        // Lists that begin at the last byte of the segment and at the one before, where no 0 ends them.
+        (
+            b"\xff\x1b\x10\x01\x04\0\x04\0\x01\xd3\x7d\x01\xd4\x7d\0\0\0\0\0",
+            &[(0x13e, 1), (0x13f, 1)],
+            Some((14, 0x113e)),
+        ),
+        // The same with a 0 at the end.
+        (
+            b"\xff\x1b\x10\x01\x04\0\x04\0\x01\xd3\x7d\x01\xd4\x7d\0\0\0\0\0",
+            &[(0x13e, 1)],
+            None,
+        ),
+    ];
+    for (table, changes, wanted) in cases {
+        let changed = memory(alloc, table, changes)?;
+        assert_eq!(rt; refusal_of(&changed, 0x2_0000), wanted);
+        assert_eq!(rt; judged(alloc, &changed, 0x2_0000)?, wanted);
+    }
     Ok(())
 }

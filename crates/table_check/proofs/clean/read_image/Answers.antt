@@ -4,7 +4,7 @@ use Rattle.elf_image.specs.Reads.{image_seen}
 use Rattle.elf_image.specs.Clean.{judged}
 use Rattle.table_check.specs.Checks.{IsReported}
 use Rattle.table_check.proofs.Judged.{reports_elf, reports_frames}
-use Rattle.table_check.proofs.Whole.{memory_small, order_fits, order_few, reports_tables, reads_clean}
+use Rattle.table_check.proofs.Whole.{memory_small, order_fits, order_few, reports_counted, reads_clean}
 use Rattle.table_check.proofs.clean.read_image.Goals as goal
 
 pub returns-in_err-elf : goal.returns-in_err-elf
@@ -25,7 +25,7 @@ pub count_tables-requires-clause-small : goal.count_tables-requires-clause-small
 count_tables-requires-clause-small c = search (rules, memory_small)
 
 pub returns-in_err-counted : goal.returns-in_err-counted
-returns-in_err-counted c = search (rules, reports_tables)
+returns-in_err-counted c = search (rules, reports_counted)
 
 pub returns : goal.returns
 returns c = search (rules, reads_clean)

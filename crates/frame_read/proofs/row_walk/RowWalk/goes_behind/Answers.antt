@@ -1,4 +1,4 @@
-use Rattle.std.proofs.Common.{Some, subst}
+use Rattle.std.proofs.Common.{subst}
 use Rattle.std.specs.Prelude.{length}
 use Rattle.arrayvec.specs.ArrayVec.{array_vec_len}
 use Rattle.eh_bytes.specs.Memory.{part_of}
