@@ -11,6 +11,8 @@ mod layouts;
 #[cfg(test)]
 mod lowered;
 #[cfg(test)]
+mod names;
+#[cfg(test)]
 mod rows;
 #[cfg(test)]
 mod sizes;

@@ -2,6 +2,7 @@
 #![tactic(auto)]
 
 mod image;
+pub mod laws;
 
 pub use cxx_ast::NoMemory;
 pub use image::image_of;

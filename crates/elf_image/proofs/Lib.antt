@@ -10,6 +10,10 @@ mod LoadsWritten
 mod FoundWritten
 mod ImageHeaders
 mod ImageWritten
+mod BehindWritten
 pub mod Sizes
 pub mod Cleaned
 mod FramesStart
+pub mod Stays
+pub mod Longer
+pub mod LongerImage

@@ -11,4 +11,5 @@ pub mod Written
 pub mod CanWrite
 pub mod Stands
 pub mod Clean
+pub mod Behind
 pub mod Runnable

@@ -18,6 +18,7 @@ mod write;
 pub use eh_bytes::RuntimeRecord;
 pub use elf::{Elf, read_elf};
 pub use error::ImageError;
+pub use put::put_words;
 pub use start::frames_start;
 pub use std::alloc::AllocError as NoMemory;
 pub use write::{ImageParts, write_elf};

@@ -20,7 +20,8 @@ static SIZES: [u8; 8] = [0, 0, 0, 0, 64, 0, 56, 0];
 
 static NO_SECTIONS: [u8; 6] = [0, 0, 0, 0, 0, 0];
 
-fn put_words(out: &mut Vec<u8>, numbers: &[u64]) -> Result<(), AllocError>
+/// Appends words, low bytes first.
+pub fn put_words(out: &mut Vec<u8>, numbers: &[u64]) -> Result<(), AllocError>
     ensures { OnOk result (out.new.items ≡ out.old.items ++ words numbers.now) }
 {
     let mut rest = numbers;

@@ -3,6 +3,7 @@ ghost use Rattle.std.specs.Prelude.{◌≡◌, true, false, IfOk, OnOk};
 ghost use Rattle.elf_image.specs.Written.{front_bytes, image_bytes};
 ghost use Rattle.elf_image.specs.CanWrite.{CanWriteImage, CanRunImage, NumbersFit};
 ghost use Rattle.elf_image.specs.Stands.{contents_of, WritesImage};
+ghost use Rattle.elf_image.specs.Behind.{StandBehind};
 
 use crate::NoMemory;
 use crate::laid::headers_for;
@@ -39,11 +40,13 @@ fn front_of(alloc: Global, parts: &ImageParts) -> Result<Vec<u8>, NoMemory>
 ///
 /// Of 1 to 60 segments in rising order of address, of at most 1 GiB in all, one has the frames'
 /// header, and one that is executable the terminate stub, which is a multiple of 4: then
-/// `read_elf` refuses nothing of the file, and reads these parts.
+/// `read_elf` refuses nothing of the file, and reads these parts; and all that its program headers
+/// name stands behind the header of the file.
 #[tactic(auto, unfolding(crate::specs::Written::image_bytes))]
 pub fn write_elf(alloc: Global, parts: &ImageParts) -> Result<Vec<u8>, NoMemory>
     ensures bytes { IfOk result (λ bytes. bytes.items ≡ image_bytes (contents_of parts.now)) }
     ensures stands { OnOk result (CanWriteImage (contents_of parts.now) → WritesImage (contents_of parts.now) false (image_bytes (contents_of parts.now))) }
+    ensures behind { OnOk result (CanWriteImage (contents_of parts.now) → StandBehind (image_bytes (contents_of parts.now))) }
     ensures runs { OnOk result (CanWriteImage (contents_of parts.now) → CanRunImage (contents_of parts.now) → WritesImage (contents_of parts.now) true (image_bytes (contents_of parts.now))) }
 {
     let mut bytes = front_of(alloc, parts)?;

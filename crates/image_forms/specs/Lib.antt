@@ -5,3 +5,4 @@ pub mod Records
 pub mod Tables
 pub mod Linked
 pub mod Linkable
+pub mod Symbols

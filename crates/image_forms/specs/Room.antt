@@ -1,5 +1,5 @@
 -- How many bytes of an image a unit takes. No length depends on an address, so they are those at address 0.
-use Rattle.std.specs.Prelude.{ℕ, ◌+◌, ◌*◌, ◌/◌, true, List, length, sum_by, take}
+use Rattle.std.specs.Prelude.{ℕ, ◌+◌, ◌*◌, ◌/◌, nat_le, true, List, length, sum_by, take, if◌then◌else◌}
 use Rattle.eh_bytes.specs.declared.frames.FrameMove.{FrameMove}
 use Rattle.eh_bytes.specs.declared.unit.TypeRow.{TypeRow}
 use Rattle.eh_bytes.specs.Listed.{ListedTable, ListedFunction, ListedUnit}
@@ -25,6 +25,18 @@ kept_name t = take 255 t.name
 -- a record of three words, and a name with a zero behind it
 abbrev pub type_room : TypeRow → ℕ
 type_room t = 24 + length (kept_name t) + 1
+
+-- a symbol has an entry of 24 bytes, and a name of at most 96 bytes with a zero behind it
+abbrev pub symbol_room : ℕ
+symbol_room = 24 + 97
+
+-- the symbol of a type's record has a longer name than the type
+abbrev pub type_symbol_room : TypeRow → ℕ
+type_symbol_room t = if nat_le (length t.name) 96 then symbol_room else 0
+
+-- what the symbols of functions, globals and types take at most
+abbrev pub symbols_room : ListedUnit → ℕ
+symbols_room u = symbol_room * (length u.functions + length u.globals) + sum_by type_symbol_room u.types
 
 abbrev pub unit_room : ListedUnit → ℕ
 unit_room u = 4 * length u.code + sum_by function_room u.functions + sum_by type_room u.types + 4 * length u.globals

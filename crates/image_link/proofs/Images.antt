@@ -1,8 +1,6 @@
 -- The bounds of linked images.
 use Rattle.std.proofs.Common.{◌≡◌, ◌≤◌, ℕ, ◌+◌, ◌*◌, [], ◌∷◌, ◌++◌, length, length-append, refl, sym, subst, arith}
-use Rattle.std.specs.Prelude.{flat_map, sum_by, replicate, Result, Ok, Err, IfOk, OnOk}
-use Rattle.std.specs.declared.vec.Vec.{Vec}
-use Rattle.std.specs.declared.alloc.Global.{Global}
+use Rattle.std.specs.Prelude.{flat_map, sum_by, replicate}
 use Rattle.std.proofs.lemmas.List.{length-replicate}
 use Rattle.std.proofs.lemmas.List.Sums.{sum_by-cons, sum_by-append}
 use Rattle.eh_bytes.specs.Listed.{ListedUnit}
@@ -16,7 +14,7 @@ use Rattle.elf_image.specs.Laid.{padding, place_for, headers_for}
 use Rattle.elf_image.specs.Written.{file_header, program_bytes, record_bytes, front_bytes, segments_from, image_bytes}
 use Rattle.machine_forms.specs.Emitted.{emitted_stubs}
 use Rattle.image_forms.specs.Placed.{code_at, unit_at, all_code, names_at, placed_from, all_functions}
-use Rattle.image_forms.specs.Room.{function_room}
+use Rattle.image_forms.specs.Room.{function_room, symbols_room}
 use Rattle.image_forms.specs.Records.{names_bytes}
 use Rattle.image_forms.specs.Tables.{header_rows}
 use Rattle.image_forms.specs.Linked.{unit_names, tables_at, unit_tables, unit_frames, frames_at, frames_written, header_at, header_written, constant_bytes, contents_for, linked}
@@ -94,9 +92,10 @@ stub_words = refl
 words : (u : ListedUnit) → IsLinkable u → length (all_code u) ≤ 128 * u.tokens + 4096
 words u can = omega (arith, length-append emitted_stubs.code u.code, stub_words, can.words)
 
-pub few_bytes : (u : ListedUnit) → IsLinkable u → length (linked u) ≤ 768 * u.tokens + 131072
+-- with its symbols, an image leaves room for sections
+pub room_left : (u : ListedUnit) → IsLinkable u → length (linked u) + symbols_room u ≤ 768 * u.tokens + 90000
 unfolding linked image_bytes
-few_bytes u can =
+room_left u can =
     let c = contents_for u in
     omega (
       arith,
@@ -114,15 +113,15 @@ few_bytes u can =
       can.room,
     )
 
-pub few_of : {E : Type 0} (u : ListedUnit) (r : Result (Vec ℕ Global) E) → IfOk r (λ file. file.items ≡ linked u) → IsLinkable u →
-    IfOk r (λ file. length file.items ≤ 768 * u.tokens + 131072)
-few_of u (Ok file) is can = subst (λ bytes. length bytes ≤ 768 * u.tokens + 131072) (sym is) (few_bytes u can)
-few_of u (Err e) is can = tt
+pub few_bytes : (u : ListedUnit) → IsLinkable u → length (linked u) ≤ 768 * u.tokens + 131072
+few_bytes u can = omega (arith, room_left u can)
 
--- what holds of every answer holds of a good one
-pub lists_of : {A E : Type 0} (r : Result A E) (fact : Type 0) → fact → OnOk r fact
-lists_of (Ok x) fact holds = holds
-lists_of (Err e) fact holds = tt
+-- an image is longer than the header of its file
+pub long_enough : (u : ListedUnit) → 64 ≤ length (linked u)
+unfolding linked image_bytes
+long_enough u =
+    let c = contents_for u in
+    omega (arith, length-append (front_bytes c) (segments_from (length (front_bytes c)) c.memory), front_length u)
 
 pub images_are_small : ImagesAreSmall
 images_are_small = record { words = words; bytes = few_bytes }

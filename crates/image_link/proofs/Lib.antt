@@ -13,3 +13,5 @@ pub mod ReadMemory
 pub mod ReadFrames
 pub mod ReadTables
 pub mod Runs
+mod NamedRuns
+mod NamedSizes

@@ -204,9 +204,3 @@ runs_unit u file can lists writes = subst (λ r. IsOkAnd r (UnitStands u)) (sym 
     by : (r : Result Image Fault) → IsOkAnd r (ImageStands (contents_for u)) → IsOkAnd (may_run (of_image r)) (UnitStands u)
     by (Err e) image = absurd image
     by (Ok i) image = image_runs u i can lists image
-
--- what `link` answers with
-pub runs_of : {E : Type 0} (u : ListedUnit) (r : Result (Vec ℕ Global) E) → IfOk r (λ file. file.items ≡ linked u) →
-    (IsLinkable u → OnOk r (WritesImage (contents_for u) true (linked u))) → (IsLinkable u → OnOk r (ListsStand u)) → IsLinkable u → IfOk r (λ file. RunsUnit u file.items)
-runs_of u (Ok file) is writes lists can = subst (RunsUnit u) (sym is) (runs_unit u (linked u) can (lists can) (writes can))
-runs_of u (Err e) is writes lists can = tt

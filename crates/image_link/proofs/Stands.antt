@@ -136,7 +136,8 @@ can_run u can =
     }
 
 -- what holds of contents that can be written and run
-pub stands_of : {A E : Type 0} (u : ListedUnit) (r : Result A E) (image : Type 0) →
-    OnOk r (CanWriteImage (contents_for u) → CanRunImage (contents_for u) → image) → IsLinkable u → OnOk r image
-stands_of u (Ok x) image is can = is (can_write u can) (can_run u can)
-stands_of u (Err e) image is can = tt
+pub writes_of : (u : ListedUnit) (image : Type 0) → (CanWriteImage (contents_for u) → CanRunImage (contents_for u) → image) → IsLinkable u → image
+writes_of u image is can = is (can_write u can) (can_run u can)
+
+pub behind_of : (u : ListedUnit) (fact : Type 0) → (CanWriteImage (contents_for u) → fact) → IsLinkable u → fact
+behind_of u fact is can = is (can_write u can)

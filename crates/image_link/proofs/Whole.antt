@@ -1,5 +1,5 @@
 -- The parts of an image put together.
-use Rattle.std.proofs.Common.{◌≡◌, ◌≤◌, ℕ, ◌+◌, ◌*◌, true, false, List, [], ◌∷◌, ◌++◌, length, length-append, sym, ◌∙◌, ap, arith}
+use Rattle.std.proofs.Common.{◌≡◌, ◌≤◌, ℕ, ◌+◌, ◌-◌, ◌*◌, true, false, List, [], ◌∷◌, ◌++◌, length, length-append, sym, ◌∙◌, ap, arith}
 use Rattle.std.specs.Prelude.{flat_map}
 use Rattle.std.specs.Int.{w32, to_le_bytes}
 use Rattle.std.proofs.lemmas.List.{append_assoc}
@@ -15,7 +15,10 @@ use Rattle.machine_forms.specs.Emitted.{emitted_stubs}
 use Rattle.image_forms.specs.Placed.{page_from, globals_at, records_at, code_at, unit_at, all_code, names_at, record_at, placed_from}
 use Rattle.image_forms.specs.Records.{names_bytes, records_bytes, globals_bytes}
 use Rattle.image_forms.specs.Tables.{filled, tables_bytes, linked_frames, with_tables, header_rows}
-use Rattle.image_forms.specs.Linked.{unit_names, tables_at, unit_tables, unit_frames, frames_at, header_at, constant_bytes, part_at, memory_for, contents_for}
+use Rattle.elf_sections.specs.declared.section.Span.{Span}
+use Rattle.elf_sections.specs.declared.section.Places.{Places}
+use Rattle.image_forms.specs.Linked.{unit_names, tables_at, unit_tables, unit_frames, frames_at, frames_written, header_at, header_written, constant_bytes, part_at, memory_for, contents_for}
+use Rattle.image_forms.specs.Symbols.{span, places_for}
 use Rattle.image_link.specs.Standing.{framed_bytes}
 use Rattle.image_link.proofs.Bounds.{code_length, globals_length, records_length}
 use Rattle.image_link.proofs.Joined.{tables_joined, frames_joined}
@@ -152,3 +155,32 @@ contents_same u entry header terminate bad memory ee em eh et eb =
     ∙ (ap (λ x. contents (code_at u) (memory_for u) x terminate bad) eh
     ∙ (ap (λ x. contents (code_at u) (memory_for u) (header_at u) x bad) et
     ∙ ap (λ x. contents (code_at u) (memory_for u) (header_at u) (code_at u + 4 * stub_first terminating) x) eb)))
+
+-- the code behind the runtime's own functions
+pub unit_end : (u : ListedUnit) → unit_at u + 4 * length u.code ≡ code_at u + 4 * length (all_code u)
+unit_end u = omega (arith, length-append emitted_stubs.code u.code)
+
+abbrev places : (a b c d e f g : Span) → Places
+places a b c d e f g = record { globals = a; type_records = b; code = c; type_names = d; exception_tables = e; frames = f; frame_header = g }
+
+-- the parts of an image that have sections
+pub places_same : (u : ListedUnit) (g r c e n t f h last : ℕ) → g ≡ globals_at u → r ≡ records_at u → c ≡ code_at u → e ≡ code_at u + 4 * length (all_code u) → n ≡ names_at u →
+    t ≡ tables_at u → f ≡ frames_at u → h ≡ header_at u → last ≡ names_at u + length (constant_bytes u) →
+    places (span g (r - g)) (span r (c - r)) (span c (e - c)) (span n (t - n)) (span t (f - t)) (span f (h - f)) (span h (last - h)) ≡ places_for u
+places_same u g r c e n t f h last eg er ec ee en et ef eh el =
+    let room : 4 * length u.globals ≤ page_from (4 * length u.globals) = omega arith in
+    let whole : length (constant_bytes u) ≡ length (unit_names u) + length (unit_tables u) + length (frames_written u) + length (header_written u) =
+    omega (
+      arith,
+      length-append (unit_names u ++ unit_tables u ++ frames_written u) (header_written u),
+      length-append (unit_names u ++ unit_tables u) (frames_written u),
+      length-append (unit_names u) (unit_tables u),
+    ) in
+    let s1 : r - g ≡ 4 * length u.globals = omega (arith, eg, er, room) in
+    let s2 : c - r ≡ 24 * length u.types = omega (arith, er, ec) in
+    let s3 : e - c ≡ 4 * length (all_code u) = omega (arith, ec, ee) in
+    let s4 : t - n ≡ length (unit_names u) = omega (arith, en, et) in
+    let s5 : f - t ≡ length (unit_tables u) = omega (arith, et, ef) in
+    let s6 : h - f ≡ length (frames_written u) = omega (arith, ef, eh) in
+    let s7 : last - h ≡ length (header_written u) = omega (arith, eh, el, whole) in
+    cc

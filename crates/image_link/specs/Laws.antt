@@ -8,11 +8,17 @@ use Rattle.image_forms.specs.Placed.{code_at, all_code, PlacedFunction, all_func
 use Rattle.image_forms.specs.Tables.{linked_table, placed_table, with_tables, header_rows}
 use Rattle.image_forms.specs.Linked.{tables_at, unit_frames, frames_at, header_at, linked}
 use Rattle.image_forms.specs.Linkable.{IsLinkable}
+use Rattle.image_forms.specs.Symbols.{Names, named}
+use Rattle.image_link.specs.Names.{AreShort}
 
 -- The words and bytes of an image are few for its source.
 pub record ImagesAreSmall : Type 0 where
   pub words : (u : ListedUnit) → IsLinkable u → length (all_code u) ≤ 128 * u.tokens + 4096
   pub bytes : (u : ListedUnit) → IsLinkable u → length (linked u) ≤ 768 * u.tokens + 131072
+
+-- So are those of an image with sections and symbols.
+abbrev pub NamedImagesAreSmall : Type 0
+NamedImagesAreSmall = (names : Names) (u : ListedUnit) → IsLinkable u → AreShort names u → length (named names u) ≤ 768 * u.tokens + 131072
 
 -- the tables of functions can be written from an address on, where records end at another
 abbrev pub TablesCanBeWritten : (end address : ℕ) → List PlacedFunction → Type 0

@@ -1,4 +1,5 @@
 pub mod Laid
+pub mod Names
 pub mod Laws
 pub mod Standing
 pub mod Runs

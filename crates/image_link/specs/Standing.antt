@@ -50,8 +50,10 @@ pub record ListsStand (u : ListedUnit) : Type 0 where
   pub frames : WritesFrames (with_tables (unit_frames u)) (frames_at u) (frames_written u)
   pub header : WritesHeader (header_rows (frames_at u) (unit_frames u)) (frames_at u) (header_at u) (header_written u)
 
--- names, tables, frames and their header, which stands at an address, are those of a unit
-pub record AreConstants (u : ListedUnit) (header : ℕ) (bytes : List ℕ) : Type 0 where
+-- names, tables, frames and their header, of which the last three stand at addresses, are those of a unit
+pub record AreConstants (u : ListedUnit) (tables frames header : ℕ) (bytes : List ℕ) : Type 0 where
+  pub tables_place : tables ≡ tables_at u
+  pub frames_place : frames ≡ frames_at u
   pub place : header ≡ header_at u
   pub content : bytes ≡ constant_bytes u
   pub stand : IsLinkable u → ListsStand u

@@ -27,8 +27,8 @@ fn page_from(n: u64) -> u64
     (n + PAGE - 1) / PAGE * PAGE
 }
 
-// A number of items as one of 32 bits; for more of them memory is wanting.
-fn count(items: usize) -> Result<u64, NoMemory>
+/// A number of items as one of 32 bits; for more of them memory is wanting.
+pub fn count(items: usize) -> Result<u64, NoMemory>
     ensures same { IfOk result (λ n. n ≡ items) }
     ensures few { IfOk result (λ n. n < 2 ^ 32) }
 {

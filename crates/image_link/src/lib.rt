@@ -7,8 +7,11 @@ mod laid;
 pub mod laws;
 mod layout;
 mod memory;
+mod named;
 mod records;
+mod symbols;
 mod tables;
 
 pub use image::link;
+pub use named::link_named;
 pub use std::alloc::AllocError as NoMemory;

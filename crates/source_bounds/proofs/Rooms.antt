@@ -17,7 +17,7 @@ use Rattle.landing_pads.specs.Laws.{AllTablesAreShort}
 use Rattle.landing_pads.specs.Size.{longest}
 use Rattle.machine_forms.specs.Emitted.{function_routine, shape_of}
 use Rattle.machine_forms.specs.Routine.{listed_routine, listed_site, routine_table, routine_words}
-use Rattle.image_forms.specs.Room.{function_room}
+use Rattle.image_forms.specs.Room.{function_room, symbol_room}
 use Rattle.rv64_emit.specs.Laws.{SiteIsInside, TableIsGood}
 use Rattle.source_bounds.specs.TableWeights.{guards_in, chain_weight}
 use Rattle.source_bounds.proofs.Bytes.{uleb_two, IsSmall, chain_short, IsNearSite, table_short}
@@ -94,9 +94,9 @@ chains_short t most (c ∷ cs) h k good short =
       chains_short t most cs h k good.1 short.1,
     )
 
--- a function whose body is not too large takes no more
+-- a function whose body is not too large takes no more, with its symbol
 pub function_room_short : AllTablesAreShort → (first : ℕ) (f : RegionFunction) → IsRoomy f → TableIsGood (listed_routine first (function_routine (function_code f))) →
-    function_room (listed_routine first (function_routine (function_code f))) ≤ most_room f
+    function_room (listed_routine first (function_routine (function_code f))) + symbol_room ≤ most_room f
 function_room_short tables first f roomy good =
     let g = function_code f in
     let r = function_routine g in

@@ -8,7 +8,7 @@ use Rattle.machine_forms.specs.Bounds.{IsBounded}
 use Rattle.machine_forms.specs.Emitted.{emitted_of}
 use Rattle.image_forms.specs.Function.{FunctionFits, StandInRow}
 use Rattle.image_forms.specs.Linkable.{BaseIsThere, IsLinkable}
-use Rattle.image_forms.specs.Room.{unit_room}
+use Rattle.image_forms.specs.Room.{unit_room, symbols_room}
 use Rattle.source_bounds.specs.Compiled.{unit_for, emitted_for}
 
 -- a unit has the tokens of its source, and that has at most so many
@@ -35,9 +35,9 @@ FunctionsFit = (p : Checked) → IsChecked p → AllByRecursion (FunctionFits (l
 abbrev pub UnitsAreBounded : Type 0
 UnitsAreBounded = (p : Checked) → IsChecked p → IsBounded (unit_for p)
 
--- a unit takes few bytes of an image
+-- a unit takes few bytes of an image, with its symbols
 abbrev pub RoomIsSmall : Type 0
-RoomIsSmall = (p : Checked) → IsChecked p → unit_room (emitted_for p) ≤ 768 * (emitted_for p).tokens + 65536
+RoomIsSmall = (p : Checked) → IsChecked p → unit_room (emitted_for p) + symbols_room (emitted_for p) ≤ 768 * (emitted_for p).tokens + 65536
 
 -- so a linker has all that it needs for a clean and runnable image
 abbrev pub CheckedIsLinkable : Type 0

@@ -3,6 +3,7 @@ use Rattle.elf_image.specs.Written.{image_bytes}
 use Rattle.elf_image.specs.CanWrite.{NumbersFit}
 use Rattle.elf_image.specs.Stands.{contents_of}
 use Rattle.elf_image.proofs.ImageWritten.{IsSpread, spread_of, writes_image, writes_to_run}
+use Rattle.elf_image.proofs.BehindWritten.{stand_behind}
 use Rattle.elf_image.proofs.write.write_elf.Goals as goal
 
 fit : (c : goal.In_ok-put_segments) → NumbersFit (contents_of c.args.parts.now)
@@ -23,3 +24,6 @@ returns-clause-stands c = writes_image (contents_of c.args.parts.now) (fit c) (s
 
 pub returns-clause-runs : goal.returns-clause-runs
 returns-clause-runs c = writes_to_run (contents_of c.args.parts.now) (fit c) (spread c) (short c)
+
+pub returns-clause-behind : goal.returns-clause-behind
+returns-clause-behind c can = stand_behind (contents_of c.args.parts.now) (fit c) can (short c)

@@ -1,10 +1,10 @@
-use Rattle.std.proofs.Common.{rules, ◌≡◌, ◌-◌, ◌%◌, ◌++◌, length, map, ◌∙◌, ap}
+use Rattle.std.proofs.Common.{rules, ◌≡◌, ◌+◌, ◌-◌, ◌%◌, ◌++◌, length, map, ◌∙◌, ap}
 use Rattle.std.specs.Prelude.{replicate}
 use Rattle.eh_bytes.specs.Listed.{listed_function, listed_frame, listed_unit}
 use Rattle.machine_forms.specs.Emitted.{emitted_stubs}
 use Rattle.image_forms.specs.Records.{names_bytes}
 use Rattle.image_link.proofs.Lists.{lists_stand}
-use Rattle.image_link.proofs.Whole.{Puts, put_whole, constants_whole}
+use Rattle.image_link.proofs.Whole.{Puts, begins, put_whole, constants_whole}
 use Rattle.image_link.proofs.image.constants_of.Goals as goal
 
 pub returns : goal.returns
@@ -33,6 +33,8 @@ returns c =
     let whole = constants_whole u second after c.put_frames.new.out.items c.in_ok-header.header put
     (rw laid.names at c.in_ok-header.ensures.header) (rw laid.names at c.in_ok-header.ensures.bytes) in
     record {
+      tables_place = c.in_ok-tables.ensures ∙ ap (λ a. a + length c.fill.new.out.items) laid.names ∙ (begins u named c.fill.new.out.items c.put_tables.new.out.items second (map listed_frame c.put_tables.new.fdes.items) after puts).start;
+      frames_place = c.in_ok-frames.ensures ∙ ap (λ a. a + length second) laid.names ∙ put.end;
       place = whole.0;
       content = whole.1;
       stand = lists_stand u named c.fill.new.out.items c.put_tables.new.out.items second (map listed_frame c.put_tables.new.fdes.items) after c.in_ok-header.header puts whole.0

@@ -1,0 +1,4 @@
+pub mod Section
+pub mod Symbol
+pub mod Written
+pub mod Laws
