@@ -30,7 +30,7 @@ COMMANDS = [
     ["compile", "SRC", "NEW"], ["compile", "SRC", "OLD"], ["compile", "WRONG", "OLD"], ["exec", "ONE"], ["exec", "IMG", "--in=IN", "--count"],
     ["run", "SRC"], ["run", "THROWS", "--trace"], ["run", "RAISES", "--in=IN", "--foreign=r7,v5*3", "--foreign=v1", "--trace"],
     ["mean", "DEEP"], ["mean", "THROWS", "--trace"], ["check", "V1"], ["dump", "V1"], ["check", "CUT"], ["frames", "BOTH"], ["frames", "DIFFERS"],
-    ["gen", "1"], ["harts", "IMG", "SCHED", "--in=IN", "--in=SRC"], ["exec", "NONE"], ["run"],
+    ["pack", "LONG", "NEW"], ["pack", "LONG", "OLD"], ["pack", "CUT", "OLD"], ["gen", "1"], ["harts", "IMG", "SCHED", "--in=IN", "--in=SRC"], ["exec", "NONE"], ["run"],
 ]
 TEXTS = {4: b"ehc: read fault: ", 5: b"ehc: write fault\n", 6: b"ehc: no memory\n"}
 
@@ -70,7 +70,9 @@ def is_fit(kind, words, seen, whole, files):
     # what `dump` holds back is tried once more at its end, and may then come whole
     begins = whole.out.startswith(seen.out) and (seen.out != whole.out or not whole.out or words[0] == "dump")
     fits = begins if seen.status == 5 else seen.out == b""
-    return fits and seen.files == files and seen.err.startswith(TEXTS.get(seen.status, b"\0"))
+    # `pack` stores first: where its line was refused, the image stays stored
+    is_kept = seen.files == files or (words[0] == "pack" and seen.status == 5 and seen.files == whole.files)
+    return fits and is_kept and seen.err.startswith(TEXTS.get(seen.status, b"\0"))
 
 
 def given():
@@ -78,7 +80,7 @@ def given():
     files = dict(SOURCES, OLD=b"an image that was there")
     for source, image in [("SRC", "ONE"), ("THROWS", "IMG")]:
         files[image] = Answer(["compile", source, image], files).files[image]
-    for name, example in [("V1", "one_frame.elf"), ("BOTH", "both_forms.elf"), ("DIFFERS", "both_forms_differ.elf")]:
+    for name, example in [("V1", "one_frame.elf"), ("BOTH", "both_forms.elf"), ("DIFFERS", "both_forms_differ.elf"), ("LONG", "long_table.elf")]:
         files[name] = (TOP / "examples" / example).read_bytes()
     files["CUT"] = files["V1"][:303]
     return files

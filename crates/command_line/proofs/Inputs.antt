@@ -3,7 +3,7 @@ use Rattle.std.proofs.Common.{◌≡◌, ◌≤◌, arith, refl, subst, ℕ, Boo
 use Rattle.std.specs.Prelude.{◌&&◌, nat_le, if◌then◌else◌}
 use Rattle.std.proofs.lemmas.Bool.Decides.{nat_tests}
 use Rattle.command_line.specs.declared.command.Verb.{Verb}
-use Rattle.command_line.specs.declared.command.Verb.TheVariants.{Compile, Run, Exec, Harts, Mean, Check, Dump, Frames, Gen}
+use Rattle.command_line.specs.declared.command.Verb.TheVariants.{Compile, Run, Exec, Harts, Mean, Check, Dump, Frames, Pack, Gen}
 use Rattle.command_line.specs.Command.{AreHarts, CommandView, FoundView, are_named, operands_for, inputs_for, max_of, std_of, switch_of, scripts_of, found_in, command_from, verb_of, settings_of, operand_count, command_of}
 use Rattle.command_line.specs.Pieces.{pieces_of}
 use Rattle.command_line.proofs.Turns.{behind, made}
@@ -30,6 +30,7 @@ counted Mean names inputs e = tt
 counted Check names inputs e = tt
 counted Dump names inputs e = tt
 counted Frames names inputs e = tt
+counted Pack names inputs e = tt
 counted Gen names inputs e = tt
 
 abbrev HasHarts : CommandView → Type 0

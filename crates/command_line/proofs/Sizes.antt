@@ -4,7 +4,7 @@ use Rattle.std.specs.Prelude.{◌==◌, ◌&&◌, not, ⊤, if◌then◌else◌}
 use Rattle.std.specs.List.{list_all}
 use Rattle.std.proofs.lemmas.Bool.Decides.{nat_tests}
 use Rattle.command_line.specs.declared.command.Verb.{Verb}
-use Rattle.command_line.specs.declared.command.Verb.TheVariants.{Compile, Run, Exec, Harts, Mean, Check, Dump, Frames, Gen}
+use Rattle.command_line.specs.declared.command.Verb.TheVariants.{Compile, Run, Exec, Harts, Mean, Check, Dump, Frames, Pack, Gen}
 use Rattle.command_line.specs.Command.{CommandView, FoundView, exactly, is_size, source_size, greatest_size, are_named, operands_for, inputs_for, max_of, std_of, switch_of, scripts_of, found_in, command_from, verb_of, settings_of, operand_count, command_of}
 use Rattle.plain_text.specs.Decimal.{number_of, not_zero}
 use Rattle.command_line.specs.Pieces.{pieces_of}
@@ -53,6 +53,7 @@ sized Mean names operands e = tt
 sized Check names operands e = tt
 sized Dump names operands e = tt
 sized Frames names operands e = tt
+sized Pack names operands e = tt
 
 abbrev IsSized : CommandView → Type 0
 IsSized c = AreSized c.verb c.operands

@@ -7,7 +7,7 @@ use Rattle.cxx_ast.specs.declared.standard.Std.TheVariants.{Cxx03, Cxx11}
 use Rattle.eh_outer.specs.declared.module.Reply.{Reply}
 use Rattle.command_line.specs.declared.command.Command.{Command}
 use Rattle.command_line.specs.declared.command.Verb.{Verb}
-use Rattle.command_line.specs.declared.command.Verb.TheVariants.{Compile, Run, Exec, Harts, Mean, Check, Dump, Frames, Gen}
+use Rattle.command_line.specs.declared.command.Verb.TheVariants.{Compile, Run, Exec, Harts, Mean, Check, Dump, Frames, Pack, Gen}
 use Rattle.command_line.specs.declared.setting.Setting.{Setting}
 use Rattle.command_line.specs.declared.setting.Setting.TheVariants.{Input, Max, Trace, Count, Standard, Foreign}
 use Rattle.plain_text.specs.Decimal.{count_up_to}
@@ -185,6 +185,7 @@ verb_of word =
     else if bytes_eq word (codes "check") then Some Check
     else if bytes_eq word (codes "dump") then Some Dump
     else if bytes_eq word (codes "frames") then Some Frames
+    else if bytes_eq word (codes "pack") then Some Pack
     else if bytes_eq word (codes "gen") then Some Gen
     else None
 
@@ -201,6 +202,7 @@ settings_of verb = []
 abbrev pub operand_count : Verb → ℕ
 operand_count Compile = 2
 operand_count Harts = 2
+operand_count Pack = 2
 operand_count verb = 1
 
 -- the command that words are, if they are one

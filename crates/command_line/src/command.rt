@@ -23,6 +23,8 @@ pub enum Verb {
     Dump,
     /// Compare both forms of the frames of an image.
     Frames,
+    /// Make the exception tables of an image shorter, and store what comes of it.
+    Pack,
     /// Generate a source of a size, compile it, and count what its run does.
     Gen,
 }

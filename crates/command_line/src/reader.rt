@@ -72,6 +72,10 @@ impl Verb {
                 settings: &[],
                 operands: 1,
             },
+            Verb::Pack => Takes {
+                settings: &[],
+                operands: 2,
+            },
         }
     }
 }
@@ -89,6 +93,7 @@ fn verb_of(word: &str) -> Option<Verb>
         "check" => Some(Verb::Check),
         "dump" => Some(Verb::Dump),
         "frames" => Some(Verb::Frames),
+        "pack" => Some(Verb::Pack),
         "gen" => Some(Verb::Gen),
         _ => None,
     }

@@ -24,3 +24,5 @@ mod mean_rows;
 mod meanings;
 #[cfg(test)]
 mod outside;
+#[cfg(test)]
+mod pack;

@@ -1,7 +1,7 @@
 -- What is known of the files that were read, or not.
 use Rattle.std.proofs.Common.{◌≡◌, ◌≤◌, ℕ, List, length, Option, Some, None, IfSome, inl, inr, subst, arith}
 use Rattle.std.specs.Prelude.{◌<◌, ⊤, IsSomeAnd}
-use Rattle.std.specs.FinMap.{get}
+use Rattle.std.specs.FinMap.{get, insert}
 use Rattle.eh_outer.specs.Store.{Files, StoreView, Refuses}
 use Rattle.eh_outer.specs.declared.store.RefusalKind.{RefusalKind}
 use Rattle.eh_commands.specs.declared.status.Status.{Status}
@@ -31,6 +31,11 @@ input_since (Some name) old mid input same is = (is.0, subst (λ f. IfSome f (λ
 -- and what it refuses behind them, it refuses since before
 pub refused_since : (kind : RefusalKind) (name : List ℕ) (old mid new : StoreView) → old.faults ≤ mid.faults → Refuses mid new kind name → Refuses old new kind name
 refused_since kind name old mid new later why = record { rose = (let rose = why.rose in omega (arith, later, rose)); last = why.last }
+
+-- what is stored then is stored since before
+pub stored_since : (name bytes : List ℕ) (before mid after : Option Files) → mid ≡ before → IfSome mid (λ files. after ≡ Some (insert files name bytes)) →
+    IfSome before (λ files. after ≡ Some (insert files name bytes))
+stored_since name bytes before mid after same h = subst (λ f. IfSome f (λ files. after ≡ Some (insert files name bytes))) same h
 
 pub unread_since : (limit : ℕ) (name : List ℕ) (old mid new : StoreView) → old.faults ≤ mid.faults → mid.files ≡ old.files → (status : Status) → Unread limit name mid new status → Unread limit name old new status
 unread_since limit name old mid new later same ReadFault why = refused_since _ name old mid new later why

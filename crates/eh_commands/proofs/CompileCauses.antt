@@ -1,6 +1,6 @@
 -- From what the parts of `compile` say to the cause of a status.
-use Rattle.std.proofs.Common.{◌≡◌, ◌≤◌, ◌∙◌, ℕ, List, length, Option, Some, IfSome, Ok, Err, refl, ap, subst}
-use Rattle.std.specs.FinMap.{get, insert}
+use Rattle.std.proofs.Common.{◌≡◌, ◌≤◌, ◌∙◌, ℕ, List, length, Some, IfSome, Ok, Err, refl, ap, subst}
+use Rattle.std.specs.FinMap.{get}
 use Rattle.cxx_ast.specs.declared.program.Checked.{Checked as CheckedValue}
 use Rattle.cxx_ast.specs.declared.standard.Std.{Std}
 use Rattle.cxx_ast.specs.Checked.{IsChecked}
@@ -12,13 +12,13 @@ use Rattle.cxx_front.specs.declared.error.SourceError.TheVariants as errors
 use Rattle.cxx_image.specs.Image.{image_for}
 use Rattle.source_bounds.specs.Compiled.{emitted_for}
 use Rattle.image_link.specs.Runs.{RunsUnit}
-use Rattle.eh_outer.specs.Store.{Files, StoreView}
+use Rattle.eh_outer.specs.Store.{StoreView}
 use Rattle.eh_commands.specs.declared.status.Status.{Status}
 use Rattle.eh_commands.specs.declared.status.Status.TheVariants.{Done, Usage, SourceRefused, ImageRefused, ScheduleRefused, ReadFault, TooLong, WriteFault, NoMemory, Aborted, Budget, Stack, MachineFault, Undefined, Differs}
 use Rattle.eh_commands.specs.Answer.{status_of_refusal}
 use Rattle.eh_commands.specs.File.{Asked, NamesRefusal, Unread, source_limit}
 use Rattle.eh_commands.specs.Compile.{CompilesTo, ImageStored, SourceCompiles, CompileCause}
-use Rattle.eh_commands.proofs.Causes.{told_from, refused_since}
+use Rattle.eh_commands.proofs.Causes.{told_from, refused_since, stored_since}
 
 -- what the front end answers for a source is checked
 pub is_checked : (std : Std) (source : List ℕ) (c : CheckedValue) → FrontAnswers std source (Ok c) → IsChecked (checked_of c)
@@ -95,11 +95,6 @@ unread_compiles a old new (MachineFault kind place) why same = absurd why
 unread_compiles a old new (ScheduleRefused number place) why same = absurd why
 unread_compiles a old new Undefined why same = absurd why
 unread_compiles a old new Differs why same = absurd why
-
--- the store between reading and writing tells the files of before
-stored_since : (name bytes : List ℕ) (before mid after : Option Files) → mid ≡ before → IfSome mid (λ files. after ≡ Some (insert files name bytes)) →
-    IfSome before (λ files. after ≡ Some (insert files name bytes))
-stored_since name bytes before mid after same h = subst (λ f. IfSome f (λ files. after ≡ Some (insert files name bytes))) same h
 
 module _ (a : Asked) (source : List ℕ) (old mid new : StoreView) (short : length source ≤ source_limit) (there : IfSome old.files (λ m. get m a.source ≡ Some source)) (later : old.faults ≤ mid.faults) (same : mid.files ≡ old.files) where
   told : (P : List ℕ → Type 0) → P source → IfSome old.files (λ m. (s : List ℕ) × (get m a.source ≡ Some s) × (length s ≤ source_limit) × P s)

@@ -3,9 +3,9 @@ use Rattle.std.specs.Prelude.{◌≡◌, ◌⊎◌, ⊤, ℕ, List, Option, Some
 use Rattle.eh_outer.specs.Store.{StoreView, Rose}
 use Rattle.eh_outer.specs.Sink.{SinkView, Gains}
 use Rattle.eh_commands.specs.declared.status.Status.{Status}
-use Rattle.eh_commands.specs.declared.status.Status.TheVariants.{Done, Usage, SourceRefused, NoMemory}
+use Rattle.eh_commands.specs.declared.status.Status.TheVariants.{Done, Usage, SourceRefused, WriteFault, NoMemory}
 use Rattle.command_line.specs.declared.command.Verb.{Verb}
-use Rattle.command_line.specs.declared.command.Verb.TheVariants.{Compile, Run, Exec, Harts, Mean, Check, Dump, Frames, Gen}
+use Rattle.command_line.specs.declared.command.Verb.TheVariants.{Compile, Run, Exec, Harts, Mean, Check, Dump, Frames, Pack, Gen}
 use Rattle.command_line.specs.declared.error.WordsError.{WordsError}
 use Rattle.command_line.specs.declared.error.WordsError.TheVariants as words
 use Rattle.command_line.specs.Command.{CommandView}
@@ -23,6 +23,7 @@ use Rattle.cxx_front.specs.declared.error.SourceError.{SourceError}
 use Rattle.cxx_front.specs.declared.error.SourceError.TheVariants as errors
 use Rattle.eh_commands.specs.Image.{ImageCause, check_lines, dump_lines}
 use Rattle.eh_commands.specs.Frames.{FramesCause}
+use Rattle.eh_commands.specs.Pack.{PackCause}
 
 -- the status of a source that the front end refuses
 abbrev pub status_of_refusal : SourceError → Status
@@ -39,11 +40,14 @@ CommandCause Mean a old new out out' status = MeanCause a old new out out' statu
 CommandCause Check a old new out out' status = ImageCause check_lines a.source old new out out' status
 CommandCause Dump a old new out out' status = ImageCause dump_lines a.source old new out out' status
 CommandCause Frames a old new out out' status = FramesCause a.source old new out out' status
+CommandCause Pack a old new out out' status = PackCause a old new out out' status
 CommandCause Gen a old new out out' status = GenCause a out out' status × (new ≡ old)
 
--- the told files that a command leaves with a status
+-- the told files that a command leaves with a status; what `compile` and `pack` store, their causes say
 abbrev pub KeptBy : Verb → Status → StoreView → StoreView → Type 0
 KeptBy Compile Done old new = ⊤
+KeptBy Pack Done old new = ⊤
+KeptBy Pack WriteFault old new = ⊤
 KeptBy verb status old new = new.files ≡ old.files
 
 -- the status of words that are read as no command
@@ -56,7 +60,7 @@ abbrev pub Cause : List ModuleView → Option CommandView → StoreView → Stor
 Cause modules None old new out out' status = ((status ≡ Usage) ⊎ (status ≡ NoMemory)) × (new ≡ old) × (out' ≡ out)
 Cause modules (Some command) old new out out' status = CommandCause command.verb (asked modules command) old new out out' status
 
--- no told file changes, but for the image that `compile` stores
+-- no told file changes, but for the image that `compile` or `pack` stores
 abbrev pub KeepsFiles : Option CommandView → StoreView → StoreView → Status → Type 0
 KeepsFiles None old new status = new.files ≡ old.files
 KeepsFiles (Some command) old new status = KeptBy command.verb status old new

@@ -17,6 +17,7 @@ use crate::generate::generate_and_count;
 use crate::harts::harts_file;
 use crate::image::{check_file, dump_file};
 use crate::mean::mean_file;
+use crate::pack::pack_file;
 use crate::report::report;
 use crate::run_source::run_file;
 use crate::status::Status;
@@ -98,6 +99,7 @@ fn execute<'a, St: Store, Out: Sink, M: Module>(
             status: frames_file(alloc, file, store, out),
             file,
         },
+        Verb::Pack => pack_file(alloc, question, store, out),
         Verb::Gen => Ended {
             status: generate_and_count(alloc, question, out),
             file,

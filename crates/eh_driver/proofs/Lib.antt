@@ -7,4 +7,5 @@ pub mod RunPromised
 pub mod FramesPromised
 pub mod GenPromised
 pub mod HartsPromised
+pub mod PackPromised
 pub mod Promised

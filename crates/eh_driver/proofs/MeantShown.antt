@@ -10,7 +10,7 @@ use Rattle.cxx_ast.specs.Plain.{Program}
 use Rattle.cxx_ast.specs.Broken.{Valid}
 use Rattle.cxx_ast.specs.Checked.{IsChecked, checked}
 use Rattle.cxx_front.specs.Source.{IsProgram}
-use Rattle.cxx_image.specs.Image.{image_for}
+use Rattle.cxx_image.specs.Image.{image_for, CheckedImagesAreSmall}
 use Rattle.source_bounds.specs.Compiled.{emitted_for}
 use Rattle.source_bounds.specs.Laws.{CheckedIsLinkable}
 use Rattle.table_forms.specs.Fault.{Fault}
@@ -28,6 +28,7 @@ use Rattle.compiled_runs.specs.Given.{IsGiven}
 use Rattle.step_law.specs.Complete.{CheckedImagesAreCompiled, CheckedImagesHaveEnough}
 use Rattle.gen_source.specs.Laws.{SourcesAreValid}
 use Rattle.hart_sched.specs.Laws.{EachRunsAlone}
+use Rattle.lsda_pack.specs.Laws.{PackingKeeps, PacksNoMore}
 use Rattle.eh_commands.specs.declared.status.Status.{Status}
 use Rattle.eh_commands.specs.File.{Asked}
 use Rattle.eh_commands.specs.RunEnd.{run_lines, status_of_run}
@@ -35,15 +36,18 @@ use Rattle.eh_commands.specs.RunSource.{CompiledRunsThis}
 use Rattle.eh_driver.proofs.EventsHeld.{LawsOfEvents, run_holds}
 use Rattle.eh_driver.specs.Promise.{AreBytes, AreCompiled, ShowsMeant, ShowsEnd, ShowsAll, meaning_for, shorter_meaning}
 
--- the laws of what is compiled, of what is generated to be compiled, and of several harts
+-- the laws of what is compiled, of what is generated to be compiled, of several harts, and of packing
 pub record CompilerLaws : Type 0 where
   pub compiled : CheckedImagesAreCompiled
   pub enough : CheckedImagesHaveEnough
   pub linkable : CheckedIsLinkable
   pub small : ImagesAreSmall
+  pub sizes : CheckedImagesAreSmall
   pub events : LawsOfEvents
   pub generated : SourcesAreValid
   pub apart : EachRunsAlone
+  pub packing_keeps : PackingKeeps
+  pub packs_once : PacksNoMore
 
 -- what is so of all that is asked: so many turns, and modules that answer with ints
 pub record IsAsked (a : Asked) : Type 0 where
@@ -80,7 +84,7 @@ module _ (laws : CompilerLaws) (std : Std) (source : List ℕ) (p : Program) (pr
             image = i;
             read = read;
             words = laws.small.words (emitted_for (checked std p)) linkable;
-            small = laws.small.bytes (emitted_for (checked std p)) linkable;
+            small = laws.sizes (checked std p) is;
             compiled = laws.compiled (checked std p) is bytes i read stands;
             enough = laws.enough (checked std p) is bytes i read stands;
             events = λ input replies n r means. run_holds laws.events (program_meaning (checked std p) input replies n (n + 1)) r (laws.events.right (checked std p) input replies n (n + 1)) means;

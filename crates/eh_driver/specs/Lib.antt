@@ -1,3 +1,4 @@
 pub mod Events
 pub mod Harts
+pub mod Pack
 pub mod Promise

@@ -7,7 +7,7 @@ use Rattle.eh_outer.specs.Sink.{SinkView, Gains}
 use Rattle.eh_commands.specs.declared.status.Status.{Status}
 use Rattle.eh_commands.specs.declared.status.Status.TheVariants.{Done, SourceRefused, NoMemory}
 use Rattle.command_line.specs.declared.command.Verb.{Verb}
-use Rattle.command_line.specs.declared.command.Verb.TheVariants.{Compile, Run, Exec, Harts, Mean, Check, Dump, Frames, Gen}
+use Rattle.command_line.specs.declared.command.Verb.TheVariants.{Compile, Run, Exec, Harts, Mean, Check, Dump, Frames, Pack, Gen}
 use Rattle.command_line.specs.Command.{CommandView, source_size}
 use Rattle.eh_outer.specs.Module.{ModuleView}
 use Rattle.meaning_forms.specs.declared.ending.MeanEnd.TheVariants.{Undefined, OutOfTurns}
@@ -47,6 +47,7 @@ use Rattle.eh_commands.specs.HartFiles.{harts_asked}
 use Rattle.eh_commands.specs.RunEnd.{run_lines, status_of_run}
 use Rattle.eh_driver.specs.Events.{EventsHold}
 use Rattle.eh_driver.specs.Harts.{HartsPromise}
+use Rattle.eh_driver.specs.Pack.{PackPromise}
 
 -- a told file of a name within a limit, where neither the store nor the sink fails
 pub record Undisturbed (limit : ℕ) (name source : List ℕ) (old new : StoreView) (out out' : SinkView) : Type 0 where
@@ -191,6 +192,7 @@ CommandPromise Mean a old new out out' status = MeanPromise a old new out out' s
 CommandPromise Check a old new out out' status = ImagePromise check_lines a.source old new out out' status
 CommandPromise Dump a old new out out' status = ImagePromise dump_lines a.source old new out out' status
 CommandPromise Frames a old new out out' status = FramesPromise a.source old new out out' status
+CommandPromise Pack a old new out out' status = PackPromise a old new out out' status
 CommandPromise Gen a old new out out' status = GenPromise a out out' status
 
 -- what words promise

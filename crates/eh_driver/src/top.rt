@@ -7,11 +7,13 @@ ghost use Rattle.eh_commands.specs.Status.{text_of_status};
 ghost use Rattle.eh_commands.specs.Words.{texts};
 ghost use Rattle.eh_driver.specs.Promise.{Promise};
 
+use cxx_image::laws::checked_images_are_small;
 use eh_commands::{Status, answer};
 use eh_outer::{Module, Sink, Store};
 use gen_source::generated_sources_are_valid;
 use hart_sched::harts_run_apart;
 use image_link::laws::images_are_small;
+use lsda_pack::laws::{packed_images_keep_their_verdicts, packed_images_pack_nothing};
 use meaning_events::laws::{allowed_events_are_counted, events_are_right, fronts_are_allowed};
 use source_bounds::laws::checked_is_linkable;
 use std::alloc::Global;
@@ -26,7 +28,8 @@ use step_law::laws::{checked_images_are_compiled, checked_images_have_enough};
 /// refused by a number and a place: it puts each line of a hart behind the hart's number, and last a line for each hart that goes on.
 /// `mean FILE` puts what the source means with the same: lines, events and end. `check FILE` and
 /// `dump FILE` read an image of at most 64 MiB, and put how much it has, or its tables, on `out` where it is clean; `frames FILE` puts
-/// whether both forms of its frames say the same. `gen N` generates a source of size N, 1 to 2,000, compiles it and runs it without
+/// whether both forms of its frames say the same. `pack FILE OUT` reads such an image, stores it with shorter exception tables, and then puts how
+/// many of them are packed and how many bytes that saves. `gen N` generates a source of size N, 1 to 2,000, compiles it and runs it without
 /// input and modules, and puts how many tokens it has, how many lines its run wrote, how many exception objects that made, and its end.
 /// `compile`, `run` and `mean` take the language of ISO/IEC 14882:2003, or with `--std=11` that with clause 15 of 2011.
 /// Whatever else comes is one line on `err`. A program is given at most 64 modules, which are dropped.
@@ -52,10 +55,13 @@ pub fn ehc<St: Store, Out: Sink, Er: Sink>(
     checked_images_have_enough();
     checked_is_linkable();
     images_are_small();
+    checked_images_are_small();
     events_are_right();
     allowed_events_are_counted();
     fronts_are_allowed();
     generated_sources_are_valid();
     harts_run_apart();
+    packed_images_keep_their_verdicts();
+    packed_images_pack_nothing();
     answer(alloc, words, store, out, err, modules)
 }

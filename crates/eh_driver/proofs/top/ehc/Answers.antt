@@ -11,7 +11,7 @@ pub returns-clause-promise : goal.returns-clause-promise
 returns-clause-promise g c =
     let few = subst (λ n. n ≤ 64) (sym (length-map c.args.modules.items (λ b. (goal.Module-dyn g (b.vtable, b.value)).view b.value))) c.requires.few in
     let events : LawsOfEvents = record { right = c.events_are_right.ensures; counted = c.allowed_events_are_counted.ensures; fronts = c.fronts_are_allowed.ensures } in
-    let laws : CompilerLaws = record { compiled = c.checked_images_are_compiled.ensures; enough = c.checked_images_have_enough.ensures; linkable = c.checked_is_linkable.ensures; small = c.images_are_small.ensures; events = events; generated = c.generated_sources_are_valid.ensures.valid; apart = c.harts_run_apart.ensures.alone } in
+    let laws : CompilerLaws = record { compiled = c.checked_images_are_compiled.ensures; enough = c.checked_images_have_enough.ensures; linkable = c.checked_is_linkable.ensures; small = c.images_are_small.ensures; sizes = c.checked_images_are_small.ensures; events = events; generated = c.generated_sources_are_valid.ensures.valid; apart = c.harts_run_apart.ensures.alone; packing_keeps = c.packed_images_keep_their_verdicts.ensures; packs_once = c.packed_images_pack_nothing.ensures } in
     promised laws (map (λ b. (goal.Module-dyn g (b.vtable, b.value)).view b.value) c.args.modules.items) few
     (guests_ints (λ b. (goal.Module-dyn g (b.vtable, b.value)).view b.value) (λ b. (goal.Module-dyn g (b.vtable, b.value)).ints b.value) c.args.modules.items)
     (texts c.args.words.now.items) (g.St.Store.view c.args.store.now) (g.St.Store.view c.answer.new.store) (g.Out.Sink.view c.args.out.now) (g.Out.Sink.view c.answer.new.out) c.answer.result c.answer.ensures.cause
