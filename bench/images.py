@@ -107,4 +107,5 @@ def main():
                     print(f"{size:6.2f} MB{frames:>9}  {name:34}{1000 * seconds:10.1f}{size / seconds:9.1f}")
 
 
-main()
+if __name__ == "__main__":
+    main()

@@ -129,6 +129,20 @@ def shared_table(size):
     return image(without_rows() + frames.whole() + table)
 
 
+def overlapping_tables(size):
+    """Each FDE names a table of its own, which begins eight bytes behind the one before; all are as long."""
+    frames = Frames(begin_of() + 8)
+    frames.common()
+    count = size // 48
+    tables = frames.address + frames.size + 24 * count + 4
+    window = 8 * (count - 1)
+    for number in range(count):
+        frames.function(tables + 8 * number, 4, tables + 8 * number)
+    head = b"\xff\xff\x01" + bytes([window & 0x7F | 0x80, window >> 7 & 0x7F | 0x80, window >> 14]) + b"\0\0"
+    body = without_rows() + frames.whole() + head * (2 * count + 2) + bytes(8 * count + 64)
+    return image(body, claimed=begin_of() - BASE + len(body) + 0x1_0000)
+
+
 def shared_cie(size):
     """All FDEs have one CIE with a long list of instructions."""
     frames = Frames(begin_of() + 8)
@@ -250,7 +264,8 @@ def blanks(size):
 
 IMAGES = [
     (two_chains, ["check"]), (loops, ["check"]), (lists, ["check"]), (sites, ["check", "dump"]), (sites_in_segments, ["check"]),
-    (shared_table, ["check", "dump"]), (shared_cie, ["check", "dump"]), (own_cies, ["check", "dump"]), (rows, ["check", "dump"]), (states, ["check", "dump"]),
-    (falling, ["check", "dump"]), (empty, ["check", "dump"]), (overlaps, ["check"]), (header, ["check"]), (claims, ["check", "dump"]),
+    (shared_table, ["check", "dump"]), (overlapping_tables, ["check"]), (shared_cie, ["check", "dump"]), (own_cies, ["check", "dump"]),
+    (rows, ["check", "dump"]), (states, ["check", "dump"]), (falling, ["check", "dump"]), (empty, ["check", "dump"]), (overlaps, ["check"]),
+    (header, ["check"]), (claims, ["check", "dump"]),
 ]
 SOURCES = [one_name, long_names, members, parameters, blanks]
