@@ -54,7 +54,6 @@ pub mod StaysApart
 pub mod PackingKept
 pub mod PacksNothing
 pub mod Sizes
-pub mod Known
 pub mod PackedIs
 pub mod PackedTwice
 pub mod KeysAlike
@@ -67,6 +66,12 @@ pub mod RecordsEnd
 pub mod PackedEnd
 pub mod PackedAgain
 pub mod Offsets
+pub mod MapKeys
+pub mod PositionsFound
+pub mod EndNumbers
+pub mod ChainNumbers
+pub mod RecordPlaces
+pub mod BodyIs
 pub mod TypeNamed
 pub mod ListingIs
 pub mod StopsAre

@@ -1,6 +1,8 @@
 -- The lists by the numbers that a table names are the lists of what was read.
 use Rattle.std.proofs.Common.{◌≡◌, ◌+◌, ◌-◌, ◌==◌, ℕ, ℤ, zero, suc, Bool, true, false, nat_lt, List, [], ◌∷◌, map, Option, Some, None, refl, ap, sym, ◌∙◌, arith, if◌then◌else◌}
-use Rattle.std.specs.Prelude.{not}
+use Rattle.std.specs.Prelude.{◌||◌, not, unwrap_or}
+use Rattle.std.specs.BTreeMap.{is_at}
+use Rattle.std.specs.Ordering.{nat_cmp}
 use Rattle.std.specs.List.{position_or_len, list_any}
 use Rattle.eh_bytes.specs.declared.table.ListSite.{ListSite}
 use Rattle.eh_bytes.specs.Listed.{ListedTable}
@@ -11,7 +13,8 @@ use Rattle.lsda_read.specs.Names.{actions_named, types_named, lists_named}
 use Rattle.lsda_pack.specs.KeptTypes.{is_among, greatest}
 use Rattle.lsda_pack.specs.ReadLists.{number_of, site_listed, values_from, lists_read}
 use Rattle.lsda_read.specs.WholeTable.{filters_at, value_of, indices_at, IsWhole}
-use Rattle.lsda_pack.specs.Listing.{number_among, listed_with, named_value, named_values}
+use Rattle.lsda_pack.specs.Listing.{AreValues, number_among, listed_with, named_value, named_values}
+use Rattle.lsda_pack.proofs.MapKeys.{at_key}
 
 abbrev pairs : {A : Type 0} → (ℕ → A) → List ℕ → List (ℕ × A)
 pairs {A} f ks = map {B = ℕ × A} (λ k. (k, f k)) ks
@@ -87,3 +90,24 @@ listing_is start t w =
 pub next_value : (types : List ℕ) (t : Table) (n i : ℕ) → nat_lt 0 n ≡ true → named_values n i types t ≡ named_value types t i ∷ named_values (n - 1) (i + 1) types t
 next_value types t zero i e = absurd cc
 next_value types t (suc n) i e = let back : n ≡ suc n - 1 = omega arith in ap (λ m. named_value types t i ∷ named_values m (i + 1) types t) back
+
+-- the number of an action that is not 0
+pub named_number : (actions : List ℕ) (a n : ℕ) → (a == 0) ≡ false → n ≡ position_or_len (λ k. k == a) actions → Some n ≡ number_among actions a
+named_number actions a n some is = ap (λ m. Some m) is ∙ ap (λ b. if b then None else Some (position_or_len (λ k. k == a) actions)) (sym some)
+
+-- the value of one more type
+pub one_value : (t : Table) (types : List ℕ) (index value : ℕ) (values more : ℕ → Option ℕ) → value ≡ value_of t index → AreValues t types values →
+    ((i : ℕ) → more i ≡ (if is_at (nat_cmp index) i then Some value else values i)) → AreValues t (index ∷ types) more
+one_value t types index value values more is are says = λ i. says i ∙ ap (λ b. if b then Some value else values i) (at_key index i) ∙ by i (index == i) refl
+  where
+    by : (i : ℕ) (b : Bool) → (index == i) ≡ b → (if b then Some value else values i) ≡ (if (index == i) || is_among types i then Some (value_of t i) else None)
+    by i true e = ap (λ n. Some n) (is ∙ ap (value_of t) (same_key index i e)) ∙ ap (λ b. if b || is_among types i then Some (value_of t i) else None) (sym e)
+    by i false e = are i ∙ ap (λ b. if b || is_among types i then Some (value_of t i) else None) (sym e)
+
+-- the value under an index
+pub value_named : (types : List ℕ) (t : Table) (values : ℕ → Option ℕ) (i : ℕ) → AreValues t types values → unwrap_or (values i) 0 ≡ named_value types t i
+value_named types t values i are = ap (λ o. unwrap_or o 0) (are i) ∙ by (is_among types i)
+  where
+    by : (b : Bool) → unwrap_or (if b then Some (value_of t i) else None) 0 ≡ (if b then value_of t i else 0)
+    by true = refl
+    by false = refl

@@ -5,7 +5,10 @@ pub mod KeptTypes
 pub mod PackedLists
 pub mod ListedVerdict
 pub mod Suffixes
+pub mod EndNumbers
+pub mod KeptChains
 pub mod PackedBytes
+pub mod Records
 pub mod TableEnd
 pub mod Ends
 pub mod Listing

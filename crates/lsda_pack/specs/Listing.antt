@@ -1,6 +1,6 @@
 -- The lists of a table by the numbers that it names.
-use Rattle.std.specs.Prelude.{ℕ, zero, suc, ◌+◌, ◌-◌, ◌==◌, List, [], ◌∷◌, Option, Some, None, if◌then◌else◌}
-use Rattle.std.specs.List.{position_or_len}
+use Rattle.std.specs.Prelude.{◌≡◌, ℕ, zero, suc, ◌+◌, ◌-◌, ◌==◌, List, [], ◌∷◌, Option, Some, None, if◌then◌else◌}
+use Rattle.std.specs.List.{position_from, position_or_len}
 use Rattle.eh_bytes.specs.declared.table.ListSite.{ListSite}
 use Rattle.table_forms.specs.declared.found.Site.{Site}
 use Rattle.table_forms.specs.Lsda.{Table}
@@ -27,3 +27,11 @@ named_value types t i = if is_among types i then value_of t i else 0
 abbrev pub named_values : ℕ → ℕ → List ℕ → Table → List ℕ
 named_values zero i types t = []
 named_values (suc n) i types t = named_value types t i ∷ named_values n (i + 1) types t
+
+-- the place of each action that is named, counted from an offset
+abbrev pub ArePositions : (ℕ → Option ℕ) → ℕ → List ℕ → Type 0
+ArePositions positions n actions = (a : ℕ) → positions a ≡ position_from (λ k. k == a) n actions
+
+-- the value of each type that is named
+abbrev pub AreValues : Table → List ℕ → (ℕ → Option ℕ) → Type 0
+AreValues t types values = (i : ℕ) → values i ≡ (if is_among types i then Some (value_of t i) else None)

@@ -20,6 +20,7 @@ pub mod laws;
 mod layout;
 mod listing;
 mod lists;
+mod numbers;
 mod packed;
 mod packed_bytes;
 mod packing;
@@ -30,7 +31,6 @@ mod rewrite;
 mod rewriting;
 mod rule;
 mod shared;
-mod suffixes;
 #[cfg(test)]
 mod tests;
 

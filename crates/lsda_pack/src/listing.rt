@@ -1,50 +1,64 @@
 // The lists of a table that was read, as its writer takes them.
-ghost use Rattle.std.specs.Prelude.{◌≡◌, ◌==◌, ◌≤◌, ◌++◌, map, IfOk, length, Contains};
-ghost use Rattle.std.specs.List.{AllByRecursion, position_or_len};
+ghost use Rattle.std.specs.Prelude.{◌≡◌, ◌++◌, map, unwrap_or, IfOk, Contains};
+ghost use Rattle.std.specs.List.{AllByRecursion};
+ghost use Rattle.std.specs.BTreeMap.{get};
+ghost use Rattle.std.specs.Ordering.{nat_cmp};
 ghost use Rattle.eh_bytes.specs.Listed.{listed_table};
 ghost use Rattle.lsda_read.specs.Names.{actions_named, types_named, lists_named};
-ghost use Rattle.lsda_pack.specs.Listing.{number_among, listed_with, named_value, named_values};
+ghost use Rattle.lsda_pack.specs.Listing.{ArePositions, AreValues, number_among, listed_with, named_values};
 ghost use Rattle.lsda_pack.specs.KeptTypes.{greatest};
 ghost use Rattle.lsda_pack.specs.ReadLists.{lists_read};
-ghost use Rattle.lsda_read.specs.WholeTable.{IsWhole, filters_at, value_of, indices_at};
+ghost use Rattle.lsda_read.specs.WholeTable.{IsWhole, filters_at, indices_at};
 
 use crate::NoMemory;
 use crate::kept_types::greatest;
 use eh_bytes::{ListSite, LsdaList};
 use lsda_read::{Chain, Lsda, SpecList};
 use std::alloc::{AllocError, Global};
+use std::collections::BTreeMap;
 use table_forms::Site;
 
-// The place of an action in the list, or the list's length.
-fn position_of(actions: &[u64], action: u64) -> usize
-    ensures position { result ≡ position_or_len (λ a. a == action) actions.now }
-    ensures within { result ≤ length actions.now }
+// The place of each action in the list.
+fn positions_of(alloc: Global, actions: &[u64]) -> Result<BTreeMap<u64, u32>, NoMemory>
+    ensures { IfOk result (λ positions. ArePositions (get nat_cmp positions) 0 actions.now) }
 {
-    let mut position = 0;
+    let mut positions = BTreeMap::new(alloc);
     let mut rest = actions;
-    'actions: while let Some((other, others)) = rest.split_first() {
-        if *other == action {
-            return position;
-        }
-        position += 1;
-        rest = others;
+    'actions: while let Some((action, front)) = rest.split_last() {
+        let position = u32::try_from(front.len()).map_err(|_| AllocError)?;
+        positions.insert(*action, position)?;
+        rest = front;
     }
-    position
+    Ok(positions)
 }
 
 // The number of an action's chain; action 0 has none.
-fn number_of(actions: &[u64], action: u64) -> Result<Option<u32>, NoMemory>
+fn number_of(
+    positions: &BTreeMap<u64, u32>,
+    actions: &[u64],
+    action: u64,
+) -> Result<Option<u32>, NoMemory>
+    requires { ArePositions (get nat_cmp positions.now) 0 actions.now }
     ensures { IfOk result (λ number. number ≡ number_among actions.now action) }
 {
     if action == 0 {
         return Ok(None);
     }
-    let position = u32::try_from(position_of(actions, action)).map_err(|_| AllocError)?;
-    Ok(Some(position))
+    if let Some(position) = positions.get(&action) {
+        return Ok(Some(*position));
+    }
+    let count = u32::try_from(actions.len()).map_err(|_| AllocError)?;
+    Ok(Some(count))
 }
 
 // A site as it counts from the start of its function.
-fn site_listed(start: u64, actions: &[u64], site: &Site) -> Result<ListSite, NoMemory>
+fn site_listed(
+    start: u64,
+    positions: &BTreeMap<u64, u32>,
+    actions: &[u64],
+    site: &Site,
+) -> Result<ListSite, NoMemory>
+    requires { ArePositions (get nat_cmp positions.now) 0 actions.now }
     ensures { IfOk result (λ listed. listed ≡ listed_with start actions.now site.now) }
 {
     Ok(ListSite {
@@ -55,7 +69,7 @@ fn site_listed(start: u64, actions: &[u64], site: &Site) -> Result<ListSite, NoM
         } else {
             site.pad.saturating_sub(start)
         },
-        chain: number_of(actions, site.action)?,
+        chain: number_of(positions, actions, site.action)?,
     })
 }
 
@@ -67,10 +81,11 @@ fn sites_listed(
 ) -> Result<Vec<ListSite>, NoMemory>
     ensures { IfOk result (λ listed. listed.items ≡ map (listed_with start actions.now) table.now.sites) }
 {
+    let positions = positions_of(alloc, actions)?;
     let mut listed = Vec::new(alloc);
     let mut sites = table.sites();
     'sites: while let Some(site) = sites.next() {
-        listed.push(site_listed(start, actions, &site)?)?;
+        listed.push(site_listed(start, &positions, actions, &site)?)?;
     }
     Ok(listed)
 }
@@ -126,19 +141,28 @@ fn lists_listed(alloc: Global, table: &Lsda<'_>, lists: &[u64]) -> Result<Vec<Ve
     Ok(listed)
 }
 
-// The value of a type that is named, or else 0.
-fn named_value(table: &Lsda<'_>, types: &[u64], index: u64) -> u64
+// The values of the types that are named.
+fn values_of(alloc: Global, table: &Lsda<'_>, types: &[u64]) -> Result<BTreeMap<u64, u64>, NoMemory>
     requires { AllByRecursion (Contains (types_named table.now)) types.now }
-    ensures { result ≡ named_value types.now table.now index }
+    ensures { IfOk result (λ values. AreValues table.now types.now (get nat_cmp values)) }
 {
+    let mut values = BTreeMap::new(alloc);
     let mut rest = types;
-    'types: while let Some((other, others)) = rest.split_first() {
-        if *other == index {
-            return table.type_entry(*other);
-        }
-        rest = others;
+    'types: while let Some((index, front)) = rest.split_last() {
+        values.insert(*index, table.type_entry(*index))?;
+        rest = front;
     }
-    0
+    Ok(values)
+}
+
+// The value under an index, or else 0.
+fn value_under(values: &BTreeMap<u64, u64>, index: u64) -> u64
+    ensures { result ≡ unwrap_or (get nat_cmp values.now index) 0 }
+{
+    match values.get(&index) {
+        None => 0,
+        Some(value) => *value,
+    }
 }
 
 // The values up to the greatest index.
@@ -146,12 +170,13 @@ fn types_listed(alloc: Global, table: &Lsda<'_>, types: &[u64]) -> Result<Vec<u6
     requires { AllByRecursion (Contains (types_named table.now)) types.now }
     ensures { IfOk result (λ values. values.items ≡ named_values (greatest types.now) 1 types.now table.now) }
 {
+    let named = values_of(alloc, table, types)?;
     let mut values = Vec::new(alloc);
     let mut left = greatest(types);
     let mut index = 0;
     'types: while left > 0 {
         index += 1;
-        values.push(named_value(table, types, index))?;
+        values.push(value_under(&named, index))?;
         left -= 1;
     }
     Ok(values)

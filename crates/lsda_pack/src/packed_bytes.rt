@@ -8,6 +8,7 @@ ghost use Rattle.lsda_pack.specs.PackedBytes.{base_for, body_bytes, front_bytes,
 use crate::NoMemory;
 use crate::actions::{action_table, actions_of};
 use crate::layout::offset_for;
+use crate::numbers::numbered_chains;
 use eh_bytes::{LsdaList, put_uleb};
 use eh_write::{put_entries, put_lists, put_zeros, site_table};
 use std::alloc::{AllocError, Global};
@@ -24,14 +25,15 @@ const ULEB128: u8 = 0x01;
 fn body_of(alloc: Global, table: &LsdaList) -> Result<Vec<u8>, NoMemory>
     ensures { IfOk result (λ body. body.items ≡ body_bytes (listed_table table.now)) }
 {
-    let (bytes, known) = action_table(alloc, table.chains.as_slice())?;
-    let actions = actions_of(alloc, known.as_slice(), table.chains.as_slice())?;
+    let chains = numbered_chains(alloc, table.chains.as_slice())?;
+    let records = action_table(alloc, chains.as_slice())?;
+    let actions = actions_of(alloc, &records, chains.as_slice())?;
     let sites = site_table(alloc, table.sites.as_slice(), actions.as_slice())?;
     let mut body = Vec::new(alloc);
     body.push(ULEB128)?;
     put_uleb(&mut body, sites.len() as u64)?;
     body.extend_from_slice(sites.as_slice())?;
-    body.extend_from_slice(bytes.as_slice())?;
+    body.extend_from_slice(records.bytes.as_slice())?;
     Ok(body)
 }
 

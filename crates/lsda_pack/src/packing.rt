@@ -13,6 +13,7 @@ use crate::NoMemory;
 use crate::listing::read_lists;
 use crate::packed::pack_lists;
 use crate::packed_bytes::{base_for, write_packed};
+use crate::placing::TableAt;
 use crate::rule::{are_near, is_plain, names_stand, pads_count};
 use eh_bytes::LsdaList;
 use lsda_read::{Lsda, Shape};
@@ -22,31 +23,29 @@ use std::alloc::Global;
 fn may_be(
     alloc: Global,
     bytes: &[u8],
-    base: Option<u128>,
     table: &Lsda<'_>,
     lists: &[u64],
     shape: &Shape,
-    start: u64,
-    first: u64,
+    at: TableAt,
     end: u128,
     packed: &LsdaList,
 ) -> Result<bool, NoMemory>
     requires small { length bytes.now < 2 ^ 63 }
-    requires near { IfSome base (λ b. b < 2 ^ 65) }
+    requires near { IfSome at.base (λ b. b < 2 ^ 65) }
     requires named { AllByRecursion (Contains (lists_named table.now)) lists.now }
-    ensures { IfOk result (λ may. may ≡ may_be bytes.now base table.now lists.now shape.now start first end (listed_table packed.now)) }
+    ensures { IfOk result (λ may. may ≡ may_be bytes.now at.base table.now lists.now shape.now at.region.start at.first end (listed_table packed.now)) }
 {
     if !is_plain(shape) {
         return Ok(false);
     }
-    if !pads_count(table, start) {
+    if !pads_count(table, at.region.start) {
         return Ok(false);
     }
-    let stand = base_for(alloc, packed, first)?;
-    if !are_near(first, end, stand, packed.types.as_slice()) {
+    let stand = base_for(alloc, packed, at.first)?;
+    if !are_near(at.first, end, stand, packed.types.as_slice()) {
         return Ok(false);
     }
-    names_stand(alloc, bytes, base, table, lists)
+    names_stand(alloc, bytes, at.base, table, lists)
 }
 
 // The packed bytes of lists, where they are fewer than so many.
@@ -72,35 +71,28 @@ fn shorter(
 pub fn packed_from(
     alloc: Global,
     bytes: &[u8],
-    base: Option<u128>,
     table: &Lsda<'_>,
     lists: &[u64],
     shape: &Shape,
-    start: u64,
-    first: u64,
+    at: TableAt,
     end: u128,
-    place: u128,
-    file_end: u128,
 ) -> Result<Option<Vec<u8>>, NoMemory>
     requires small { length bytes.now < 2 ^ 63 }
-    requires near { IfSome base (λ b. b < 2 ^ 65) }
+    requires near { IfSome at.base (λ b. b < 2 ^ 65) }
     requires named { AllByRecursion (Contains (lists_named table.now)) lists.now }
     requires whole { IsWhole table.now }
     requires end { end < 2 ^ 70 }
-    requires place { place < 2 ^ 66 }
-    ensures { IfOk result (λ packed. option_map (λ b. b.items) packed ≡ shorter_bytes (nat_le (place + (end - first)) file_end && may_be bytes.now base table.now lists.now shape.now start first end (packed_lists (lists_read start table.now))) (packed_bytes (packed_lists (lists_read start table.now)) first) (end - first)) }
+    requires place { at.place < 2 ^ 66 }
+    ensures { IfOk result (λ packed. option_map (λ b. b.items) packed ≡ shorter_bytes (nat_le (at.place + (end - at.first)) at.file_end && may_be bytes.now at.base table.now lists.now shape.now at.region.start at.first end (packed_lists (lists_read at.region.start table.now))) (packed_bytes (packed_lists (lists_read at.region.start table.now)) at.first) (end - at.first)) }
 {
-    let size = end.saturating_sub(first as u128);
-    if place + size > file_end {
+    let size = end.saturating_sub(at.first as u128);
+    if at.place + size > at.file_end {
         return Ok(None);
     }
-    let read = read_lists(alloc, table, start)?;
+    let read = read_lists(alloc, table, at.region.start)?;
     let packed = pack_lists(alloc, &read)?;
-    let may = may_be(
-        alloc, bytes, base, table, lists, shape, start, first, end, &packed,
-    )?;
-    if !may {
+    if !may_be(alloc, bytes, table, lists, shape, at, end, &packed)? {
         return Ok(None);
     }
-    shorter(alloc, &packed, first, size)
+    shorter(alloc, &packed, at.first, size)
 }

@@ -37,6 +37,19 @@ pub struct Placing {
     pub packed: Option<Vec<u8>>,
 }
 
+/// Where a table of a function stands: its first address and its place in the file, where the bytes
+/// of its segment end there, and the places of its action table and of its base, if it has one, in
+/// the segment.
+#[derive(Clone, Copy, Drop)]
+pub struct TableAt {
+    pub region: Region64,
+    pub first: u64,
+    pub place: u128,
+    pub file_end: u128,
+    pub actions_at: u128,
+    pub base: Option<u128>,
+}
+
 // What a table takes from its first address up to its end.
 fn taken_from(first: u64, end: u128, place: u128, file_end: u128) -> TableTaken
     requires end { end < 2 ^ 70 }
@@ -83,40 +96,23 @@ fn place_formed(
     segment: &Segment,
     table: &Lsda<'_>,
     shape: &Shape,
-    region: Region64,
-    first: u64,
-    place: u128,
-    file_end: u128,
-    actions_at: u128,
-    base: Option<u128>,
+    at: TableAt,
 ) -> Result<Placing, NoMemory>
-    requires reach { actions_at < 2 ^ 65 }
-    requires near { IfSome base (λ b. b < 2 ^ 65) }
+    requires reach { at.actions_at < 2 ^ 65 }
+    requires near { IfSome at.base (λ b. b < 2 ^ 65) }
     requires whole { IsWhole table.now }
-    requires place { place < 2 ^ 66 }
-    ensures { (h : Head) → IsHead (part_of segment.now) region table.now actions_at base h → HasTypes shape.now h.types → IfOk result (λ p. IsPlacing (memory_of memory.now) p (placed_as first region place file_end (part_of segment.now) shape.now h table.now)) }
+    requires place { at.place < 2 ^ 66 }
+    ensures { (h : Head) → IsHead (part_of segment.now) at.region table.now at.actions_at at.base h → HasTypes shape.now h.types → IfOk result (λ p. IsPlacing (memory_of memory.now) p (placed_as at.first at.region at.place at.file_end (part_of segment.now) shape.now h table.now)) }
 {
     let bytes = segment.bytes.as_slice();
     let numbers = table.numbers(alloc)?;
-    let end = segment.address as u128 + table_end(bytes, actions_at, base, table, &numbers);
+    let end = segment.address as u128 + table_end(bytes, at.actions_at, at.base, table, &numbers);
     let lists = numbers.lists.as_slice();
-    let packed = packed_from(
-        alloc,
-        bytes,
-        base,
-        table,
-        lists,
-        shape,
-        region.start,
-        first,
-        end,
-        place,
-        file_end,
-    )?;
+    let packed = packed_from(alloc, bytes, table, lists, shape, at, end)?;
     let types = numbers.types.as_slice();
-    let words = words_named(alloc, memory, segment, shape, base, types)?;
+    let words = words_named(alloc, memory, segment, shape, at.base, types)?;
     Ok(Placing {
-        taken: taken_from(first, end, place, file_end),
+        taken: taken_from(at.first, end, at.place, at.file_end),
         words,
         packed,
     })
@@ -162,10 +158,15 @@ fn place_in(
         return Err(AllocError);
     }
     let base = base_by(&shape, from)?;
-    let placing = place_formed(
-        alloc, memory, segment, table, &shape, region, address, place, file_end, actions_at, base,
-    )?;
-    Ok(Some(placing))
+    let at = TableAt {
+        region,
+        first: address,
+        place,
+        file_end,
+        actions_at,
+        base,
+    };
+    Ok(Some(place_formed(alloc, memory, segment, table, &shape, at)?))
 }
 
 // The table at an address, which is read.

@@ -20,14 +20,14 @@ returns c h is types =
     let same_bytes = c.as_slice-bytes.ensures.value in
     let same_lists = c.as_slice-lists.ensures.value ∙ c.in_ok-numbers.ensures.lists in
     let same_types = c.as_slice-types.ensures.value ∙ c.in_ok-numbers.ensures.types in
-    let ends = c.table_end.ensures.end ∙ ap (λ ls. stop_of bytes c.args.actions_at c.args.base t.sites keys ls) (sym c.as_slice-lists.ensures.value) in
+    let ends = c.table_end.ensures.end ∙ ap (λ ls. stop_of bytes c.args.at.actions_at c.args.at.base t.sites keys ls) (sym c.as_slice-lists.ensures.value) in
     let whole = c.requires.whole in
     record {
       taken = c.taken_from.ensures ∙
-          ap (λ e. taken_at c.args.first (part.address + e) c.args.place c.args.file_end)
-          (end_by part c.args.region h t c.args.actions_at c.args.base bytes keys lists stop same_bytes c.in_ok-numbers.ensures.types same_lists ends is whole);
+          ap (λ e. taken_at c.args.at.first (part.address + e) c.args.at.place c.args.at.file_end)
+          (end_by part c.args.at.region h t c.args.at.actions_at c.args.at.base bytes keys lists stop same_bytes c.in_ok-numbers.ensures.types same_lists ends is whole);
       words = c.in_ok-words.ensures h.types types is.stands ∙ ap (map extent_taken) (words_are m part h.types t indices whole same_types);
       packed = c.in_ok-packed.ensures ∙
-          packed_by c.args.first c.args.region c.args.place c.args.file_end part c.args.shape.now h t c.args.actions_at c.args.base
+          packed_by c.args.at.first c.args.at.region c.args.at.place c.args.at.file_end part c.args.shape.now h t c.args.at.actions_at c.args.at.base
           bytes keys lists stop same_bytes c.in_ok-numbers.ensures.types same_lists ends is whole;
     }

@@ -24,4 +24,4 @@ returns c load stop =
     let is = subst (λ a. IsHead part c.args.region t a base found.head) (sym c.saturating_sub-actions_at.ensures)
     (subst (λ b. IsHead part c.args.region t (s.actions - part.address) b found.head) (sym c.in_ok-base.ensures.base) found.is) in
     let placed = placed_as c.args.address c.args.region (part.file_at + (c.args.address - part.address)) c.args.file_end part s found.head t in
-    (placed, placed_by part load c.args.address c.args.region t s c.args.file_end stop found, c.in_ok-placing.ensures found.head is found.types)
+    (placed, placed_by part load c.args.address c.args.region t s c.args.file_end stop found, c.in_ok-place_formed.ensures found.head is found.types)
