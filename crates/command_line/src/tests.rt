@@ -209,23 +209,6 @@ static WORDS: &[(&[&str], &str)] = &[
         &["compile", "f", "g"],
         "Compile [\"f\", \"g\"] [] 10000000 false false []",
     ),
-    (
-        &["pack", "f", "g"],
-        "Pack [\"f\", \"g\"] [] 10000000 false false []",
-    ),
-    (
-        &["pack", "--", "-f", "-g"],
-        "Pack [\"-f\", \"-g\"] [] 10000000 false false []",
-    ),
-    (&["pack"], USAGE),
-    (&["pack", "f"], USAGE),
-    (&["pack", "f", "g", "h"], USAGE),
-    (&["pack", "f", ""], USAGE),
-    (&["pack", "f", "-g"], USAGE),
-    (&["pack", "f", "g", "--trace"], USAGE),
-    (&["pack", "f", "g", "--max=1"], USAGE),
-    (&["pack", "f", "g", "--std=11"], USAGE),
-    (&["packs", "f", "g"], USAGE),
     (&["compile", "f"], USAGE),
     (&["compile", "f", "g", "h"], USAGE),
     (&["compile", "f", "g", "--trace"], USAGE),
@@ -319,6 +302,27 @@ static WORDS: &[(&[&str], &str)] = &[
     (&["Run", "f"], USAGE),
 ];
 
+// Words of `pack`, as above.
+static PACKS: &[(&[&str], &str)] = &[
+    (
+        &["pack", "f", "g"],
+        "Pack [\"f\", \"g\"] [] 10000000 false false []",
+    ),
+    (
+        &["pack", "--", "-f", "-g"],
+        "Pack [\"-f\", \"-g\"] [] 10000000 false false []",
+    ),
+    (&["pack"], USAGE),
+    (&["pack", "f"], USAGE),
+    (&["pack", "f", "g", "h"], USAGE),
+    (&["pack", "f", ""], USAGE),
+    (&["pack", "f", "-g"], USAGE),
+    (&["pack", "f", "g", "--trace"], USAGE),
+    (&["pack", "f", "g", "--max=1"], USAGE),
+    (&["pack", "f", "g", "--std=11"], USAGE),
+    (&["packs", "f", "g"], USAGE),
+];
+
 // Words behind the program's name, and the standard that they ask for.
 static STANDARDS: &[(&[&str], Std)] = &[
     (&["run", "f"], Std::Cxx03),
@@ -367,6 +371,16 @@ fn present_verbs(rt: HostRuntime) -> Result<(), Fail> {
             Ok(scripts) => assert!(rt; scripts.is_empty() && *want != USAGE, "{words:?}"),
             Err(error) => assert!(rt; error == WordsError::Usage && *want == USAGE, "{words:?}"),
         }
+    }
+    Ok(())
+}
+
+#[test]
+fn words_of_pack(rt: HostRuntime) -> Result<(), Fail> {
+    for (words, want) in PACKS.iter() {
+        let words = owned(rt.alloc(), *words)?;
+        let read = shown(rt.alloc(), read_words(rt.alloc(), &words))?;
+        assert_eq!(rt; read.as_str(), *want, "{words:?}");
     }
     Ok(())
 }
