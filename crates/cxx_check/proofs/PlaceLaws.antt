@@ -7,7 +7,7 @@ use Rattle.std.specs.declared.alloc.Global.{Global}
 use Rattle.indexmap.specs.IndexMap.{insert_entry}
 use Rattle.cxx_ast.specs.declared.name.Name.{Name}
 use Rattle.cxx_ast.specs.ClassRules.{stands_before}
-use Rattle.cxx_rules.proofs.NameLaws.{bytes_same}
+use Rattle.cxx_rules.proofs.NameLaws.{bytes_same, lookup_insert}
 use Rattle.cxx_check.specs.Places.{lesser_place, least_place, is_before, ArePlaces}
 
 -- the least place with one name more
@@ -52,39 +52,6 @@ stands_by (m ∷ names) n = by (bytes_eq m.text n.text) (stands_by names n)
         is_before (cond b (Some (lesser_place m.place (least_place n.text names))) (least_place n.text names)) n.place ≡ ((b && nat_lt m.place n.place) || stands_before names n)
     by true h = before_lesser m.place n.place (least_place n.text names) ∙ ap (λ x. nat_lt m.place n.place || x) h
     by false h = h
-
-same_key : (q : List ℕ) (v w : ℕ) (es : List (Vec ℕ Global × ℕ)) (a b : Bool) → a ≡ b →
-    cond a (Some v) (lookup (λ k. bytes_eq q k.items) es) ≡ cond b (Some v) (cond a (Some w) (lookup (λ k. bytes_eq q k.items) es))
-same_key q v w es true true h = refl
-same_key q v w es true false h = cc
-same_key q v w es false true h = cc
-same_key q v w es false false h = refl
-
-apart : (q k j : List ℕ) (v w : ℕ) (o : Option ℕ) (a b : Bool) → bytes_eq k j ≡ false → bytes_eq q j ≡ a → bytes_eq q k ≡ b →
-    cond a (Some w) (cond b (Some v) o) ≡ cond b (Some v) (cond a (Some w) o)
-apart q k j v w o true true e f g =
-    let same : k ≡ j = sym ((bytes_eq-Decides q k).0 g) ∙ (bytes_eq-Decides q j).0 f in
-    let yes = (bytes_eq-Decides k j).1 same in
-    cc
-apart q k j v w o true false e f g = refl
-apart q k j v w o false true e f g = refl
-apart q k j v w o false false e f g = refl
-
-inserted : (q : List ℕ) (k j : Vec ℕ Global) (v w : ℕ) (es : List (Vec ℕ Global × ℕ)) (b : Bool) → bytes_eq k.items j.items ≡ b →
-    lookup (λ k. bytes_eq q k.items) (insert_entry (λ a b. bytes_eq a.items b.items) es k v) ≡ cond (bytes_eq q k.items) (Some v) (lookup (λ k. bytes_eq q k.items) es) →
-    lookup (λ k. bytes_eq q k.items) (cond b ((j, v) ∷ es) ((j, w) ∷ insert_entry (λ a b. bytes_eq a.items b.items) es k v))
-    ≡ cond (bytes_eq q k.items) (Some v) (cond (bytes_eq q j.items) (Some w) (lookup (λ k. bytes_eq q k.items) es))
-inserted q k j v w es true e h =
-    same_key q v w es (bytes_eq q j.items) (bytes_eq q k.items) (ap (bytes_eq q) (sym ((bytes_eq-Decides k.items j.items).0 e)))
-inserted q k j v w es false e h =
-    ap (λ o. cond (bytes_eq q j.items) (Some w) o) h
-    ∙ apart q k.items j.items v w (lookup (λ k. bytes_eq q k.items) es) (bytes_eq q j.items) (bytes_eq q k.items) e refl refl
-
--- what a map says of a text behind an insertion
-lookup_insert : (q : List ℕ) (k : Vec ℕ Global) (v : ℕ) (es : List (Vec ℕ Global × ℕ)) →
-    lookup (λ k. bytes_eq q k.items) (insert_entry (λ a b. bytes_eq a.items b.items) es k v) ≡ cond (bytes_eq q k.items) (Some v) (lookup (λ k. bytes_eq q k.items) es)
-lookup_insert q k v [] = refl
-lookup_insert q k v ((j, w) ∷ es) = inserted q k j v w es (bytes_eq k.items j.items) refl (lookup_insert q k v es)
 
 -- one name more
 pub places_with : (n : Name) (k : Vec ℕ Global) (v : ℕ) (es new : List (Vec ℕ Global × ℕ)) (names : List Name) →

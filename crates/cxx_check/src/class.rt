@@ -52,7 +52,7 @@ pub fn head<'t>(
     let named = env.with_name(alloc, text, Thing::Class(number))?;
     let above = base_found(alloc, &named, number, &class.base);
     let base = base_number(alloc, &named, number, &class.base);
-    let inside = named.with_class(bare_class(alloc, nameless, base, class)?)?;
+    let inside = named.with_class(alloc, bare_class(alloc, nameless, base, class)?)?;
     let members = data_members(alloc, &inside, number, nameless, class.members.as_slice())?;
     let functions = function_heads(alloc, &inside, number, class.funcs.as_slice())?;
     let outside = inside.without_class();
@@ -109,7 +109,7 @@ pub fn class<'t>(
     let heads = head(alloc, env, nameless, class)?;
     let own = own_found(alloc, &heads.env, number, nameless, class, &heads.entry)?;
     let found = taken.and(heads.found).and(own);
-    let known = heads.env.with_class(heads.entry)?;
+    let known = heads.env.with_class(alloc, heads.entry)?;
     let behind = insides_found(alloc, &known, number, class.funcs.as_slice())?;
     Ok(Walked {
         env: known,

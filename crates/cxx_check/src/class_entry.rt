@@ -165,5 +165,14 @@ pub fn class_entry<'t>(
         fields.as_slice(),
         functions.as_slice(),
     );
-    Ok(ClassEntry::new(text, base, fields, functions, size, chain, has_default))
+    ClassEntry::new(
+        alloc,
+        text,
+        base,
+        fields,
+        functions,
+        size,
+        chain,
+        has_default,
+    )
 }

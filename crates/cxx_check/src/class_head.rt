@@ -134,7 +134,7 @@ pub fn bare_class<'t>(
     let functions = bare_signatures(alloc, class.funcs.as_slice())?;
     let size = Size::new(alloc, 4)?;
     let text = class.name.text.as_bytes();
-    Ok(ClassEntry::new(text, base, fields, functions, size, 1, true))
+    ClassEntry::new(alloc, text, base, fields, functions, size, 1, true)
 }
 
 // The place of a type's name.

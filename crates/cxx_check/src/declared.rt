@@ -1,7 +1,7 @@
 // Declarations of globals and functions, and the walk over all declarations.
 ghost use Rattle.std.specs.Prelude.{◌≡◌, [], ◌&&◌, IfOk, map, Some, None};
 ghost use Rattle.cxx_ast.specs.declared.name.Bound.TheVariants.{Free};
-ghost use Rattle.cxx_ast.specs.Broken.{agree, differs_from, defined_in, function_name_found, declaration_found, declarations_found};
+ghost use Rattle.cxx_ast.specs.Broken.{function_name_found, declaration_found, declarations_found};
 ghost use Rattle.cxx_ast.specs.Declare.{declare_behind};
 ghost use Rattle.cxx_ast.specs.Lookup.{entry_of};
 ghost use Rattle.cxx_ast.specs.Plain.{function_declaration};
@@ -11,7 +11,6 @@ ghost use Rattle.cxx_rules.specs.Known.{with_global};
 ghost use Rattle.cxx_rules.specs.Summary.{seen};
 
 use crate::NoMemory;
-use crate::agree::agree;
 use crate::class::{Walked, class};
 use crate::class_head::head_found;
 use crate::inside::{inside_found, resolve_inside};
@@ -20,39 +19,14 @@ use cxx_ast::name::Name;
 use cxx_rules::{Environment, Found, Rule, Scope, Signature, Thing, signature};
 use std::alloc::Global;
 
-// One of the declarations of a function before differs.
-fn differs_from(before: &[Signature<'_>], s: &Signature<'_>) -> bool
-    ensures { result ≡ differs_from before.now s.now }
-{
-    let text = s.name().text.as_bytes();
-    for t in before {
-        if t.name().text.as_bytes() == text && !agree(t, s) {
-            return true;
-        }
-    }
-    false
-}
-
-// A function is defined among declarations.
-fn defined_in(before: &[Signature<'_>], text: &[u8]) -> bool
-    ensures { result ≡ defined_in before.now text.now }
-{
-    for t in before {
-        if t.name().text.as_bytes() == text && t.is_defined() {
-            return true;
-        }
-    }
-    false
-}
-
 // A function behind other declarations of it.
 #[tactic(auto, using(cxx_rules::proofs::FoundLaws::findings))]
 fn again_found(env: &Environment<'_>, s: &Signature<'_>) -> Found
     ensures { result ≡ seen env.now (again_found env.now s.now) }
 {
     let place = s.name().place;
-    let differs = differs_from(env.signatures(), s);
-    let twice = s.is_defined() && defined_in(env.signatures(), s.name().text.as_bytes());
+    let differs = env.signatures().differs_from(s);
+    let twice = s.is_defined() && env.signatures().defines(s.name().text.as_bytes());
     Found::broken_if(differs, Rule::SpecificationMismatch, place).and(Found::broken_if(
         twice,
         Rule::Redeclared,

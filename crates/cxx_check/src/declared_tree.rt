@@ -50,10 +50,10 @@ fn class_tree<'t>(
     let above = base_number(alloc, &heads.env, number, &class.base);
     let inside = heads
         .env
-        .with_class(bare_class(alloc, nameless, above, class)?)?;
+        .with_class(alloc, bare_class(alloc, nameless, above, class)?)?;
     let members = fields_tree(alloc, &inside, number, nameless, class.members.as_slice())?;
     let heads_in = bound_heads(alloc, &inside, number, class.funcs.as_slice())?;
-    let known = inside.without_class().with_class(heads.entry)?;
+    let known = inside.without_class().with_class(alloc, heads.entry)?;
     let funcs = methods_tree(
         alloc,
         &known,

@@ -2,7 +2,6 @@
 //! stands for, and else with the rule that is broken at the least place, and there the least number.
 #![tactic(auto)]
 
-mod agree;
 mod bound;
 mod checked;
 mod class;

@@ -4,6 +4,11 @@ pub mod ThrownLaws
 pub mod WalkLaws
 pub mod LocalLaws
 pub mod ScopeLaws
+mod RowLaws
+pub mod AgreeLaws
+mod SignatureLaws
+mod LookupLaws
+mod MemberNames
 pub mod Rows
 pub mod PathLaws
 pub mod ConstructLaws

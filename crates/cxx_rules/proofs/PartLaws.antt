@@ -4,6 +4,8 @@ use Rattle.cxx_ast.specs.declared.name.Name.{Name}
 use Rattle.cxx_ast.specs.declared.types.Param.{Param}
 use Rattle.cxx_ast.specs.Plain.{Initialiser, Function}
 use Rattle.cxx_ast.specs.Environment.{class_kind, Field, Environment, Scope, ClassEntry}
+use Rattle.cxx_ast.specs.Finding.{breaks_if}
+use Rattle.cxx_ast.specs.Rule.{redeclared}
 use Rattle.cxx_ast.specs.FunctionRules.{params_twice, initialiser_found, initialisers_found, left_part, left_fields, left_base, has_text, class_text, initialised}
 use Rattle.cxx_rules.specs.declared.found.Found.{Found}
 use Rattle.cxx_rules.specs.Parts.{param_found, param_seen, params_behind, initialisers_behind, left_behind, named_behind, left_parts, class_building}
@@ -21,22 +23,52 @@ or_swap true false c = refl
 or_swap false true c = refl
 or_swap false false c = refl
 
+-- texts as good as others
+abbrev pub SameTexts : List (List ℕ) → List (List ℕ) → Type 0
+SameTexts a b = (q : List ℕ) → has_text q a ≡ has_text q b
+
+or_around : (a b c : Bool) → (a || (b || c)) ≡ (b || (a || c))
+or_around true true c = refl
+or_around true false c = refl
+or_around false b c = refl
+
+has_behind : (q t : List ℕ) (ts : List (List ℕ)) → has_text q (ts ++ t ∷ []) ≡ (bytes_eq t q || has_text q ts)
+has_behind q t [] = refl
+has_behind q t (u ∷ ts) = ap (λ b. bytes_eq u q || b) (has_behind q t ts) ∙ or_around (bytes_eq u q) (bytes_eq t q) (has_text q ts)
+
+-- a name behind others, or in front of them
+seen_same : (p : Param) (a b : List (List ℕ)) → SameTexts a b → SameTexts (param_seen a p) (elim p.name [ None ↦ b | Some n ↦ n.text ∷ b ])
+seen_same p a b h q = by p.name
+  where
+    by : (o : Option Name) → has_text q (elim o [ None ↦ a | Some n ↦ a ++ n.text ∷ [] ]) ≡ has_text q (elim o [ None ↦ b | Some n ↦ n.text ∷ b ])
+    by None = h q
+    by (Some n) = has_behind q n.text a ∙ ap (λ x. bytes_eq n.text q || x) (h q)
+
 twice_step : (before : List (List ℕ)) (ty : _) (n : Option Name) (ps : List Param) →
     params_twice before (record { ty = ty; name = n } ∷ ps)
-    ≡ param_found before (record { ty = ty; name = n }) ++ params_twice (param_seen before (record { ty = ty; name = n })) ps
+    ≡ param_found before (record { ty = ty; name = n }) ++ params_twice (elim n [ None ↦ before | Some n ↦ n.text ∷ before ]) ps
 twice_step before ty None ps = refl
 twice_step before ty (Some n) ps = refl
 
-params_so_far : (env : Environment) (f : Found) (before : List (List ℕ)) (ps : List Param) →
-    params_behind env f before ps ≡ both f (seen env (params_twice before ps))
-params_so_far env f before [] = end_of env f
-params_so_far env f before (p ∷ ps) =
-    params_so_far env (both f (seen env (param_found before p))) (param_seen before p) ps
-    ∙ next_of env f (seen env (param_found before p)) (param_found before p) (params_twice (param_seen before p) ps) refl
-    ∙ ap (λ xs. both f (seen env xs)) (sym (twice_step before p.ty p.name ps))
+found_same : (p : Param) (a b : List (List ℕ)) → SameTexts a b → param_found a p ≡ param_found b p
+found_same p a b h = by p.name
+  where
+    by : (o : Option Name) → param_found a (record p { name = o }) ≡ param_found b (record p { name = o })
+    by None = refl
+    by (Some n) = ap (λ t. breaks_if t redeclared n.place) (h n.text)
+
+params_so_far : (env : Environment) (f : Found) (a b : List (List ℕ)) (ps : List Param) → SameTexts a b →
+    params_behind env f a ps ≡ both f (seen env (params_twice b ps))
+params_so_far env f a b [] h = end_of env f
+params_so_far env f a b (p ∷ ps) h =
+    let next : List (List ℕ) = elim p.name [ None ↦ b | Some n ↦ n.text ∷ b ] in
+    params_so_far env (both f (seen env (param_found a p))) (param_seen a p) next ps (seen_same p a b h)
+    ∙ ap (λ x. both (both f (seen env x)) (seen env (params_twice next ps))) (found_same p a b h)
+    ∙ next_of env f (seen env (param_found b p)) (param_found b p) (params_twice next ps) refl
+    ∙ ap (λ xs. both f (seen env xs)) (sym (twice_step b p.ty p.name ps))
 
 pub params_behind_is : (env : Environment) (ps : List Param) → params_behind env nothing_found [] ps ≡ seen env (params_twice [] ps)
-params_behind_is env ps = params_so_far env nothing_found [] ps ∙ nothing_both (seen env (params_twice [] ps))
+params_behind_is env ps = params_so_far env nothing_found [] [] ps (λ q. refl) ∙ nothing_both (seen env (params_twice [] ps))
 
 initialisers_so_far : (env : Environment) (sc : Scope) (c : ClassEntry) (f : Found) (before : List (List ℕ)) (is : List Initialiser) →
     initialisers_behind env sc c f before is ≡ both f (seen env (initialisers_found env sc c before is))
@@ -54,10 +86,6 @@ has_named : (q : List ℕ) (before : List (List ℕ)) (is : List Initialiser) �
 has_named q before [] = or_false (has_text q before)
 has_named q before (i ∷ is) =
     has_named q (i.name.text ∷ before) is ∙ or_swap (bytes_eq i.name.text q) (has_text q before) (has_text q (initialised is))
-
--- texts as good as others
-abbrev pub SameTexts : List (List ℕ) → List (List ℕ) → Type 0
-SameTexts a b = (q : List ℕ) → has_text q a ≡ has_text q b
 
 named_same : (is : List Initialiser) → SameTexts (named_behind [] is) (initialised is)
 named_same is q = has_named q [] is

@@ -1,14 +1,13 @@
 -- Positions in lists of texts.
-use Rattle.std.proofs.Common.{◌≡◌, ℕ, suc, ◌+◌, Bool, true, false, ◌||◌, List, [], ◌∷◌, ◌++◌, Option, Some, None, Vec, refl, ap, ◌∙◌, sym, cond, bytes_eq, find, map, nat_lt, length, position, option_map, is_some, Bor, arith, subst}
+use Rattle.std.proofs.Common.{◌≡◌, ℕ, suc, ◌+◌, Bool, true, false, ◌||◌, List, [], ◌∷◌, ◌++◌, Option, Some, None, Vec, refl, ap, ◌∙◌, sym, cond, bytes_eq, nat_lt, length, position, option_map, is_some, Bor, arith, subst}
 use Rattle.std.proofs.lemmas.Bool.Decides.{nat_tests}
 use Rattle.std.proofs.lemmas.Slice.Eq.{bytes_eq-Decides}
 use Rattle.std.specs.List.{position_or_len}
 use Rattle.std.specs.Option.{option_copied}
 use Rattle.std.specs.Map.{lookup}
 use Rattle.std.specs.declared.alloc.Global.{Global}
-use Rattle.cxx_ast.specs.Environment.{Signature}
 use Rattle.cxx_ast.specs.FunctionRules.{has_text}
-use Rattle.cxx_rules.specs.Positions.{ArePositions, at_position}
+use Rattle.cxx_rules.specs.Positions.{ArePositions}
 use Rattle.cxx_rules.proofs.NameLaws.{bytes_same}
 
 one_more : (n : ℕ) → 1 + n ≡ suc n
@@ -51,24 +50,6 @@ position-push p (x ∷ xs) y =
     by true = refl
     by false = behind_suc (position p xs) (p y) (length xs)
 
-at_suc : {X : Type 0} (x : X) (xs : List X) (o : Option ℕ) → at_position (x ∷ xs) (option_map suc o) ≡ at_position xs o
-at_suc x xs None = refl
-at_suc x xs (Some i) = refl
-
-named_by : (q : List ℕ) (s : Signature) (ss : List Signature) (b : Bool) →
-    at_position ss (position (λ d. bytes_eq d q) (map (λ s. s.name.text) ss)) ≡ find (λ s. bytes_eq s.name.text q) ss →
-    at_position (s ∷ ss) (cond b (Some 0) (option_map suc (position (λ d. bytes_eq d q) (map (λ s. s.name.text) ss))))
-    ≡ cond b (Some s) (find (λ s. bytes_eq s.name.text q) ss)
-named_by q s ss true h = refl
-named_by q s ss false h = at_suc s ss (position (λ d. bytes_eq d q) (map (λ s. s.name.text) ss)) ∙ h
-
-pub named_at : (q : List ℕ) (ss : List Signature) →
-    at_position ss (position (λ d. bytes_eq d q) (map (λ s. s.name.text) ss)) ≡ find (λ s. bytes_eq s.name.text q) ss
-named_at q [] = refl
-named_at q (s ∷ ss) =
-    ap (at_position (s ∷ ss)) (position-cons (λ d. bytes_eq d q) s.name.text (map (λ s. s.name.text) ss))
-    ∙ named_by q s ss (bytes_eq s.name.text q) (named_at q ss)
-
 some_suc : (o : Option ℕ) → is_some (option_map suc o) ≡ is_some o
 some_suc None = refl
 some_suc (Some i) = refl
@@ -81,11 +62,6 @@ has_by q ts false h = some_suc (position (λ d. bytes_eq d q) ts) ∙ h
 pub has_position : (q : List ℕ) (ts : List (List ℕ)) → is_some (position (λ d. bytes_eq d q) ts) ≡ has_text q ts
 has_position q [] = refl
 has_position q (t ∷ ts) = ap is_some (position-cons (λ d. bytes_eq d q) t ts) ∙ has_by q ts (bytes_eq t q) (has_position q ts)
-
--- what the functions of an index's position are: those of the name
-pub function_at : (q : List ℕ) (ss : List Signature) (ts : List (List ℕ)) (o : Option ℕ) →
-    o ≡ position (λ d. bytes_eq d q) ts → ts ≡ map (λ s. s.name.text) ss → at_position ss o ≡ find (λ s. bytes_eq s.name.text q) ss
-function_at q ss ts o e t = ap (at_position ss) (e ∙ ap (λ x. position (λ d. bytes_eq d q) x) t) ∙ named_at q ss
 
 -- the entries of a map behind a new one
 lookup_push : (q : List ℕ) (k : Vec ℕ Global) (n : ℕ) (es : List (Vec ℕ Global × ℕ)) →

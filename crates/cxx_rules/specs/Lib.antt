@@ -10,6 +10,7 @@ pub mod Parts
 pub mod Positions
 pub mod ScopeOf
 pub mod Seen
+pub mod SignaturesOf
 pub mod SizeOf
 pub mod Summary
 pub mod Walk

@@ -27,9 +27,9 @@ left_parts env c place names = both (left_behind env place names nothing_found c
 abbrev pub param_found : List (List ℕ) → Param → List Finding
 param_found before p = elim p.name [ None ↦ [] | Some n ↦ breaks_if (has_text n.text before) redeclared n.place ]
 
--- the names of parameters, with that of one more in front
+-- the names of parameters, with that of one more behind
 abbrev pub param_seen : List (List ℕ) → Param → List (List ℕ)
-param_seen before p = elim p.name [ None ↦ before | Some n ↦ n.text ∷ before ]
+param_seen before p = elim p.name [ None ↦ before | Some n ↦ before ++ n.text ∷ [] ]
 
 -- what was found, and parameters behind it and behind those of some names
 abbrev pub params_behind : Environment → Found → List (List ℕ) → List Param → Found

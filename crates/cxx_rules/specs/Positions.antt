@@ -1,7 +1,8 @@
 -- Texts by their positions.
-use Rattle.std.specs.Prelude.{ℕ, ◌≡◌, List, Vec, map, position, bytes_eq, Option, Some, None, slice_get}
+use Rattle.std.specs.Prelude.{ℕ, ◌≡◌, true, List, Vec, map, position, bytes_eq}
 use Rattle.std.specs.declared.alloc.Global.{Global}
 use Rattle.std.specs.Map.{lookup}
+use Rattle.cxx_ast.specs.FunctionRules.{has_text}
 
 -- texts in memory
 abbrev pub texts_of : List (Vec ℕ Global) → List (List ℕ)
@@ -11,7 +12,10 @@ texts_of = map (λ v. v.items)
 abbrev pub ArePositions : List (Vec ℕ Global × ℕ) → List (List ℕ) → Type 0
 ArePositions entries texts = (q : List ℕ) → lookup (λ k. bytes_eq q k.items) entries ≡ position (λ d. bytes_eq d q) texts
 
--- what a list has at a position, where one is given
-abbrev pub at_position : {X : Type 0} → List X → Option ℕ → Option X
-at_position xs None = None
-at_position xs (Some i) = slice_get xs i
+-- all of some names are among others
+abbrev pub AreAmong : List (List ℕ) → List (List ℕ) → Type 0
+AreAmong names texts = (q : List ℕ) → has_text q names ≡ true → has_text q texts ≡ true
+
+-- texts, with names more
+abbrev pub AreWith : (old names new : List (List ℕ)) → Type 0
+AreWith old names new = AreAmong old new × AreAmong names new

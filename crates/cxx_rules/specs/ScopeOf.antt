@@ -1,12 +1,17 @@
 -- The scope as the definitions have it.
-use Rattle.std.specs.Prelude.{ℕ, Bool, false, List, [], ◌∷◌, Vec, map}
+use Rattle.std.specs.Prelude.{ℕ, ⊤, ◌≡◌, Bool, false, List, [], ◌∷◌, Vec, map}
 use Rattle.std.specs.declared.alloc.Global.{Global}
 use Rattle.cxx_ast.specs.Environment.{Variable, Scope}
 use Rattle.cxx_ast.specs.Locals.{has_variable}
 
--- the variables in memory, innermost scope first
-abbrev pub rows_of : List (Vec Variable Global) → List (List Variable)
-rows_of = map (λ row. row.items)
+-- the variables of a scope, by their names
+abbrev pub variables_of : List (Vec ℕ Global × Variable) → List Variable
+variables_of = map (λ e. e.1)
+
+-- each is found by its own name
+abbrev pub AreNamed : List (Vec ℕ Global × Variable) → Type 0
+AreNamed [] = ⊤
+AreNamed ((name, v) ∷ es) = (name.items ≡ v.text) × AreNamed es
 
 -- a scope, in a loop or not
 abbrev pub with_loop : Bool → Scope → Scope

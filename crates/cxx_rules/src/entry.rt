@@ -1,13 +1,10 @@
-// What is known of functions, data members and classes.
-ghost use Rattle.std.specs.Prelude.{◌≡◌, option_map, Option, Some, None, slice_get, length, vec_len, IfOk};
+// What is known of functions and data members.
+ghost use Rattle.std.specs.Prelude.{◌≡◌};
 ghost use Rattle.cxx_rules.specs.KindOf.{kind_of, kinds_of};
 
-use crate::NoMemory;
 use crate::kind::Kind;
-use crate::size::Size;
 use cxx_ast::declaration::FuncKind;
 use cxx_ast::name::Name;
-use std::alloc::Global;
 use std::marker::Model;
 
 /// How a parameter takes its argument.
@@ -179,110 +176,5 @@ impl<'t> Field<'t> {
         ensures { kind_of result ≡ self.now.kind }
     {
         self.kind
-    }
-}
-
-/// A class.
-#[derive(Drop)]
-pub struct ClassEntry<'t> {
-    name: &'t [u8],
-    base: Option<usize>,
-    fields: Vec<Field<'t>>,
-    functions: Vec<Signature<'t>>,
-    size: Size,
-    chain: usize,
-    has_default: bool,
-}
-
-impl<'t> Model for ClassEntry<'t> {
-    ghost use Rattle.cxx_ast.specs.Environment as environment;
-
-    ghost Value = { environment.ClassEntry };
-
-    ghost view = { λ c. record {
-      name = c.name.now;
-      base = c.base;
-      fields = c.fields.items;
-      functions = c.functions.items;
-      size = c.size;
-      chain = c.chain;
-      has_default = c.has_default;
-    } };
-}
-
-impl<'t> ClassEntry<'t> {
-    ghost use Rattle.cxx_rules.specs.Known.{bad_exception};
-
-    /// The class `std::bad_exception`, which has no parts.
-    pub fn bad_exception(alloc: Global) -> Result<Self, NoMemory>
-        ensures { IfOk result (λ c. c ≡ bad_exception) }
-    {
-        let name = b"std::bad_exception".as_slice();
-        let size = Size::new(alloc, 4)?;
-        Ok(ClassEntry::new(name, None, Vec::new(alloc), Vec::new(alloc), size, 1, true))
-    }
-
-    pub fn new(
-        name: &'t [u8],
-        base: Option<usize>,
-        fields: Vec<Field<'t>>,
-        functions: Vec<Signature<'t>>,
-        size: Size,
-        chain: usize,
-        has_default: bool,
-    ) -> Self
-        ensures { result ≡ record { name = name.now; base = base; fields = fields.entry.items; functions = functions.entry.items; size = size; chain = chain; has_default = has_default } }
-    {
-        ClassEntry {
-            name,
-            base,
-            fields,
-            functions,
-            size,
-            chain,
-            has_default,
-        }
-    }
-
-    pub fn name(&self) -> &'t [u8]
-        ensures { result.now ≡ self.now.name }
-    {
-        self.name
-    }
-
-    pub fn base(&self) -> Option<usize>
-        ensures { result ≡ self.now.base }
-    {
-        self.base
-    }
-
-    pub fn fields(&self) -> &[Field<'t>]
-        ensures { result.now ≡ self.now.fields }
-    {
-        self.fields.as_slice()
-    }
-
-    pub fn functions(&self) -> &[Signature<'t>]
-        ensures { result.now ≡ self.now.functions }
-    {
-        self.functions.as_slice()
-    }
-
-    pub fn size(&self) -> &Size
-        ensures { result.now ≡ self.now.size }
-    {
-        &self.size
-    }
-
-    pub fn chain(&self) -> usize
-        ensures { result ≡ self.now.chain }
-    {
-        self.chain
-    }
-
-    pub fn has_default(&self) -> bool
-        ensures { result ≡ self.now.has_default }
-    {
-        self.has_default
     }
 }

@@ -1,34 +1,37 @@
 // What is known of the names that a program declared so far.
-ghost use Rattle.std.specs.Prelude.{◌≡◌, option_map, find, bytes_eq, slice_get, length, IfOk};
+ghost use Rattle.std.specs.Prelude.{◌≡◌, true, option_map, find, bytes_eq, slice_get, length, IfOk};
 ghost use Rattle.cxx_ast.specs.ClassRules.{is_taken};
 ghost use Rattle.cxx_ast.specs.Declare.{with_name, with_class, with_signature};
 ghost use Rattle.cxx_ast.specs.FunctionRules.{has_text};
 ghost use Rattle.cxx_ast.specs.Lookup.{entry_of};
 ghost use Rattle.cxx_ast.specs.Resolve.{function_number};
-ghost use Rattle.cxx_rules.specs.Positions.{at_position};
+ghost use Rattle.cxx_rules.specs.Known.{part_names, HasNoMember};
+ghost use Rattle.cxx_rules.specs.Positions.{AreWith};
 
 use crate::NoMemory;
-use crate::entry::{ClassEntry, Signature};
+use crate::class::ClassEntry;
+use crate::entry::Signature;
 use crate::names::{Names, Thing};
+use crate::signatures::Signatures;
 use crate::texts::Texts;
 use std::alloc::Global;
 use std::marker::Model;
 
 /// The classes by number, the names of the one scope in order, how many globals there are, each declaration of a function, and
-/// the names of all functions that the program defines.
+/// the names of all functions that the program defines. `members` has the names of all parts of classes, maybe of others too.
 #[derive(Drop)]
 pub struct Environment<'t> {
     classes: Vec<ClassEntry<'t>>,
     names: Names,
     globals: usize,
-    signatures: Vec<Signature<'t>>,
-    texts: Texts,
+    signatures: Signatures<'t>,
+    members: Texts,
     definitions: Texts,
 }
 
 impl<'t> Model for Environment<'t> {
     ghost use Rattle.cxx_ast.specs.Environment as environment;
-    ghost use Rattle.std.specs.Prelude.{◌≡◌, map as each};
+    ghost use Rattle.cxx_rules.specs.Known.{HaveMembers};
 
     ghost Value = { environment.Environment };
 
@@ -36,11 +39,11 @@ impl<'t> Model for Environment<'t> {
       classes = e.classes.items;
       names = e.names;
       globals = e.globals;
-      signatures = e.signatures.items;
+      signatures = e.signatures;
       definitions = e.definitions;
     } };
 
-    ghost invariant = { λ e. e.texts ≡ each (λ s. s.name.text) e.signatures.items };
+    ghost invariant = { λ e. HaveMembers e.members e.classes.items };
 }
 
 impl<'t> Environment<'t> {
@@ -58,8 +61,8 @@ impl<'t> Environment<'t> {
             classes,
             names: Names::new(alloc),
             globals: 0,
-            signatures: Vec::new(alloc),
-            texts: Texts::new(alloc),
+            signatures: Signatures::new(alloc),
+            members: Texts::new(alloc),
             definitions,
         })
     }
@@ -83,7 +86,7 @@ impl<'t> Environment<'t> {
             mut names,
             globals,
             signatures,
-            texts,
+            members,
             definitions,
         } = self;
         names.add(alloc, text, thing)?;
@@ -92,13 +95,13 @@ impl<'t> Environment<'t> {
             names,
             globals,
             signatures,
-            texts,
+            members,
             definitions,
         })
     }
 
     /// What is known with a class more.
-    pub fn with_class(self, entry: ClassEntry<'t>) -> Result<Self, NoMemory>
+    pub fn with_class(self, alloc: Global, entry: ClassEntry<'t>) -> Result<Self, NoMemory>
         ensures { IfOk result (λ e. e ≡ with_class self.entry entry.entry) }
     {
         let Environment {
@@ -106,16 +109,17 @@ impl<'t> Environment<'t> {
             names,
             globals,
             signatures,
-            texts,
+            members,
             definitions,
         } = self;
+        let members = with_members(alloc, members, &entry)?;
         classes.push(entry)?;
         Ok(Environment {
             classes,
             names,
             globals,
             signatures,
-            texts,
+            members,
             definitions,
         })
     }
@@ -129,7 +133,7 @@ impl<'t> Environment<'t> {
             names,
             globals,
             signatures,
-            texts,
+            members,
             definitions,
         } = self;
         classes.pop();
@@ -138,7 +142,7 @@ impl<'t> Environment<'t> {
             names,
             globals,
             signatures,
-            texts,
+            members,
             definitions,
         }
     }
@@ -151,18 +155,17 @@ impl<'t> Environment<'t> {
             classes,
             names,
             globals,
-            mut signatures,
-            texts,
+            signatures,
+            members,
             definitions,
         } = self;
-        let texts = texts.with(alloc, signature.name().text.as_bytes())?;
-        signatures.push(signature)?;
+        let signatures = signatures.with(alloc, signature)?;
         Ok(Environment {
             classes,
             names,
             globals,
             signatures,
-            texts,
+            members,
             definitions,
         })
     }
@@ -190,7 +193,7 @@ impl<'t> Environment<'t> {
             names,
             globals: _,
             signatures,
-            texts,
+            members,
             definitions,
         } = self;
         Environment {
@@ -198,7 +201,7 @@ impl<'t> Environment<'t> {
             names,
             globals,
             signatures,
-            texts,
+            members,
             definitions,
         }
     }
@@ -227,11 +230,18 @@ impl<'t> Environment<'t> {
         self.classes.len()
     }
 
-    /// Each declaration of a function.
-    pub fn signatures(&self) -> &[Signature<'t>]
+    /// The declarations of functions.
+    pub fn signatures(&self) -> &Signatures<'t>
         ensures { result.now ≡ self.now.signatures }
     {
-        self.signatures.as_slice()
+        &self.signatures
+    }
+
+    /// No class has a part of a name.
+    pub fn has_no_member(&self, text: &[u8]) -> bool
+        ensures { result ≡ true → HasNoMember text.now self.now.classes }
+    {
+        !self.members.contains(text)
     }
 
     /// How many globals there are.
@@ -252,7 +262,7 @@ impl<'t> Environment<'t> {
     pub fn function(&self, text: &[u8]) -> Option<&Signature<'t>>
         ensures { option_map (λ s. s.now) result ≡ find (λ s. bytes_eq s.name.text text.now) self.now.signatures }
     {
-        first_at(self.signatures.as_slice(), self.texts.position(text))
+        self.signatures.first(text)
     }
 
     /// The number of a function among those that the program defines; one that is never defined has the number behind them.
@@ -272,15 +282,11 @@ impl<'t> Environment<'t> {
     }
 }
 
-// What stands at a position, where one is given.
-fn first_at<'a, 't>(
-    signatures: &'a [Signature<'t>],
-    position: Option<usize>,
-) -> Option<&'a Signature<'t>>
-    ensures { option_map (λ s. s.now) result ≡ at_position signatures.now position }
+// The names of a class's parts among those of parts of classes.
+fn with_members(alloc: Global, members: Texts, class: &ClassEntry<'_>) -> Result<Texts, NoMemory>
+    ensures { IfOk result (λ m. AreWith members (part_names class.now) m) }
 {
-    match position {
-        None => None,
-        Some(i) => signatures.get(i),
-    }
+    let named = members.with_all(alloc, class.field_names())?;
+    let all = named.with_all(alloc, class.function_names())?;
+    Ok(all)
 }

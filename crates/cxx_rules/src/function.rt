@@ -10,53 +10,54 @@ ghost use Rattle.cxx_rules.specs.Parts.{texts_now, param_found, param_seen, para
 ghost use Rattle.cxx_rules.specs.Summary.{nothing_found, seen};
 
 use crate::NoMemory;
-use crate::entry::ClassEntry;
+use crate::class::ClassEntry;
 use crate::environment::Environment;
 use crate::found::Found;
-use crate::initialiser::{has_text, initialiser_found, left_base, left_fields};
+use crate::initialiser::{initialiser_found, left_base, left_fields};
 use crate::kind::Kind;
 use crate::rule::Rule;
 use crate::scope::Scope;
 use crate::simple::declare_param;
 use crate::statement::statements;
+use crate::texts::Texts;
 use crate::types::type_kind;
 use cxx_ast::declaration::{Func, FuncKind, Init};
 use cxx_ast::types::{Param, Ty};
 use std::alloc::Global;
 
-// A parameter behind those of some names, to which its own is added.
+// A parameter behind those of some names.
 #[tactic(auto, using(crate::proofs::FoundLaws::findings))]
-fn param_found<'t>(
-    _env: &Environment<'_>,
-    before: &mut Vec<&'t [u8]>,
-    param: &'t Param,
-) -> Result<Found, NoMemory>
-    ensures found { IfOk result (λ f. f ≡ seen _env.now (param_found (texts_now before.old.items) param.now)) }
-    ensures before { OnOk result (texts_now before.new.items ≡ param_seen (texts_now before.old.items) param.now) }
+fn param_found(_env: &Environment<'_>, before: &Texts, param: &Param) -> Found
+    ensures { result ≡ seen _env.now (param_found before.now param.now) }
 {
     match &param.name {
-        None => Ok(Found::nothing()),
+        None => Found::nothing(),
         Some(name) => {
-            let text = name.text.as_bytes();
-            let twice = has_text(text, before.as_slice());
-            before.insert(0, text)?;
-            Ok(Found::broken_if(twice, Rule::Redeclared, name.place))
+            let twice = before.contains(name.text.as_bytes());
+            Found::broken_if(twice, Rule::Redeclared, name.place)
         }
     }
 }
 
+// The names of parameters with that of one more.
+fn param_seen(alloc: Global, before: Texts, param: &Param) -> Result<Texts, NoMemory>
+    ensures { IfOk result (λ names. names ≡ param_seen before param.now) }
+{
+    match &param.name {
+        None => Ok(before),
+        Some(name) => before.with(alloc, name.text.as_bytes()),
+    }
+}
+
 // Parameters one by one.
-fn each_param<'t>(
-    alloc: Global,
-    env: &Environment<'_>,
-    params: &'t [Param],
-) -> Result<Found, NoMemory>
+fn each_param(alloc: Global, env: &Environment<'_>, params: &[Param]) -> Result<Found, NoMemory>
     ensures { IfOk result (λ f. f ≡ params_behind env.now nothing_found [] params.now) }
 {
-    let mut before = Vec::new(alloc);
+    let mut before = Texts::new(alloc);
     let mut found = Found::nothing();
     for param in params {
-        found = found.and(param_found(env, &mut before, param)?);
+        found = found.and(param_found(env, &before, param));
+        before = param_seen(alloc, before, param)?;
     }
     Ok(found)
 }

@@ -11,8 +11,9 @@ ghost use Rattle.cxx_rules.specs.Seen.{judgements_seen};
 ghost use Rattle.cxx_rules.specs.Summary.{nothing_found, seen};
 
 use crate::NoMemory;
+use crate::class::ClassEntry;
 use crate::construct::{construction_found, has_default};
-use crate::entry::{ClassEntry, Field};
+use crate::entry::Field;
 use crate::environment::Environment;
 use crate::expression::all_judged;
 use crate::found::Found;
@@ -24,8 +25,8 @@ use crate::scope::Scope;
 use cxx_ast::declaration::Init;
 use std::alloc::Global;
 
-/// A list of texts has one.
-pub fn has_text(text: &[u8], texts: &[&[u8]]) -> bool
+// A list of texts has one.
+fn has_text(text: &[u8], texts: &[&[u8]]) -> bool
     ensures { result ≡ has_text text.now (texts_now texts.now) }
 {
     for t in texts {

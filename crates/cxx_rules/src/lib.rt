@@ -3,7 +3,9 @@
 //! tree: the broken rule at the least place, and there the least number.
 #![tactic(auto)]
 
+mod agree;
 mod call;
+mod class;
 mod construct;
 mod entry;
 mod environment;
@@ -21,8 +23,10 @@ mod member;
 mod names;
 mod object_call;
 mod reference;
+mod row;
 mod rule;
 mod scope;
+mod signatures;
 mod simple;
 mod size;
 mod statement;
@@ -30,10 +34,11 @@ mod texts;
 mod thrown;
 mod types;
 
+pub use class::ClassEntry;
 pub use construct::{
     are_copy_parameters, construction_found, constructor_with, declares_constructor, has_default,
 };
-pub use entry::{ClassEntry, Field, Passing, Signature};
+pub use entry::{Field, Passing, Signature};
 pub use environment::Environment;
 pub use expression::{all_judged, judged};
 pub use found::{Found, Refusal};
@@ -46,8 +51,10 @@ pub use meaning::{builtin_named, look, member_meaning, own_meaning};
 pub use member::derives;
 pub use names::{Names, Thing};
 pub use object_call::std_builtin;
+pub use row::Variable;
 pub use rule::Rule;
-pub use scope::{Scope, Variable};
+pub use scope::Scope;
+pub use signatures::Signatures;
 pub use simple::declare_param;
 pub use size::Size;
 pub use statement::{declare_caught, statements};

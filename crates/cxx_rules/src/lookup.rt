@@ -1,11 +1,12 @@
 // What a name means where it stands.
-ghost use Rattle.std.specs.Prelude.{◌≡◌, option_map};
+ghost use Rattle.std.specs.Prelude.{◌≡◌, option_map, drop};
 ghost use Rattle.cxx_ast.specs.Lookup.{in_reach, field_named, method_named, first_of_two, is_method};
 ghost use Rattle.cxx_rules.specs.MeaningOf.{member_found, own_member};
 
-use crate::entry::{ClassEntry, Field, Signature};
+use crate::class::ClassEntry;
+use crate::entry::{Field, Signature};
 use crate::kind::Kind;
-use crate::scope::Variable;
+use crate::row::Variable;
 use cxx_ast::declaration::FuncKind;
 use cxx_ast::name::{Builtin, Name};
 
@@ -39,16 +40,18 @@ fn is_in_reach(limit: Option<u32>, name: &Name) -> bool
     }
 }
 
-// The data member with a name.
+// The data member with a name, from the i-th on.
 fn field<'e, 't>(
     limit: Option<u32>,
     text: &[u8],
     class: usize,
+    first: usize,
     fields: &'e [Field<'t>],
 ) -> Option<Member<'e, 't>>
-    ensures { option_map member_found result ≡ field_named limit text.now class 0 fields.now }
+    ensures { option_map member_found result ≡ field_named limit text.now class first (drop first fields.now) }
 {
-    for (i, f) in fields.iter().enumerate() {
+    for i in first..fields.len() {
+        let f = &fields[i];
         let name = f.name();
         if is_in_reach(limit, name) && name.text.as_bytes() == text {
             return Some(Member {
@@ -67,16 +70,18 @@ fn is_method(form: FuncKind) -> bool
     matches!(form, FuncKind::Method)
 }
 
-// The member function with a name.
+// The member function with a name, from the i-th function on.
 fn method<'e, 't>(
     limit: Option<u32>,
     text: &[u8],
     class: usize,
+    first: usize,
     functions: &'e [Signature<'t>],
 ) -> Option<Member<'e, 't>>
-    ensures { option_map member_found result ≡ method_named limit text.now class 0 functions.now }
+    ensures { option_map member_found result ≡ method_named limit text.now class first (drop first functions.now) }
 {
-    for (i, f) in functions.iter().enumerate() {
+    for i in first..functions.len() {
+        let f = &functions[i];
         let name = f.name();
         if is_method(f.form()) && is_in_reach(limit, name) && name.text.as_bytes() == text {
             return Some(Member {
@@ -110,6 +115,36 @@ fn first_of_two<'e, 't>(
     }
 }
 
+// The data member of a class with a name: none stands before the first that has it.
+fn own_field<'e, 't>(
+    limit: Option<u32>,
+    text: &[u8],
+    number: usize,
+    class: &'e ClassEntry<'t>,
+) -> Option<Member<'e, 't>>
+    ensures { option_map member_found result ≡ field_named limit text.now number 0 class.now.fields }
+{
+    match class.first_field(text) {
+        None => None,
+        Some(first) => field(limit, text, number, first, class.fields()),
+    }
+}
+
+// The member function of a class with a name: none stands before the first function that has it.
+fn own_method<'e, 't>(
+    limit: Option<u32>,
+    text: &[u8],
+    number: usize,
+    class: &'e ClassEntry<'t>,
+) -> Option<Member<'e, 't>>
+    ensures { option_map member_found result ≡ method_named limit text.now number 0 class.now.functions }
+{
+    match class.first_function(text) {
+        None => None,
+        Some(first) => method(limit, text, number, first, class.functions()),
+    }
+}
+
 // The member of a class with a name.
 pub fn own_member<'e, 't>(
     limit: Option<u32>,
@@ -120,7 +155,7 @@ pub fn own_member<'e, 't>(
     ensures { option_map member_found result ≡ own_member limit text.now number class.now }
 {
     first_of_two(
-        field(limit, text, number, class.fields()),
-        method(limit, text, number, class.functions()),
+        own_field(limit, text, number, class),
+        own_method(limit, text, number, class),
     )
 }

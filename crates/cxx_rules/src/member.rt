@@ -43,6 +43,9 @@ pub fn member<'e, 't>(
 ) -> Meaning<'e, 't>
     ensures { meaning_of result ≡ member_of (length env.now.classes) env.now class limit text.now }
 {
+    if env.has_no_member(text) {
+        return Meaning::Unknown;
+    }
     let mut class = class;
     let count = env.class_count();
     for _ in 0..count {

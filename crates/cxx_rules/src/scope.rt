@@ -1,79 +1,24 @@
 // The variables in reach where a name stands.
-ghost use Rattle.std.specs.Prelude.{◌≡◌, option_map, OnOk, IfOk, find, bytes_eq, ◌+◌, [], ◌∷◌};
-ghost use Rattle.cxx_ast.specs.Locals.{declare, inner, has_variable, outermost};
+ghost use Rattle.std.specs.Prelude.{◌≡◌, option_map, OnOk, IfOk, ◌+◌, [], ◌∷◌};
+ghost use Rattle.cxx_ast.specs.Locals.{declare, inner, outermost};
 ghost use Rattle.cxx_ast.specs.Lookup.{variable_named};
 ghost use Rattle.cxx_rules.specs.KindOf.{kind_of};
 ghost use Rattle.cxx_rules.specs.Walk.{first_length, rewound};
-ghost use Rattle.cxx_rules.specs.ScopeOf.{rows_of, with_loop, closed, has_first};
+ghost use Rattle.cxx_rules.specs.ScopeOf.{with_loop, closed, has_first};
 
 use crate::NoMemory;
 use crate::kind::Kind;
+use crate::row::{Row, Variable};
 use cxx_ast::name::Name;
 use std::alloc::Global;
 use std::marker::Model;
-
-/// A parameter or a local variable, with its number in the function.
-#[derive(Drop)]
-pub struct Variable<'t> {
-    text: &'t [u8],
-    kind: Kind,
-    is_const: bool,
-    number: usize,
-}
-
-impl<'t> Model for Variable<'t> {
-    ghost use Rattle.cxx_ast.specs.Environment as environment;
-
-    ghost Value = { environment.Variable };
-
-    ghost use Rattle.cxx_rules.specs.KindOf.{kind_of};
-
-    ghost view = { λ v. record { text = v.text.now; kind = kind_of v.kind; is_const = v.is_const; number = v.number } };
-}
-
-impl<'t> Variable<'t> {
-    pub fn new(text: &'t [u8], kind: Kind, is_const: bool, number: usize) -> Self
-        ensures { result ≡ record { text = text.now; kind = kind_of kind; is_const = is_const; number = number } }
-    {
-        Variable {
-            text,
-            kind,
-            is_const,
-            number,
-        }
-    }
-
-    pub fn text(&self) -> &'t [u8]
-        ensures { result.now ≡ self.now.text }
-    {
-        self.text
-    }
-
-    pub fn kind(&self) -> Kind
-        ensures { kind_of result ≡ self.now.kind }
-    {
-        self.kind
-    }
-
-    pub fn is_const(&self) -> bool
-        ensures { result ≡ self.now.is_const }
-    {
-        self.is_const
-    }
-
-    pub fn number(&self) -> usize
-        ensures { result ≡ self.now.number }
-    {
-        self.number
-    }
-}
 
 /// Where a name stands: the variables in reach, innermost scope first, and how many the function has declared; the class of the
 /// function, of which only the members before a place are in reach, where one is given; whether the function gives a value;
 /// whether a loop is round it.
 #[derive(Drop)]
 pub struct Scope<'t> {
-    rows: Vec<Vec<Variable<'t>>>,
+    rows: Vec<Row<'t>>,
     next: usize,
     own: Option<usize>,
     limit: Option<u32>,
@@ -86,10 +31,8 @@ impl<'t> Model for Scope<'t> {
 
     ghost Value = { environment.Scope };
 
-    ghost use Rattle.cxx_rules.specs.ScopeOf.{rows_of};
-
     ghost view = { λ s. record {
-      locals = rows_of s.rows.items;
+      locals = s.rows.items;
       next = s.next;
       own = s.own;
       limit = s.limit;
@@ -98,36 +41,22 @@ impl<'t> Model for Scope<'t> {
     } };
 }
 
-// The variable of a name in one scope.
-fn variable_in<'a, 't>(row: &'a [Variable<'t>], text: &[u8]) -> Option<&'a Variable<'t>>
-    ensures { option_map (λ v. v.now) result ≡ find (λ v. bytes_eq v.text text.now) row.now }
-{
-    row.iter().find(|v| v.text() == text)
-}
-
-// One scope has a name.
-fn has_variable(row: &[Variable<'_>], text: &[u8]) -> bool
-    ensures { result ≡ has_variable text.now row.now }
-{
-    variable_in(row, text).is_some()
-}
-
 // The first scope has a name.
-fn has_first(rows: &[Vec<Variable<'_>>], text: &[u8]) -> bool
-    ensures { result ≡ has_first text.now (rows_of rows.now) }
+fn has_first(rows: &[Row<'_>], text: &[u8]) -> bool
+    ensures { result ≡ has_first text.now rows.now }
 {
     match rows {
         [] => false,
-        [row, ..] => has_variable(row.as_slice(), text),
+        [row, ..] => row.contains(text),
     }
 }
 
 // The variable of a name in the first scope that has one.
-fn variable_among<'a, 't>(rows: &'a [Vec<Variable<'t>>], text: &[u8]) -> Option<&'a Variable<'t>>
-    ensures { option_map (λ v. v.now) result ≡ variable_named text.now (rows_of rows.now) }
+fn variable_among<'a, 't>(rows: &'a [Row<'t>], text: &[u8]) -> Option<&'a Variable<'t>>
+    ensures { option_map (λ v. v.now) result ≡ variable_named text.now rows.now }
 {
     for row in rows {
-        if let Some(v) = variable_in(row.as_slice(), text) {
+        if let Some(v) = row.get(text) {
             return Some(v);
         }
     }
@@ -154,7 +83,7 @@ impl<'t> Scope<'t> {
         ensures { IfOk result (λ s. s ≡ record outermost { locals = [] ∷ []; own = own; gives_value = gives_value }) }
     {
         let mut rows = Vec::new(alloc);
-        rows.push(Vec::new(alloc))?;
+        rows.push(Row::new(alloc))?;
         Ok(Scope {
             rows,
             next: 0,
@@ -207,7 +136,7 @@ impl<'t> Scope<'t> {
     pub fn open(&mut self, alloc: Global) -> Result<(), NoMemory>
         ensures { OnOk result (self.new ≡ inner self.old) }
     {
-        self.rows.insert(0, Vec::new(alloc))?;
+        self.rows.insert(0, Row::new(alloc))?;
         Ok(())
     }
 

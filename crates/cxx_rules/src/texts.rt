@@ -1,7 +1,7 @@
 // Names by their positions in a list.
 ghost use Rattle.std.specs.Prelude.{◌≡◌, ◌++◌, ◌∷◌, [], position, bytes_eq, IfOk, length, List, ℕ};
 ghost use Rattle.cxx_ast.specs.FunctionRules.{has_text};
-ghost use Rattle.cxx_rules.specs.Positions.{ArePositions};
+ghost use Rattle.cxx_rules.specs.Positions.{ArePositions, AreWith};
 
 use crate::NoMemory;
 use indexmap::IndexMap;
@@ -66,6 +66,28 @@ impl Texts {
         let first = numbered(alloc, first, text, items.len())?;
         items.push(Vec::from_slice(alloc, text)?)?;
         Ok(Texts { first, items })
+    }
+
+    // The list with a text, which is put behind the others unless it is there.
+    fn with_one(self, alloc: Global, text: &[u8]) -> Result<Self, NoMemory>
+        ensures { IfOk result (λ t. AreWith self (text.now ∷ []) t) }
+    {
+        if self.contains(text) {
+            return Ok(self);
+        }
+        let texts = self.with(alloc, text)?;
+        Ok(texts)
+    }
+
+    /// The list with the texts of another, those behind it that are not there.
+    pub fn with_all(self, alloc: Global, others: &Texts) -> Result<Self, NoMemory>
+        ensures { IfOk result (λ t. AreWith self others.now t) }
+    {
+        let mut texts = self;
+        for text in others.items.as_slice() {
+            texts = texts.with_one(alloc, text.as_slice())?;
+        }
+        Ok(texts)
     }
 }
 

@@ -13,7 +13,7 @@ use Rattle.cxx_ast.specs.declared.types.Param.{Param}
 use Rattle.cxx_ast.specs.Rule.{redeclared, specification_mismatch}
 use Rattle.cxx_ast.specs.Finding.{breaks_if}
 use Rattle.cxx_ast.specs.Plain.{Checked, Function, Statements, function_declaration}
-use Rattle.cxx_ast.specs.Environment.{Kind, int_kind, truth_kind, void_kind, class_kind, no_kind, same_kind, Passing, Signature, Thing, global_thing, class_thing, function_thing, Entry, Environment, Scope}
+use Rattle.cxx_ast.specs.Environment.{Kind, int_kind, void_kind, same_kind, Passing, Signature, Thing, global_thing, class_thing, function_thing, Entry, Environment, Scope}
 use Rattle.cxx_ast.specs.Lookup.{entry_of}
 use Rattle.cxx_ast.specs.TypeNames.{passing, type_kind, type_found, specification_found, head_types_found, has_body, signature}
 use Rattle.cxx_ast.specs.Locals.{outermost, declare_params}
@@ -27,6 +27,7 @@ use Rattle.cxx_ast.specs.Written.{Written, written_class, written_global, writte
 use Rattle.cxx_ast.specs.Checked.{IsChecked, resolve_declarations, functions_of}
 use Rattle.cxx_ast.specs.Settled.{settle_function}
 use Rattle.std.proofs.lemmas.Option.{slice_get-map}
+use Rattle.cxx_rules.proofs.AgreeLaws.{same_test_is, same_kind_is}
 use Rattle.cxx_rules.proofs.TextLaws.{position-cons}
 use Rattle.meaning_forms.specs.Class.{object_type, function_at, no_function}
 use Rattle.region_formed.proofs.Fine.{Fine, fine_parts, not_broken}
@@ -56,39 +57,6 @@ function_heads defined env f h =
     )
 
 -- declarations of a name agree with the first
-same_test_is : (a b : Bool) → same_test a b ≡ true → a ≡ b
-same_test_is true true h = refl
-same_test_is true false h = absurd (cc h)
-same_test_is false true h = absurd (cc h)
-same_test_is false false h = refl
-
-same_kind_is : (a b : Kind) → same_kind a b ≡ true → a ≡ b
-same_kind_is int_kind int_kind h = refl
-same_kind_is truth_kind truth_kind h = refl
-same_kind_is void_kind void_kind h = refl
-same_kind_is no_kind no_kind h = refl
-same_kind_is (class_kind j) (class_kind k) h = let same : j ≡ k = grind (arith, nat_tests, h) in ap class_kind same
-same_kind_is int_kind truth_kind h = absurd (cc h)
-same_kind_is int_kind void_kind h = absurd (cc h)
-same_kind_is int_kind (class_kind k) h = absurd (cc h)
-same_kind_is int_kind no_kind h = absurd (cc h)
-same_kind_is truth_kind int_kind h = absurd (cc h)
-same_kind_is truth_kind void_kind h = absurd (cc h)
-same_kind_is truth_kind (class_kind k) h = absurd (cc h)
-same_kind_is truth_kind no_kind h = absurd (cc h)
-same_kind_is void_kind int_kind h = absurd (cc h)
-same_kind_is void_kind truth_kind h = absurd (cc h)
-same_kind_is void_kind (class_kind k) h = absurd (cc h)
-same_kind_is void_kind no_kind h = absurd (cc h)
-same_kind_is (class_kind j) int_kind h = absurd (cc h)
-same_kind_is (class_kind j) truth_kind h = absurd (cc h)
-same_kind_is (class_kind j) void_kind h = absurd (cc h)
-same_kind_is (class_kind j) no_kind h = absurd (cc h)
-same_kind_is no_kind int_kind h = absurd (cc h)
-same_kind_is no_kind truth_kind h = absurd (cc h)
-same_kind_is no_kind void_kind h = absurd (cc h)
-same_kind_is no_kind (class_kind k) h = absurd (cc h)
-
 parameters_agree : (n : ℕ) (qs os : List Passing) (xs : List Param) → same_parameters qs os ≡ true → ParamsMeant n os xs → ParamsMeant n qs xs
 parameters_agree n [] [] xs e h = h
 parameters_agree n [] (o ∷ os) xs e h = absurd (cc e)

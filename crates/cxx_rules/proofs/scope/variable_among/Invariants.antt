@@ -1,7 +1,6 @@
 use Rattle.std.proofs.Common.{◌≡◌, drop}
 use Rattle.cxx_ast.specs.Lookup.{variable_named}
-use Rattle.cxx_rules.specs.ScopeOf.{rows_of}
 use Rattle.cxx_rules.proofs.scope.variable_among.Given as goal
 
 abbrev pub invariant-loop-row : goal.invariant-loop-row
-invariant-loop-row l = variable_named l.text (rows_of (drop l.row-index l.rows)) ≡ variable_named l.text (rows_of l.rows)
+invariant-loop-row l = variable_named l.text (drop l.row-index l.rows) ≡ variable_named l.text l.rows

@@ -1,7 +1,7 @@
 use Rattle.std.proofs.Common.{◌≡◌, ◌≢◌, suc, Bool, true, false, ◌&&◌, List, [], ◌∷◌, length, refl, ap, ◌∙◌, sym}
 use Rattle.cxx_ast.specs.Environment.{Passing}
 use Rattle.cxx_ast.specs.Broken.{same_passing, same_parameters}
-use Rattle.cxx_check.proofs.agree.same_parameters.Goals as goal
+use Rattle.cxx_rules.proofs.agree.same_parameters.Goals as goal
 
 and_false : (b : Bool) → (b && false) ≡ false
 and_false true = refl

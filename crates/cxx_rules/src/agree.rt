@@ -3,7 +3,8 @@ ghost use Rattle.std.specs.Prelude.{◌≡◌, ◌&&◌, map};
 ghost use Rattle.cxx_ast.specs.Broken.{same_passing, same_parameters, has_kind, all_in, same_allowed, agree};
 ghost use Rattle.cxx_rules.specs.KindOf.{kind_of, kinds_of};
 
-use cxx_rules::{Kind, Passing, Signature};
+use crate::entry::{Passing, Signature};
+use crate::kind::Kind;
 
 // Two parameters are of the same type.
 fn same_passing(p: &Passing, q: &Passing) -> bool
