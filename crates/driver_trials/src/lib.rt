@@ -26,3 +26,5 @@ mod meanings;
 mod outside;
 #[cfg(test)]
 mod pack;
+#[cfg(test)]
+mod produced;
