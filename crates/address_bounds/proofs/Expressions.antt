@@ -16,9 +16,9 @@ use Rattle.meaning_forms.specs.Class.{int_type, class_type, class_named, object_
 use Rattle.meaning_forms.specs.Frame.{Variable}
 use Rattle.meaning_forms.specs.Expression.{types_of, lvalue_of, names_of, callee_bound, receiver, parameter_types, function_named}
 use Rattle.meaning_forms.specs.Running.{function, method}
-use Rattle.region_forms.specs.Form.{Value, number as number_value, call_value, Callee, defined, Place, Argument, address_argument, Region, branch, in_order, arguments_from}
+use Rattle.region_forms.specs.Form.{Value, number as number_value, call_value, Callee, defined, Place, Argument, address_argument, Region, op, store, branch, in_order, arguments_from}
 use Rattle.region_forms.specs.Numbering.{number_of, declared_in_body}
-use Rattle.region_forms.specs.LowerExpression.{result_slot, place_of, has_call, some_call, Lowered, LoweredArguments, LoweredCall, stored_in, in_temporary, truth_of, if_true, if_false, left_stored, both, handler_arguments, call_of, call_stored, call_dropped, int_passed, address_passed, refers, lower, lower_arguments, dropped}
+use Rattle.region_forms.specs.LowerExpression.{result_slot, place_of, has_call, some_call, Lowered, LoweredArguments, LoweredCall, stored_in, in_temporary, truth_of, if_true, if_false, left_stored, both, handler_arguments, call_of, call_placed, call_stored, call_dropped, int_passed, address_passed, refers, lower, lower_arguments, dropped, lower_store}
 use Rattle.region_simulation.specs.Typing.{CanPass, CanCall, IsStandard, UnlessHandler, IsTyped, AreTyped}
 use Rattle.address_bounds.specs.Rooms.{Reach, HasRoom}
 use Rattle.address_bounds.specs.Reaches.{ValueReaches, callee_needs}
@@ -306,3 +306,25 @@ module _ (w : Where) (k : Known w) where
   dropped_reaches xs within (path names) t later h = (names_room w k xs within names int_type h, tt)
   dropped_reaches xs within (unary o e place) t later h = let x = reaches xs within (unary o e place) t later h in both_reach w (lower w.lowering (unary o e place) t).before _ x.before (x.value, tt)
   dropped_reaches xs within (binary o a b) t later h = let x = reaches xs within (binary o a b) t later h in both_reach w (lower w.lowering (binary o a b) t).before _ x.before (x.value, tt)
+
+  -- an expression whose value is stored in a place
+  call_placed_reaches : (p : Place) (c : LoweredCall) → HasRoom w.reach w.slots p 4 → CallReaches c → AllReach w (call_placed p c)
+  call_placed_reaches p c room r =
+      both_reach w c.before (op (store p (call_value c.callee (arguments_from c.arguments))) ∷ []) r.before ((room, given_reach w (callee_needs w.needs c.callee) 0 c.arguments r.given), tt)
+
+  pub store_reaches : (xs : List Variable) → Within w.lowering xs → (e : Expression) (p : Place) (t : ℕ) → result_slot w.lowering ≤ t → HasRoom w.reach w.slots p 4 → IsTyped w.lowering w.own xs e
+      → AllReach w (lower_store w.lowering e p t)
+  store_reaches xs within (call names es) p t later room h =
+      let types : List Ty = parameter_types w.lowering.program (callee_bound names) in
+      call_placed_reaches p (call_of w.lowering (callee_bound names) (receiver names) es (lower_arguments w.lowering es types t)) room
+      (call_reaches xs within (callee_bound names) (receiver names) es (lower_arguments w.lowering es types t) h.0
+      (unless (callee_bound names) (λ typed wants i are. arguments_reach xs within es types wants i t later are typed) h.1))
+  store_reaches xs within (std_call n es place) p t later room h =
+      call_placed_reaches p (call_of w.lowering n.bound [] es (lower_arguments w.lowering es [] t)) room
+      (call_reaches xs within n.bound [] es (lower_arguments w.lowering es [] t) (standard_can xs n.bound es h.0)
+      (standard_types n.bound es (lower_arguments w.lowering es [] t) h.0 (unless n.bound (λ typed wants i are. arguments_reach xs within es [] wants i t later are typed) h.1)))
+  store_reaches xs within (paren e place) p t later room h = store_reaches xs within e p t later room h
+  store_reaches xs within (number v place) p t later room h = ((room, tt), tt)
+  store_reaches xs within (path names) p t later room h = ((room, names_room w k xs within names int_type h), tt)
+  store_reaches xs within (unary o e place) p t later room h = let x = reaches xs within (unary o e place) t later h in both_reach w (lower w.lowering (unary o e place) t).before _ x.before ((room, x.value), tt)
+  store_reaches xs within (binary o a b) p t later room h = let x = reaches xs within (binary o a b) t later h in both_reach w (lower w.lowering (binary o a b) t).before _ x.before ((room, x.value), tt)

@@ -28,7 +28,7 @@ use Rattle.region_simulation.specs.Statements.{DeclaresNext, declared_to, CanBin
 use Rattle.address_bounds.specs.Rooms.{HasRoom}
 use Rattle.address_bounds.specs.Reaches.{ValueReaches, RegionReaches, ClausesReach, DestructorFits}
 use Rattle.address_bounds.proofs.Where.{Where, size, Known, Within, AllReach, both_reach, from_reach, help_room, thrown_room, variable_place_room, names_room, class_room}
-use Rattle.address_bounds.proofs.Expressions.{ExpressionReaches, reaches, dropped_reaches}
+use Rattle.address_bounds.proofs.Expressions.{ExpressionReaches, reaches, dropped_reaches, store_reaches}
 use Rattle.address_bounds.proofs.Constructed.{construct_reaches, destructor_needed, copied_reaches, destructor_fits}
 
 pub first_later : (l : Lowering) → result_slot l ≤ first_temporary l
@@ -159,16 +159,14 @@ module _ (w : Where) (k : Known w) where
   returning_reaches : (gives : Bool) (xs : List Variable) → Within w.lowering xs → (e : Option Expression) (d : ℕ) → CanReturn w.lowering w.own gives xs e → AllReach w (returning w.lowering e d)
   returning_reaches gives xs within None d can = (tt, tt)
   returning_reaches gives xs within (Some e) d can =
-      let x = reaches w k xs within e (first_temporary w.lowering) (first_later w.lowering) can.1 in
-      both_reach w _ (leave_region d ∷ []) (with_value_reaches (lower w.lowering e (first_temporary w.lowering)) (λ v. op (store (slot_place (result_slot w.lowering)) v)) x
-      (λ v. (help_room w k (result_slot w.lowering) 4 (omega arith) (omega arith), v))) (tt, tt)
+      both_reach w _ (leave_region d ∷ []) (store_reaches w k xs within e (slot_place (result_slot w.lowering)) (first_temporary w.lowering) (first_later w.lowering)
+      (help_room w k (result_slot w.lowering) 4 (omega arith) (omega arith)) can.1) (tt, tt)
 
   initialised_reaches : (xs : List Variable) → Within w.lowering xs → (n : ℕ) (x : Name) (e : Option Expression) → DeclaresNext w.lowering n (Some x) Int → IsTypedIfThere w.lowering w.own xs e → AllReach w (initialised w.lowering x e)
   initialised_reaches xs within n x None d typed = tt
   initialised_reaches xs within n x (Some e) d typed =
-      let y = reaches w k xs within e (first_temporary w.lowering) (first_later w.lowering) typed in
-      with_value_reaches (lower w.lowering e (first_temporary w.lowering)) (λ v. op (store (slot_place (variable_slot w.lowering (local_number x.bound))) v)) y
-      (λ v. (subst (λ m. HasRoom w.reach w.slots (slot_place (variable_slot w.lowering m)) 4) (sym d.numbered) (variable_place_room w k n d.there Int d.typed refl), v))
+      store_reaches w k xs within e (slot_place (variable_slot w.lowering (local_number x.bound))) (first_temporary w.lowering) (first_later w.lowering)
+      (subst (λ m. HasRoom w.reach w.slots (slot_place (variable_slot w.lowering m)) 4) (sym d.numbered) (variable_place_room w k n d.there Int d.typed refl)) typed
 
   bound_reaches : (xs : List Variable) → Within w.lowering xs → (n : ℕ) (x : Option Name) (t : Ty) (names : List Name) → DeclaresNext w.lowering n x t → CanBind w.lowering w.own xs t names → AllReach w (bound_to w.lowering x (place_of w.lowering names))
   bound_reaches xs within n None t names d can = tt
@@ -221,8 +219,8 @@ module _ (w : Where) (k : Known w) where
     statement_reaches gives (try ss hs) xs within more rest i n d next h =
         ((from_reach w _ (statements_reach gives ss xs within i n (d + 2) h.0), clauses_reach gives hs xs within i (n + length (all_declared_in ss)) (d + 2) h.1), next xs within h.2 d)
     statement_reaches gives (assign names e) xs within more rest i n d next h =
-        let x = reaches w k xs within e (first_temporary w.lowering) (first_later w.lowering) h.1 in
-        both_reach w _ (rest d) (with_value_reaches (lower w.lowering e (first_temporary w.lowering)) (λ v. op (store (place_of w.lowering names) v)) x (λ v. (names_room w k xs within names int_type h.0, v))) (next xs within h.2 d)
+        both_reach w _ (rest d) (store_reaches w k xs within e (place_of w.lowering names) (first_temporary w.lowering) (first_later w.lowering) (names_room w k xs within names int_type h.0) h.1)
+        (next xs within h.2 d)
     statement_reaches gives (evaluate e) xs within more rest i n d next h =
         both_reach w _ (rest d) (dropped_reaches w k xs within e (first_temporary w.lowering) (first_later w.lowering) h.0) (next xs within h.1 d)
     statement_reaches gives (local_int x e) xs within more rest i n d next h =

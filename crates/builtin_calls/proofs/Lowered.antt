@@ -12,7 +12,7 @@ use Rattle.cxx_ast.specs.declared.types.Ty.{Ty}
 use Rattle.cxx_ast.specs.Plain.{Expression, number, path, paren, unary, binary, call, std_call, Expressions, no_expressions, expression_then}
 use Rattle.meaning_forms.specs.Expression.{lvalue_of, names_of, callee_bound, receiver, parameter_types, constructor_types, function_named}
 use Rattle.region_forms.specs.Form.{Place, Callee, defined, builtin, Value, number as number_value, load, unary as unary_value, binary as binary_value, call_value, int_argument, address_argument, handler_argument, Arguments, no_arguments, argument_then, arguments_from, Op, store, evaluate, call as call_only, op, Region, regions_from}
-use Rattle.region_forms.specs.LowerExpression.{Lowering, place_of, has_call, some_call, Lowered, LoweredArguments, stored_in, truth_of, both, slot_place, receiver_argument, callee_of, handler_arguments, given_arguments, given_before, int_passed, address_passed, refers, lower, lower_arguments, dropped, constructor_chosen, lower_construct}
+use Rattle.region_forms.specs.LowerExpression.{Lowering, place_of, has_call, some_call, Lowered, LoweredArguments, stored_in, truth_of, both, slot_place, receiver_argument, callee_of, handler_arguments, given_arguments, given_before, int_passed, address_passed, refers, lower, lower_arguments, dropped, lower_store, constructor_chosen, lower_construct}
 use Rattle.address_bounds.specs.Everywhere.{Said, RegionsAll}
 use Rattle.builtin_calls.proofs.Trees.{HasCount, IsNamed, BoundTakes, GivesValue, BoundGives, Fits, AllFit, IsValued}
 
@@ -244,6 +244,20 @@ module _ (l : Lowering) where
   dropped_good (path names) t f = evaluated (path names) t (f, tt)
   dropped_good (unary o e place) t f = evaluated (unary o e place) t (f, tt)
   dropped_good (binary o a b) t f = evaluated (binary o a b) t (f, tt)
+
+  pub store_good : (e : Expression) (p : Place) (t : ℕ) → IsValued e → Good (lower_store l e p t)
+  store_good (call names es) p t f =
+      let b = callee_bound names in
+      let given = lower_arguments l es (parameter_types l.program b) t in
+      then_good (given_before b given) _ (before_good b given (arguments_given es (parameter_types l.program b) t f.0.1)) (keeps l b (receiver names) es given (ints_at l b es t) f.0.0 f.1, tt)
+  store_good (std_call x es place) p t f =
+      let given = lower_arguments l es [] t in
+      then_good (given_before x.bound given) _ (before_good x.bound given (arguments_given es [] t f.0.1)) (keeps l x.bound [] es given (std_ints_at l x.bound es t) f.0.0 f.1, tt)
+  store_good (paren e place) p t f = store_good e p t f
+  store_good (number v place) p t f = valued (number v place) t p f
+  store_good (path names) p t f = valued (path names) t p f
+  store_good (unary o e place) p t f = valued (unary o e place) t p f
+  store_good (binary o a b) p t f = valued (binary o a b) t p f
 
   pub built_good : (k : ℕ) (es : Expressions) (p : Place) (t : ℕ) → AllFit es → Good (lower_construct l k es p t)
   built_good k es p t f =

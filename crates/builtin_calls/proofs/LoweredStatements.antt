@@ -15,12 +15,12 @@ use Rattle.meaning_forms.specs.Call.{place_named, initialiser_for, statements_in
 use Rattle.meaning_forms.specs.Expression.{lvalue_of, callee_bound}
 use Rattle.region_forms.specs.Form.{Place, Region, enter, leave_handler, store, op, branch, protect, leave_region, in_order}
 use Rattle.region_forms.specs.Numbering.{declared_in, all_declared_in}
-use Rattle.region_forms.specs.LowerExpression.{exception_slot, Lowering, result_slot, first_temporary, slot_place, place_of, lvalue_type, has_call, Lowered, lower, dropped, lower_construct}
-use Rattle.region_forms.specs.LowerStatement.{variable_slot, copied, thrown_place, thrown_as, int_thrown, object_thrown, call_thrown, part_thrown, lvalue_thrown, operand_thrown, throwing, with_value, returning, initialised, bound_to, looping, scoped, caught_parameter, with_caught, handler, nothing_more, statement, otherwise, statements, clauses}
+use Rattle.region_forms.specs.LowerExpression.{exception_slot, Lowering, result_slot, first_temporary, slot_place, place_of, lvalue_type, has_call, Lowered, lower, dropped, lower_store, lower_construct}
+use Rattle.region_forms.specs.LowerStatement.{variable_slot, copied, thrown_place, thrown_as, int_thrown, object_thrown, call_thrown, part_thrown, lvalue_thrown, operand_thrown, throwing, returning, initialised, bound_to, looping, scoped, caught_parameter, with_caught, handler, nothing_more, statement, otherwise, statements, clauses}
 use Rattle.region_forms.specs.LowerProgram.{part_place, limited, build_parts, destroy_parts, default_part, copy_part, initial_part, last_result, body_of}
 use Rattle.address_bounds.specs.Everywhere.{RegionAll, ClausesAll}
 use Rattle.builtin_calls.proofs.Trees.{AllFit, IsValued, WhereValued, StatementFits, ElseFits, StatementsFit, HandlersFit, BodyFits, InitialisersFit, FunctionFits}
-use Rattle.builtin_calls.proofs.Lowered.{gives, Good, then_good, held, valued, dropped_good, built_good}
+use Rattle.builtin_calls.proofs.Lowered.{gives, Good, then_good, held, valued, dropped_good, store_good, built_good}
 
 -- one region
 abbrev pub One : Region → Type 0
@@ -52,6 +52,9 @@ module _ (l : Lowering) where
 
   stored : (e : Expression) (p : Place) → IsValued e → Good ((at_first e).before ++ op (store p (at_first e).value) ∷ [])
   stored e p f = valued l e (first_temporary l) p f
+
+  placed : (e : Expression) (p : Place) → IsValued e → Good (lower_store l e p (first_temporary l))
+  placed e p f = store_good l e p (first_temporary l) f
 
   -- what is thrown
   thrown : (t : ObjectType) (build : List Region) → Good build → Good (thrown_as l t build)
@@ -91,11 +94,11 @@ module _ (l : Lowering) where
 
   returning_good : (e : Option Expression) (d : ℕ) → WhereValued e → Good (returning l e d)
   returning_good None d f = (tt, tt)
-  returning_good (Some e) d f = then_good (with_value (at_first e) (λ v. op (store (slot_place (result_slot l)) v))) (leave_region d ∷ []) (stored e (slot_place (result_slot l)) f) (tt, tt)
+  returning_good (Some e) d f = then_good (lower_store l e (slot_place (result_slot l)) (first_temporary l)) (leave_region d ∷ []) (placed e (slot_place (result_slot l)) f) (tt, tt)
 
   initialised_good : (x : Name) (e : Option Expression) → WhereValued e → Good (initialised l x e)
   initialised_good x None f = tt
-  initialised_good x (Some e) f = stored e (slot_place (variable_slot l (local_number x.bound))) f
+  initialised_good x (Some e) f = placed e (slot_place (variable_slot l (local_number x.bound))) f
 
   bound_good : (x : Option Name) (p : Place) → Good (bound_to l x p)
   bound_good None p = tt
@@ -141,7 +144,7 @@ module _ (l : Lowering) where
     statement_good (continue place) rest i n d f k = (tt, tt)
     statement_good (throw place e) rest i n d f k = throwing_good e f
     statement_good (try ss hs) rest i n d f k = ((statements_good ss i n (d + 2) f.0, clauses_good hs i (n + length (all_declared_in ss)) (d + 2) f.1), k d)
-    statement_good (assign names e) rest i n d f k = then_good (with_value (at_first e) (λ v. op (store (place_of l names) v))) (rest d) (stored e (place_of l names) f) (k d)
+    statement_good (assign names e) rest i n d f k = then_good (lower_store l e (place_of l names) (first_temporary l)) (rest d) (placed e (place_of l names) f) (k d)
     statement_good (evaluate e) rest i n d f k = then_good (dropped l e (first_temporary l)) (rest d) (dropped_good l e (first_temporary l) f) (k d)
     statement_good (local_int x e) rest i n d f k = then_good (initialised l x e) (rest d) (initialised_good x e f) (k d)
     statement_good (local_ref x names) rest i n d f k = then_good (bound_to l x.name (place_of l names)) (rest d) (bound_good x.name (place_of l names)) (k d)

@@ -10,7 +10,7 @@ use Rattle.cxx_ast.specs.declared.types.Ty.{Ty}
 use Rattle.cxx_ast.specs.Plain.{Expression, number, path, paren, unary, binary, call, std_call, Expressions, no_expressions, expression_then}
 use Rattle.meaning_forms.specs.Expression.{lvalue_of, names_of, callee_bound, receiver, parameter_types, constructor_types, function_named}
 use Rattle.region_forms.specs.Form.{Place, Argument, arguments_from, store, Region, op, regions_from}
-use Rattle.region_forms.specs.LowerExpression.{Lowering, place_of, has_call, some_call, Lowered, LoweredArguments, stored_in, truth_of, both, receiver_argument, handler_arguments, given_arguments, given_before, call_of, int_passed, address_passed, refers, lower, lower_arguments, dropped, constructor_chosen, lower_construct}
+use Rattle.region_forms.specs.LowerExpression.{Lowering, place_of, has_call, some_call, Lowered, LoweredArguments, stored_in, truth_of, both, receiver_argument, handler_arguments, given_arguments, given_before, call_of, int_passed, address_passed, refers, lower, lower_arguments, dropped, lower_store, constructor_chosen, lower_construct}
 use Rattle.address_bounds.specs.Everywhere.{RegionsAll, holders_all}
 use Rattle.operation_premises.specs.Ints.{HasInts, HaveInts, ints}
 use Rattle.source_bounds.specs.LeastTokens.{tokens_in, tokens_in_all}
@@ -139,6 +139,25 @@ module _ (l : Lowering) where
       let x = held (unary o e place) t h in then_good (3 * tokens_in (unary o e place)) 0 (3 * tokens_in (unary o e place)) (lower l (unary o e place) t).before _ x.0 ((x.1, tt), omega arith) (omega arith)
   dropped_good (binary o a b) t h =
       let x = held (binary o a b) t h in then_good (3 * tokens_in (binary o a b)) 0 (3 * tokens_in (binary o a b)) (lower l (binary o a b) t).before _ x.0 ((x.1, tt), omega arith) (omega arith)
+
+  pub store_good : (e : Expression) (p : Place) (t : ℕ) → LiteralsIn e → Good (3 * tokens_in e) (lower_store l e p t)
+  store_good (call names es) p t h =
+      let b = callee_bound names in
+      let types = parameter_types l.program b in
+      let given = arguments_given es types t h in
+      let n = 3 * tokens_in_all es in
+      then_good n 0 (3 * tokens_in (call names es)) (given_before b (lower_arguments l es types t)) _ (before_good n b (lower_arguments l es types t) given.0)
+      ((call_ints l b (receiver names) es (lower_arguments l es types t) given.1, tt), omega arith) (omega arith)
+  store_good (std_call x es place) p t h =
+      let given = arguments_given es [] t h in
+      let n = 3 * tokens_in_all es in
+      then_good n 0 (3 * tokens_in (std_call x es place)) (given_before x.bound (lower_arguments l es [] t)) _ (before_good n x.bound (lower_arguments l es [] t) given.0)
+      ((call_ints l x.bound [] es (lower_arguments l es [] t) given.1, tt), omega arith) (omega arith)
+  store_good (paren e place) p t h = let x = store_good e p t h in (x.0, omega (arith, x.1))
+  store_good (number v place) p t h = valued (number v place) t p h
+  store_good (path names) p t h = valued (path names) t p h
+  store_good (unary o e place) p t h = valued (unary o e place) t p h
+  store_good (binary o a b) p t h = valued (binary o a b) t p h
 
   pub built_good : (k : ℕ) (es : Expressions) (p : Place) (t : ℕ) → AllLiterals es → Good (3 * tokens_in_all es) (lower_construct l k es p t)
   built_good k es p t h =

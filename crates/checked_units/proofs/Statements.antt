@@ -15,14 +15,14 @@ use Rattle.meaning_forms.specs.Call.{initialiser_for, statements_in, place_named
 use Rattle.meaning_forms.specs.Expression.{lvalue_of, callee_bound}
 use Rattle.region_forms.specs.Form.{Place, Region, Clauses, enter, leave_handler, store, op, branch, protect, leave_region, in_order}
 use Rattle.region_forms.specs.Numbering.{declared_in, all_declared_in}
-use Rattle.region_forms.specs.LowerExpression.{exception_slot, Lowering, result_slot, first_temporary, slot_place, place_of, lvalue_type, has_call, Lowered, lower, dropped, lower_construct}
-use Rattle.region_forms.specs.LowerStatement.{variable_slot, copied, thrown_place, thrown_as, int_thrown, object_thrown, call_thrown, part_thrown, lvalue_thrown, operand_thrown, throwing, with_value, returning, initialised, bound_to, looping, scoped, caught_parameter, with_caught, handler, nothing_more, statement, otherwise, statements, clauses}
+use Rattle.region_forms.specs.LowerExpression.{exception_slot, Lowering, result_slot, first_temporary, slot_place, place_of, lvalue_type, has_call, Lowered, lower, dropped, lower_store, lower_construct}
+use Rattle.region_forms.specs.LowerStatement.{variable_slot, copied, thrown_place, thrown_as, int_thrown, object_thrown, call_thrown, part_thrown, lvalue_thrown, operand_thrown, throwing, returning, initialised, bound_to, looping, scoped, caught_parameter, with_caught, handler, nothing_more, statement, otherwise, statements, clauses}
 use Rattle.region_forms.specs.LowerProgram.{part_place, limited, build_parts, destroy_parts, default_part, copy_part, initial_part, last_result, body_of}
 use Rattle.address_bounds.specs.Everywhere.{RegionAll, ClausesAll, holders, holders_clauses}
 use Rattle.operation_premises.specs.Ints.{ints}
 use Rattle.source_bounds.specs.LeastTokens.{tokens_in, tokens_in_all, tokens_in_value, statement_tokens, else_tokens, statements_tokens, handlers_tokens, initialisers_tokens, body_tokens, function_tokens}
 use Rattle.checked_units.specs.Literals.{LiteralsIn, AllLiterals, ValueLiterals, StatementLiterals, ElseLiterals, StatementsLiterals, HandlersLiterals, BodyLiterals, InitialisersLiterals, FunctionLiterals}
-use Rattle.checked_units.proofs.Expressions.{Good, then_good, none_good, held, valued, dropped_good, built_good}
+use Rattle.checked_units.proofs.Expressions.{Good, then_good, none_good, held, valued, dropped_good, store_good, built_good}
 
 -- one region
 abbrev pub One : ℕ → Region → Type 0
@@ -40,6 +40,9 @@ module _ (l : Lowering) where
 
   stored : (e : Expression) (p : Place) → LiteralsIn e → Good (3 * tokens_in e) ((at_first e).before ++ op (store p (at_first e).value) ∷ [])
   stored e p h = valued l e (first_temporary l) p h
+
+  placed : (e : Expression) (p : Place) → LiteralsIn e → Good (3 * tokens_in e) (lower_store l e p (first_temporary l))
+  placed e p h = store_good l e p (first_temporary l) h
 
   -- what is thrown
   thrown : (n m : ℕ) (t : ObjectType) (build : List Region) → Good n build → n + 2 ≤ m → Good m (thrown_as l t build)
@@ -76,12 +79,12 @@ module _ (l : Lowering) where
   returning_good : (e : Option Expression) (d : ℕ) → ValueLiterals e → Good (3 * tokens_in_value e) (returning l e d)
   returning_good None d h = ((tt, tt), omega arith)
   returning_good (Some e) d h =
-      then_good (3 * tokens_in e) 0 (3 * tokens_in e) (with_value (at_first e) (λ v. op (store (slot_place (result_slot l)) v))) (leave_region d ∷ [])
-      (stored e (slot_place (result_slot l)) h) ((tt, tt), omega arith) (omega arith)
+      then_good (3 * tokens_in e) 0 (3 * tokens_in e) (lower_store l e (slot_place (result_slot l)) (first_temporary l)) (leave_region d ∷ [])
+      (placed e (slot_place (result_slot l)) h) ((tt, tt), omega arith) (omega arith)
 
   initialised_good : (x : Name) (e : Option Expression) → ValueLiterals e → Good (3 * tokens_in_value e) (initialised l x e)
   initialised_good x None h = none_good 0
-  initialised_good x (Some e) h = stored e (slot_place (variable_slot l (local_number x.bound))) h
+  initialised_good x (Some e) h = placed e (slot_place (variable_slot l (local_number x.bound))) h
 
   bound_good : (x : Option Name) (p : Place) → Good 0 (bound_to l x p)
   bound_good None p = none_good 0
@@ -150,8 +153,8 @@ module _ (l : Lowering) where
         let y = k d in
         (((x.0, z.0), y.0), omega (arith, x.1, z.1, y.1))
     statement_good (assign names e) rest i n d r h k =
-        then_good (3 * tokens_in e) r (3 * statement_tokens (assign names e) + r) (with_value (at_first e) (λ v. op (store (place_of l names) v))) (rest d)
-        (stored e (place_of l names) h) (k d) (omega arith)
+        then_good (3 * tokens_in e) r (3 * statement_tokens (assign names e) + r) (lower_store l e (place_of l names) (first_temporary l)) (rest d)
+        (placed e (place_of l names) h) (k d) (omega arith)
     statement_good (evaluate e) rest i n d r h k =
         then_good (3 * tokens_in e) r (3 * statement_tokens (evaluate e) + r) (dropped l e (first_temporary l)) (rest d) (dropped_good l e (first_temporary l) h) (k d) (omega arith)
     statement_good (local_int x e) rest i n d r h k =

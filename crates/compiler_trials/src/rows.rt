@@ -30,15 +30,26 @@ pub static ROWS: &[Row] = &[
         lists: &[],
         frame: 32,
     },
-    // A built-in function that raises nothing at 0, a module's at 1.
+    // A built-in function that raises nothing at 0, a module's at 1, whose value goes to the result's slot at once.
     Row {
         source: "int f() { write_int(1); return __module(0, 0); } int main() { return 0; }",
         function: 0,
-        ops: 7,
+        ops: 6,
         sites: &[(1, 2, None, &[])],
         types: &[],
         lists: &[],
-        frame: 48,
+        frame: 32,
+    },
+    // Calls whose values go to a variable at 0 and, in parentheses, at 1; one whose value waits in a slot at 2 for the sum that goes there at
+    // 3; and one whose value goes to the result's slot at 4, before the jump out.
+    Row {
+        source: "int f(int a) { int b = f(a); b = (f(b)); b = f(b) + 1; return f(b); } int main() { return 0; }",
+        function: 0,
+        ops: 9,
+        sites: &[(0, 3, None, &[]), (4, 5, None, &[])],
+        types: &[],
+        lists: &[],
+        frame: 64,
     },
     // The object at 0, its scope from 1, calls at 6 and 7, its destructor at 10.
     Row {

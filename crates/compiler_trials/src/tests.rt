@@ -28,7 +28,7 @@ static ROWS: [Row; 6] = [
     Row {
         source: "struct A { int n; A(int k) { n = k; } ~A() { } int f() { return n; } }; int main() { A a(1); return a.f(); }",
         functions: 10,
-        slots: 4,
+        slots: 3,
     },
     Row {
         source: "int f(int a) { return a; } int main() { return 0; }",

@@ -12,12 +12,12 @@ use Rattle.meaning_forms.specs.Frame.{local_number}
 use Rattle.meaning_forms.specs.Expression.{lvalue_of, callee_bound}
 use Rattle.region_forms.specs.Form.{Place, Region, branch, leave_region, op, leave_handler, protect, enter, store, regions_from, in_order}
 use Rattle.region_forms.specs.Numbering.{declared_in, all_declared_in}
-use Rattle.region_forms.specs.LowerExpression.{Lowering, result_slot, exception_slot, first_temporary, slot_place, place_of, lvalue_type, has_call, Lowered, lower, dropped, lower_construct}
+use Rattle.region_forms.specs.LowerExpression.{Lowering, result_slot, exception_slot, first_temporary, slot_place, place_of, lvalue_type, has_call, Lowered, lower, dropped, lower_store, lower_construct}
 use Rattle.region_forms.specs.LowerStatement.{variable_slot, thrown_place, copied, thrown_as, int_thrown, object_thrown, call_thrown, part_thrown, lvalue_thrown, operand_thrown, throwing, with_value, returning, initialised, bound_to, looping, scoped, caught_parameter, with_caught, handler, nothing_more, statement, otherwise, statements, clauses}
 use Rattle.source_bounds.specs.LeastTokens.{tokens_in, tokens_in_all, tokens_in_value, statement_tokens, else_tokens, statements_tokens, handlers_tokens}
 use Rattle.source_bounds.specs.OperationWords.{value_words}
 use Rattle.source_bounds.specs.RegionWords.{region_words, all_words, clauses_words}
-use Rattle.source_bounds.proofs.Expressions.{lowered, dropped_fine, built_fine}
+use Rattle.source_bounds.proofs.Expressions.{lowered, dropped_fine, store_fine, built_fine}
 use Rattle.source_bounds.proofs.Statements.{valued}
 
 -- the words of regions one after the other
@@ -47,6 +47,9 @@ module _ (l : Lowering) where
 
   stored : (e : Expression) (p : Place) → words ((at_first e).before ++ op (store p (at_first e).value) ∷ []) ≤ 32 * tokens_in e
   stored e p = (valued 0 l 0 e p 0).words
+
+  placed : (e : Expression) (p : Place) → words (lower_store l e p (first_temporary l)) ≤ 32 * tokens_in e
+  placed e p = (store_fine 0 0 l e p 0 (first_temporary l)).words
 
   built : (k : ℕ) (es : Expressions) (p : Place) → words (lower_construct l k es p (first_temporary l)) ≤ 32 * tokens_in_all es + 5
   built k es p = (built_fine 0 0 l k es p 0 (first_temporary l)).words
@@ -87,11 +90,11 @@ module _ (l : Lowering) where
   returning_cost : (e : Option Expression) (d : ℕ) → words (returning l e d) ≤ 32 * tokens_in_value e + 5
   returning_cost None d = omega arith
   returning_cost (Some e) d =
-      omega (arith, stored e (slot_place (result_slot l)), words_both (with_value (at_first e) (λ v. op (store (slot_place (result_slot l)) v))) (leave_region d ∷ []))
+      omega (arith, placed e (slot_place (result_slot l)), words_both (lower_store l e (slot_place (result_slot l)) (first_temporary l)) (leave_region d ∷ []))
 
   initialised_cost : (x : Name) (e : Option Expression) → words (initialised l x e) ≤ 32 * tokens_in_value e
   initialised_cost x None = omega arith
-  initialised_cost x (Some e) = stored e (slot_place (variable_slot l (local_number x.bound)))
+  initialised_cost x (Some e) = placed e (slot_place (variable_slot l (local_number x.bound)))
 
   bound_cost : (x : Option Name) (p : Place) → words (bound_to l x p) ≤ 3
   bound_cost None p = omega arith
@@ -149,7 +152,7 @@ module _ (l : Lowering) where
     statement_cost (throw place e) rest m i n d r = omega (arith, throwing_cost e)
     statement_cost (try ss hs) rest m i n d r = omega (arith, r d, statements_cost ss i n (d + 2), clauses_cost hs i (n + length (all_declared_in ss)) (d + 2))
     statement_cost (assign names e) rest m i n d r =
-        omega (arith, r d, stored e (place_of l names), words_both (with_value (at_first e) (λ v. op (store (place_of l names) v))) (rest d))
+        omega (arith, r d, placed e (place_of l names), words_both (lower_store l e (place_of l names) (first_temporary l)) (rest d))
     statement_cost (evaluate e) rest m i n d r =
         let x = dropped_fine 0 0 l e 0 (first_temporary l) in
         omega (arith, r d, x.words, words_both (dropped l e (first_temporary l)) (rest d))

@@ -10,7 +10,7 @@ use Rattle.cxx_ast.specs.declared.types.Ty.{Ty}
 use Rattle.cxx_ast.specs.Plain.{Expression, number, path, paren, unary, binary, call, std_call, Expressions, no_expressions, expression_then}
 use Rattle.meaning_forms.specs.Expression.{lvalue_of, names_of, callee_bound, parameter_types, constructor_types}
 use Rattle.region_forms.specs.Form.{Place, Value, number as number_value, store, evaluate, Region, op, branch, RegionList, region_then, regions_from, in_order}
-use Rattle.region_forms.specs.LowerExpression.{Lowering, place_of, has_call, some_call, Lowered, LoweredArguments, stored_in, truth_of, both, given_before, int_passed, address_passed, refers, lower, lower_arguments, dropped, constructor_chosen, lower_construct}
+use Rattle.region_forms.specs.LowerExpression.{Lowering, place_of, has_call, some_call, Lowered, LoweredArguments, stored_in, truth_of, both, given_before, int_passed, address_passed, refers, lower, lower_arguments, dropped, lower_store, constructor_chosen, lower_construct}
 use Rattle.kept_handlers.specs.Left.{opens_one, leaves_one, is_even, region_in_step, regions_in_step}
 use Rattle.kept_handlers.proofs.Scanning.{Even}
 
@@ -140,6 +140,19 @@ module _ (l : Lowering) where
   dropped_good (path names) t = evaluated (path names) t
   dropped_good (unary o e place) t = evaluated (unary o e place) t
   dropped_good (binary o a b) t = evaluated (binary o a b) t
+
+  pub store_good : (e : Expression) (p : Place) (t : ℕ) → Good (lower_store l e p t)
+  store_good (call names es) p t =
+      let b = callee_bound names in
+      let given = lower_arguments l es (parameter_types l.program b) t in
+      then_good (given_before b given) _ (before_good b given (arguments_given es (parameter_types l.program b) t)) (simply _ refl refl refl, tt)
+  store_good (std_call x es place) p t =
+      let given = lower_arguments l es [] t in then_good (given_before x.bound given) _ (before_good x.bound given (arguments_given es [] t)) (simply _ refl refl refl, tt)
+  store_good (paren e place) p t = store_good e p t
+  store_good (number v place) p t = valued (number v place) t p
+  store_good (path names) p t = valued (path names) t p
+  store_good (unary o e place) p t = valued (unary o e place) t p
+  store_good (binary o a b) p t = valued (binary o a b) t p
 
   pub built_good : (k : ℕ) (es : Expressions) (p : Place) (t : ℕ) → Good (lower_construct l k es p t)
   built_good k es p t =

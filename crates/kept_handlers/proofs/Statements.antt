@@ -17,12 +17,12 @@ use Rattle.meaning_forms.specs.Expression.{lvalue_of, callee_bound}
 use Rattle.region_forms.specs.Form.{Place, Value, number, Region, enter, Cleanup, destroy_scope, destroy_part, free_object, leave_handler, store, op, branch, loop, protect, catch, leave_region, Clauses, clause_then, regions_from, in_order}
 use Rattle.meaning_forms.specs.Running.{destructor}
 use Rattle.region_forms.specs.Numbering.{number_of, declared_in, all_declared_in}
-use Rattle.region_forms.specs.LowerExpression.{exception_slot, Lowering, result_slot, first_temporary, slot_place, place_of, lvalue_type, has_call, Lowered, lower, dropped, lower_construct}
-use Rattle.region_forms.specs.LowerStatement.{variable_slot, copied, thrown_place, thrown_as, int_thrown, object_thrown, call_thrown, part_thrown, lvalue_thrown, operand_thrown, throwing, with_value, returning, initialised, bound_to, looping, scoped, caught_parameter, with_caught, handler, nothing_more, clause_type, statement, otherwise, statements, clauses}
+use Rattle.region_forms.specs.LowerExpression.{exception_slot, Lowering, result_slot, first_temporary, slot_place, place_of, lvalue_type, has_call, Lowered, lower, dropped, lower_store, lower_construct}
+use Rattle.region_forms.specs.LowerStatement.{variable_slot, copied, thrown_place, thrown_as, int_thrown, object_thrown, call_thrown, part_thrown, lvalue_thrown, operand_thrown, throwing, returning, initialised, bound_to, looping, scoped, caught_parameter, with_caught, handler, nothing_more, clause_type, statement, otherwise, statements, clauses}
 use Rattle.region_forms.specs.LowerProgram.{part_place, ending, limited, build_parts, destroy_parts, default_part, copy_part, initial_part, last_result, body_of}
 use Rattle.kept_handlers.specs.Left.{leaves_one, is_even, region_in_step, regions_in_step, clauses_in_step}
 use Rattle.kept_handlers.proofs.Scanning.{Even}
-use Rattle.kept_handlers.proofs.Lowered.{both_true, even_test, Good, then_good, then_in_step, good_in_step, simply, even_order, even_branch, held, valued, dropped_good, built_good}
+use Rattle.kept_handlers.proofs.Lowered.{both_true, even_test, Good, then_good, then_in_step, good_in_step, simply, even_order, even_branch, held, valued, dropped_good, store_good, built_good}
 
 -- what a scope holds
 scope_even : (rs : List Region) (c : Cleanup) → leaves_one (protect (in_order rs) c) ≡ false → Good rs → Even (protect (in_order rs) c)
@@ -43,6 +43,9 @@ module _ (l : Lowering) where
 
   stored : (e : Expression) (p : Place) → Good ((at_first e).before ++ op (store p (at_first e).value) ∷ [])
   stored e p = valued l e (first_temporary l) p
+
+  placed : (e : Expression) (p : Place) → Good (lower_store l e p (first_temporary l))
+  placed e p = store_good l e p (first_temporary l)
 
   -- what is thrown
   thrown : (t : ObjectType) (build : List Region) → Good build → Good (thrown_as l t build)
@@ -78,11 +81,11 @@ module _ (l : Lowering) where
 
   returning_good : (e : Option Expression) (d : ℕ) → Good (returning l e d)
   returning_good None d = (simply _ refl refl refl, tt)
-  returning_good (Some e) d = then_good (with_value (at_first e) (λ v. op (store (slot_place (result_slot l)) v))) (leave_region d ∷ []) (stored e (slot_place (result_slot l))) (simply _ refl refl refl, tt)
+  returning_good (Some e) d = then_good (lower_store l e (slot_place (result_slot l)) (first_temporary l)) (leave_region d ∷ []) (placed e (slot_place (result_slot l))) (simply _ refl refl refl, tt)
 
   initialised_good : (x : Name) (e : Option Expression) → Good (initialised l x e)
   initialised_good x None = tt
-  initialised_good x (Some e) = stored e (slot_place (variable_slot l (local_number x.bound)))
+  initialised_good x (Some e) = placed e (slot_place (variable_slot l (local_number x.bound)))
 
   bound_good : (x : Option Name) (p : Place) → Good (bound_to l x p)
   bound_good None p = tt
@@ -140,7 +143,7 @@ module _ (l : Lowering) where
         let cs = clauses l hs i (n + length (all_declared_in ss)) (d + 2) in
         let steps = both_true (is_even (in_order body) && region_in_step (in_order body)) (clauses_in_step cs) (even_test (in_order body) (even_order body (statements_good ss i n (d + 2)))) (clauses_good hs i (n + length (all_declared_in ss)) (d + 2)) in
         (simply (catch (in_order body) cs) refl refl steps, k d)
-    statement_good (assign names e) rest i n d k = then_good (with_value (at_first e) (λ v. op (store (place_of l names) v))) (rest d) (stored e (place_of l names)) (k d)
+    statement_good (assign names e) rest i n d k = then_good (lower_store l e (place_of l names) (first_temporary l)) (rest d) (placed e (place_of l names)) (k d)
     statement_good (evaluate e) rest i n d k = then_good (dropped l e (first_temporary l)) (rest d) (dropped_good l e (first_temporary l)) (k d)
     statement_good (local_int x e) rest i n d k = then_good (initialised l x e) (rest d) (initialised_good x e) (k d)
     statement_good (local_ref x names) rest i n d k = then_good (bound_to l x.name (place_of l names)) (rest d) (bound_good x.name (place_of l names)) (k d)

@@ -12,9 +12,9 @@ use Rattle.cxx_ast.specs.declared.expression.BinaryOp.TheVariants.{And, Or}
 use Rattle.cxx_ast.specs.Plain.{Expression, number, path, paren, unary, binary, call, std_call, Expressions, no_expressions, expression_then}
 use Rattle.cxx_ast.specs.Sizes.{levels, most_levels, arguments_in, arguments_of}
 use Rattle.meaning_forms.specs.Expression.{lvalue_of, names_of, callee_bound, receiver, parameter_types, constructor_types, function_named}
-use Rattle.region_forms.specs.Form.{Place, Value, number as number_value, Argument, arguments_from, Region, op, evaluate, branch, regions_from, in_order}
+use Rattle.region_forms.specs.Form.{Place, Value, number as number_value, Argument, arguments_from, Region, op, evaluate, store, branch, regions_from, in_order}
 use Rattle.region_forms.specs.Mentioned.{slots_of_root, slots_of_value, slots_of_arguments, slots_of, slots_of_all}
-use Rattle.region_forms.specs.LowerExpression.{Lowering, Lowered, LoweredArguments, LoweredCall, first_temporary, variable_root, variable_type, named_place, has_call, some_call, both, stored_in, truth_of, call_of, call_stored, call_dropped, given_before, given_arguments, handler_arguments, receiver_argument, int_passed, address_passed, refers, place_of, lower, lower_arguments, dropped, constructor_chosen, lower_construct}
+use Rattle.region_forms.specs.LowerExpression.{Lowering, Lowered, LoweredArguments, LoweredCall, first_temporary, variable_root, variable_type, named_place, has_call, some_call, both, stored_in, truth_of, call_of, call_placed, call_stored, call_dropped, given_before, given_arguments, handler_arguments, receiver_argument, int_passed, address_passed, refers, place_of, lower, lower_arguments, dropped, lower_store, constructor_chosen, lower_construct}
 use Rattle.landing_pads.specs.Numbered.{BoundFits, PathFits, ExpressionFits, ExpressionsFit}
 
 -- regions mention no slot from m on
@@ -236,6 +236,22 @@ module _ (l : Lowering) where
       left_alone m _ (called m n.bound [] es _ (omega (arith, k)) (lowered_arguments es [] (first_temporary l) m h (omega arith) (omega (arith, k))))
   dropped_below (paren e place) m h k = dropped_below e m h (omega (arith, k))
   dropped_below e m h k = evaluated m (lower l e (first_temporary l)) (lowered e (first_temporary l) m h (omega arith) k)
+
+  pub valued : (m : ℕ) (x : Lowered) (p : Place) → slots_of_root p.root ≤ m → Lies m x → Below m (x.before ++ op (store p x.value) ∷ [])
+  valued m x p h k = with_last m x.before (op (store p x.value)) k.before (omega (arith, h, k.value))
+
+  call_valued : (m : ℕ) (p : Place) (c : LoweredCall) → slots_of_root p.root ≤ m → CallLies m c → Below m (call_placed p c)
+  call_valued m p c h k = with_last m c.before _ k.before (omega (arith, h, k.arguments))
+
+  pub store_below : (e : Expression) (p : Place) (m : ℕ) → ExpressionFits count e → slots_of_root p.root ≤ m → first_temporary l + levels e + arguments_in e ≤ m →
+      Below m (lower_store l e p (first_temporary l))
+  store_below (call names es) p m h r k =
+      call_valued m p _ r (called m (callee_bound names) (receiver names) es _ (omega (arith, path_below (receiver names) (receiver_fits names h.0), k))
+      (lowered_arguments es (parameter_types l.program (callee_bound names)) (first_temporary l) m h.1 (omega arith) (omega (arith, k))))
+  store_below (std_call n es place) p m h r k =
+      call_valued m p _ r (called m n.bound [] es _ (omega (arith, k)) (lowered_arguments es [] (first_temporary l) m h (omega arith) (omega (arith, k))))
+  store_below (paren e place) p m h r k = store_below e p m h r (omega (arith, k))
+  store_below e p m h r k = valued m (lower l e (first_temporary l)) p r (lowered e (first_temporary l) m h (omega arith) k)
 
   pub constructed_below : (c : ℕ) (es : Expressions) (p : Place) (m : ℕ) → ExpressionsFit count es → slots_of_root p.root ≤ m →
       first_temporary l + most_levels es + arguments_of es ≤ m → Below m (lower_construct l c es p (first_temporary l))

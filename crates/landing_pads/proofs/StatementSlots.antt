@@ -12,13 +12,13 @@ use Rattle.cxx_ast.specs.Sizes.{levels, most_levels, arguments_in, arguments_of,
 use Rattle.meaning_forms.specs.Class.{ObjectType, int_type, class_type, class_named}
 use Rattle.meaning_forms.specs.Frame.{local_number}
 use Rattle.meaning_forms.specs.Expression.{lvalue_of, names_of, callee_bound}
-use Rattle.region_forms.specs.Form.{Place, store, Region, op, branch, leave_region, in_order}
+use Rattle.region_forms.specs.Form.{Place, Region, branch, leave_region, in_order}
 use Rattle.region_forms.specs.Mentioned.{slots_of_root, slots_of, slots_of_clauses}
 use Rattle.region_forms.specs.Numbering.{declared_in, declared_in_else, all_declared_in, declared_in_handlers}
-use Rattle.region_forms.specs.LowerExpression.{Lowering, result_slot, first_temporary, slot_place, place_of, lvalue_type, has_call, Lowered, lower, dropped, lower_construct}
-use Rattle.region_forms.specs.LowerStatement.{variable_slot, thrown_place, int_thrown, object_thrown, call_thrown, part_thrown, lvalue_thrown, operand_thrown, throwing, with_value, returning, initialised, bound_to, looping, scoped, caught_parameter, with_caught, handler, nothing_more, statement, otherwise, statements, clauses}
+use Rattle.region_forms.specs.LowerExpression.{Lowering, result_slot, first_temporary, slot_place, place_of, lvalue_type, has_call, Lowered, lower, dropped, lower_store, lower_construct}
+use Rattle.region_forms.specs.LowerStatement.{variable_slot, thrown_place, int_thrown, object_thrown, call_thrown, part_thrown, lvalue_thrown, operand_thrown, throwing, returning, initialised, bound_to, looping, scoped, caught_parameter, with_caught, handler, nothing_more, statement, otherwise, statements, clauses}
 use Rattle.landing_pads.specs.Numbered.{BoundFits, PathFits, ExpressionFits, ExpressionsFit, ValueFits, NameFits, StatementFits, ElseFits, StatementsFit, HandlersFit}
-use Rattle.landing_pads.proofs.Mentions.{Below, behind, with_last, count, path_below, lvalue_fits, Lies, lowered, dropped_below, constructed_below}
+use Rattle.landing_pads.proofs.Mentions.{Below, behind, with_last, count, path_below, lvalue_fits, Lies, lowered, dropped_below, valued, store_below, constructed_below}
 
 module _ (l : Lowering) (m : ℕ) (room : first_temporary l ≤ m) where
   -- there is room for a measure of expressions
@@ -31,15 +31,12 @@ module _ (l : Lowering) (m : ℕ) (room : first_temporary l ≤ m) where
   abbrev at_first : Expression → Lowered
   at_first e = lower l e (first_temporary l)
 
-  valued : (x : Lowered) (p : Place) → slots_of_root p.root ≤ m → Lies l m x → Below m (x.before ++ op (store p x.value) ∷ [])
-  valued x p h k = with_last m x.before (op (store p x.value)) k.before (omega (arith, h, k.value))
-
   computed : (e : Expression) → ExpressionFits (count l) e → first_temporary l + levels e + arguments_in e ≤ m → Lies l m (at_first e)
   computed e h k = lowered l e (first_temporary l) m h (omega arith) k
 
   -- what is thrown
   int_below : (e : Expression) → ExpressionFits (count l) e → first_temporary l + levels e + arguments_in e ≤ m → Below m (int_thrown l e)
-  int_below e h k = let row = valued (at_first e) (thrown_place l) (omega (arith, room)) (computed e h k) in omega (arith, room, row)
+  int_below e h k = let row = valued l m (at_first e) (thrown_place l) (omega (arith, room)) (computed e h k) in omega (arith, room, row)
 
   object_below : (c : ℕ) (es : Expressions) → ExpressionsFit (count l) es → first_temporary l + most_levels es + arguments_of es ≤ m → Below m (object_thrown l c es)
   object_below c es h k = let row = constructed_below l c es (thrown_place l) m h (omega (arith, room)) k in omega (arith, room, row)
@@ -73,8 +70,8 @@ module _ (l : Lowering) (m : ℕ) (room : first_temporary l ≤ m) where
   returning_below : (e : Option Expression) (d : ℕ) → ValueFits (count l) e → Measured (most_in_value e) → Below m (returning l e d)
   returning_below None d h k = omega arith
   returning_below (Some e) d h k =
-      with_last m (with_value (at_first e) (λ v. op (store (slot_place (result_slot l)) v))) (leave_region d)
-      (valued (at_first e) (slot_place (result_slot l)) (omega (arith, room)) (computed e h k)) (omega arith)
+      with_last m (lower_store l e (slot_place (result_slot l)) (first_temporary l)) (leave_region d)
+      (store_below l e (slot_place (result_slot l)) m h (omega (arith, room)) k) (omega arith)
 
   local_below : (b : Bound) → BoundFits (count l) b → slots_of_root (slot_place (variable_slot l (local_number b))).root ≤ m
   local_below (Local n) h = omega (arith, room, h)
@@ -82,7 +79,7 @@ module _ (l : Lowering) (m : ℕ) (room : first_temporary l ≤ m) where
 
   initialised_below : (n : Name) (e : Option Expression) → BoundFits (count l) n.bound → ValueFits (count l) e → Measured (most_in_value e) → Below m (initialised l n e)
   initialised_below n None b h k = omega arith
-  initialised_below n (Some e) b h k = valued (at_first e) (slot_place (variable_slot l (local_number n.bound))) (local_below n.bound b) (computed e h k)
+  initialised_below n (Some e) b h k = store_below l e (slot_place (variable_slot l (local_number n.bound))) m h (local_below n.bound b) k
 
   bound_below : (n : Option Name) (p : Place) → NameFits (count l) n → slots_of_root p.root ≤ m → Below m (bound_to l n p)
   bound_below None p h k = omega arith
@@ -141,8 +138,8 @@ module _ (l : Lowering) (m : ℕ) (room : first_temporary l ≤ m) where
         let others = clauses_below hs i (n + length (all_declared_in ss)) (d + 2) h.1 (omega (arith, c, counted)) (omega (arith, k)) in
         omega (arith, body, others, r d)
     statement_below (assign names e) rest i n d h c k r =
-        behind m ((at_first e).before ++ op (store (place_of l names) (at_first e).value) ∷ []) (rest d)
-        (valued (at_first e) (place_of l names) (omega (arith, room, path_below l names h.0)) (computed e h.1 k)) (r d)
+        behind m (lower_store l e (place_of l names) (first_temporary l)) (rest d)
+        (store_below l e (place_of l names) m h.1 (omega (arith, room, path_below l names h.0)) k) (r d)
     statement_below (evaluate e) rest i n d h c k r = behind m (dropped l e (first_temporary l)) (rest d) (dropped_below l e m h k) (r d)
     statement_below (local_int x e) rest i n d h c k r = behind m (initialised l x e) (rest d) (initialised_below x e h.0 h.1 k) (r d)
     statement_below (local_ref x names) rest i n d h c k r =

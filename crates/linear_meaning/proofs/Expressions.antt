@@ -9,8 +9,8 @@ use Rattle.cxx_ast.specs.declared.expression.BinaryOp.{BinaryOp}
 use Rattle.cxx_ast.specs.declared.expression.BinaryOp.TheVariants.{And, Or}
 use Rattle.cxx_ast.specs.Plain.{Expression, number, path, paren, unary, binary, call, std_call, Expressions, no_expressions, expression_then}
 use Rattle.meaning_forms.specs.Expression.{lvalue_of, names_of, callee_bound, receiver, parameter_types, constructor_types}
-use Rattle.region_forms.specs.Form.{Place, op, evaluate}
-use Rattle.region_forms.specs.LowerExpression.{Lowering, Lowered, LoweredArguments, LoweredCall, has_call, some_call, both, call_of, call_stored, call_dropped, given_before, int_passed, address_passed, refers, place_of, lower, lower_arguments, dropped, constructor_chosen, lower_construct}
+use Rattle.region_forms.specs.Form.{Place, op, evaluate, store}
+use Rattle.region_forms.specs.LowerExpression.{Lowering, Lowered, LoweredArguments, LoweredCall, has_call, some_call, both, call_of, call_placed, call_stored, call_dropped, given_before, int_passed, address_passed, refers, place_of, lower, lower_arguments, dropped, lower_store, constructor_chosen, lower_construct}
 use Rattle.linear_meaning.proofs.Rows.{Row, behind, with_last}
 
 -- two operands
@@ -76,6 +76,23 @@ dropped_row l (std_call n es place) t =
     left_alone (call_of l n.bound [] es (lower_arguments l es [] t)) (given_row n.bound (lower_arguments l es [] t) (lowered_arguments l es [] t))
 dropped_row l (paren e place) t = dropped_row l e t
 dropped_row l e t = evaluated (lower l e t) (lowered l e t)
+
+-- an expression's value is stored in a place
+call_placed_row : (p : Place) (c : LoweredCall) → Row c.before → Row (call_placed p c)
+call_placed_row p c h = with_last c.before _ h refl
+
+pub stored_row : (x : Lowered) (p : Place) → Row x.before → Row (x.before ++ op (store p x.value) ∷ [])
+stored_row x p h = with_last x.before _ h refl
+
+pub store_row : (l : Lowering) (e : Expression) (p : Place) (t : ℕ) → Row (lower_store l e p t)
+store_row l (call names es) p t =
+    let given = lower_arguments l es (parameter_types l.program (callee_bound names)) t in
+    call_placed_row p (call_of l (callee_bound names) (receiver names) es given)
+    (given_row (callee_bound names) given (lowered_arguments l es (parameter_types l.program (callee_bound names)) t))
+store_row l (std_call n es place) p t =
+    call_placed_row p (call_of l n.bound [] es (lower_arguments l es [] t)) (given_row n.bound (lower_arguments l es [] t) (lowered_arguments l es [] t))
+store_row l (paren e place) p t = store_row l e p t
+store_row l e p t = stored_row (lower l e t) p (lowered l e t)
 
 -- an object is built in a place
 pub constructed_row : (l : Lowering) (k : ℕ) (es : Expressions) (p : Place) (t : ℕ) → Row (lower_construct l k es p t)

@@ -15,11 +15,11 @@ use Rattle.meaning_forms.specs.Frame.{local_number}
 use Rattle.meaning_forms.specs.Expression.{lvalue_of, callee_bound}
 use Rattle.region_forms.specs.Form.{Place, store, Region, op, branch, in_order}
 use Rattle.region_forms.specs.Numbering.{declared_in, all_declared_in}
-use Rattle.region_forms.specs.LowerExpression.{Lowering, result_slot, first_temporary, slot_place, place_of, lvalue_type, has_call, lower, dropped, lower_construct}
+use Rattle.region_forms.specs.LowerExpression.{Lowering, result_slot, first_temporary, slot_place, place_of, lvalue_type, has_call, lower, dropped, lower_store, lower_construct}
 use Rattle.region_forms.specs.LowerStatement.{variable_slot, thrown_place, int_thrown, object_thrown, call_thrown, part_thrown, lvalue_thrown, operand_thrown, throwing, with_value, returning, initialised, bound_to, looping, scoped, caught_parameter, with_caught, handler, nothing_more, statement, otherwise, statements, clauses}
 use Rattle.linear_simulation.specs.Simulates.{has_one, has_clauses, clauses_have_clauses}
 use Rattle.linear_meaning.proofs.Rows.{Row, behind, with_last}
-use Rattle.linear_meaning.proofs.Expressions.{lowered, dropped_row, constructed_row}
+use Rattle.linear_meaning.proofs.Expressions.{lowered, dropped_row, stored_row, store_row, constructed_row}
 
 -- a handler is there
 abbrev pub some_handler : Handlers → Bool
@@ -53,7 +53,7 @@ Rest rest = (d : ℕ) → Row (rest d)
 
 -- a value's operation
 pub valued : (l : Lowering) (e : Expression) (p : Place) → Row ((lower l e (first_temporary l)).before ++ op (store p (lower l e (first_temporary l)).value) ∷ [])
-valued l e p = with_last (lower l e (first_temporary l)).before _ (lowered l e (first_temporary l)) refl
+valued l e p = stored_row (lower l e (first_temporary l)) p (lowered l e (first_temporary l))
 
 -- what is thrown
 int_row : (l : Lowering) (e : Expression) → Row (int_thrown l e)
@@ -88,11 +88,11 @@ throwing_row l (Some e) = operand_row l e
 returning_row : (l : Lowering) (e : Option Expression) (d : ℕ) → Row (returning l e d)
 returning_row l None d = refl
 returning_row l (Some e) d =
-    with_last (with_value (lower l e (first_temporary l)) (λ v. op (store (slot_place (result_slot l)) v))) _ (valued l e (slot_place (result_slot l))) refl
+    with_last (lower_store l e (slot_place (result_slot l)) (first_temporary l)) _ (store_row l e (slot_place (result_slot l)) (first_temporary l)) refl
 
 initialised_row : (l : Lowering) (n : Name) (e : Option Expression) → Row (initialised l n e)
 initialised_row l n None = refl
-initialised_row l n (Some e) = valued l e (slot_place (variable_slot l (local_number n.bound)))
+initialised_row l n (Some e) = store_row l e (slot_place (variable_slot l (local_number n.bound))) (first_temporary l)
 
 bound_row : (l : Lowering) (n : Option Name) (p : Place) → Row (bound_to l n p)
 bound_row l None p = refl
@@ -156,7 +156,7 @@ mutual
       both_true (both_true (some_clause l hs i m (d + 2) parts.0)
       (both_true (statements_row l ss i n (d + 2) inner.0) (clauses_row l hs i m (d + 2) inner.1))) (k d)
   statement_row l (assign names e) rest i n d h k =
-      behind (with_value (lower l e (first_temporary l)) (λ v. op (store (place_of l names) v))) (rest d) (valued l e (place_of l names)) (k d)
+      behind (lower_store l e (place_of l names) (first_temporary l)) (rest d) (store_row l e (place_of l names) (first_temporary l)) (k d)
   statement_row l (evaluate e) rest i n d h k = behind (dropped l e (first_temporary l)) (rest d) (dropped_row l e (first_temporary l)) (k d)
   statement_row l (local_int x e) rest i n d h k = behind (initialised l x e) (rest d) (initialised_row l x e) (k d)
   statement_row l (local_ref x names) rest i n d h k =

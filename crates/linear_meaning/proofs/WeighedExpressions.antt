@@ -12,7 +12,7 @@ use Rattle.meaning_forms.specs.Running.{constructor}
 use Rattle.meaning_forms.specs.Expression.{lvalue_of, names_of, callee_bound, receiver, parameter_types, constructor_types}
 use Rattle.region_forms.specs.Form.{Place, Value, number as number_value, call_value, arguments_from, store, evaluate, construct, call as call_only, op, branch, in_order}
 use Rattle.region_forms.specs.Numbering.{number_of}
-use Rattle.region_forms.specs.LowerExpression.{Lowering, slot_place, place_of, has_call, some_call, Lowered, LoweredArguments, LoweredCall, stored_in, truth_of, if_true, if_false, left_stored, both, given_before, call_of, call_stored, call_dropped, int_passed, address_passed, refers, lower, lower_arguments, dropped, constructor_chosen, lower_construct}
+use Rattle.region_forms.specs.LowerExpression.{Lowering, slot_place, place_of, has_call, some_call, Lowered, LoweredArguments, LoweredCall, stored_in, truth_of, if_true, if_false, left_stored, both, given_before, call_of, call_placed, call_stored, call_dropped, int_passed, address_passed, refers, lower, lower_arguments, dropped, lower_store, constructor_chosen, lower_construct}
 use Rattle.source_bounds.specs.LeastTokens.{tokens_in, tokens_in_all}
 use Rattle.linear_meaning.proofs.Weights.{Weigh, Weighs, no_weight, upto, first_of, single, then_others, then_one, an_op, in_a_row, two_sides}
 
@@ -132,6 +132,27 @@ module _ (l : Lowering) where
       (call_dropped_weighs (40 * tokens_in_all es) (call_of l n.bound [] es given) (given_weigh (40 * tokens_in_all es) n.bound given (arguments_weigh es [] t))) (omega arith)
   dropped_weighs (paren e place) t = upto (40 * tokens_in (paren e place)) (dropped_weighs e t) (omega arith)
   dropped_weighs e t = valued_weighs e t (priced e t)
+
+  call_placed_weighs : (m : ℕ) (p : Place) (c : LoweredCall) → Weigh m c.before → Weigh (m + 16) (call_placed p c)
+  call_placed_weighs m p c h =
+      let value = call_value c.callee (arguments_from c.arguments) in then_one c.before (op (store p value)) h (an_op (store p value))
+
+  pub stored_weighs : (e : Expression) (p : Place) (t : ℕ) → Priced (40 * tokens_in e) (lower l e t) → Weigh (40 * tokens_in e) ((lower l e t).before ++ op (store p (lower l e t).value) ∷ [])
+  stored_weighs e p t h =
+      upto (40 * tokens_in e) (then_one (lower l e t).before (op (store p (lower l e t).value)) h.before (an_op (store p (lower l e t).value))) (omega (arith, h.total))
+
+  pub store_weighs : (e : Expression) (p : Place) (t : ℕ) → Weigh (40 * tokens_in e) (lower_store l e p t)
+  store_weighs (call names es) p t =
+      let b = callee_bound names in
+      let given = lower_arguments l es (parameter_types l.program b) t in
+      upto (40 * tokens_in (call names es))
+      (call_placed_weighs (40 * tokens_in_all es) p (call_of l b (receiver names) es given) (given_weigh (40 * tokens_in_all es) b given (arguments_weigh es (parameter_types l.program b) t))) (omega arith)
+  store_weighs (std_call n es place) p t =
+      let given = lower_arguments l es [] t in
+      upto (40 * tokens_in (std_call n es place))
+      (call_placed_weighs (40 * tokens_in_all es) p (call_of l n.bound [] es given) (given_weigh (40 * tokens_in_all es) n.bound given (arguments_weigh es [] t))) (omega arith)
+  store_weighs (paren e place) p t = upto (40 * tokens_in (paren e place)) (store_weighs e p t) (omega arith)
+  store_weighs e p t = stored_weighs e p t (priced e t)
 
   pub built_weighs : (k : ℕ) (es : Expressions) (p : Place) (t : ℕ) → Weigh (40 * tokens_in_all es + 16) (lower_construct l k es p t)
   built_weighs k es p t =

@@ -13,11 +13,11 @@ use Rattle.meaning_forms.specs.Frame.{local_number}
 use Rattle.meaning_forms.specs.Expression.{lvalue_of, callee_bound}
 use Rattle.region_forms.specs.Form.{Place, store, bind, make, throw as throw_op, rethrow, enter, destroy_scope, free_object, leave_handler, Region, op, branch, leave_region, Clauses, in_order}
 use Rattle.region_forms.specs.Numbering.{number_of, type_number, destructor_of, declared_in, all_declared_in}
-use Rattle.region_forms.specs.LowerExpression.{Lowering, result_slot, exception_slot, first_temporary, slot_place, place_of, lvalue_type, has_call, Lowered, lower, dropped, lower_construct}
-use Rattle.region_forms.specs.LowerStatement.{variable_slot, copied, thrown_place, thrown_as, int_thrown, object_thrown, call_thrown, part_thrown, lvalue_thrown, operand_thrown, throwing, with_value, returning, initialised, bound_to, looping, scoped, caught_parameter, with_caught, handler, nothing_more, statement, otherwise, statements, clauses}
+use Rattle.region_forms.specs.LowerExpression.{Lowering, result_slot, exception_slot, first_temporary, slot_place, place_of, lvalue_type, has_call, Lowered, lower, dropped, lower_store, lower_construct}
+use Rattle.region_forms.specs.LowerStatement.{variable_slot, copied, thrown_place, thrown_as, int_thrown, object_thrown, call_thrown, part_thrown, lvalue_thrown, operand_thrown, throwing, returning, initialised, bound_to, looping, scoped, caught_parameter, with_caught, handler, nothing_more, statement, otherwise, statements, clauses}
 use Rattle.source_bounds.specs.LeastTokens.{tokens_in, tokens_in_all, tokens_in_value, statement_tokens, else_tokens, statements_tokens, handlers_tokens}
 use Rattle.linear_meaning.proofs.Weights.{weight_clauses, Weigh, Weighs, no_weight, upto, first_of, single, then_others, then_one, an_op, in_a_row, two_sides, a_scope}
-use Rattle.linear_meaning.proofs.WeighedExpressions.{Priced, priced, dropped_weighs, built_weighs}
+use Rattle.linear_meaning.proofs.WeighedExpressions.{Priced, priced, dropped_weighs, stored_weighs, store_weighs, built_weighs}
 
 pub record WeighedClauses (m : ℕ) (cs : Clauses) : Type 0 where
   pub few : weight_clauses cs ≤ m
@@ -33,9 +33,10 @@ module _ (l : Lowering) where
   computed e = priced l e (first_temporary l)
 
   pub valued : (e : Expression) (p : Place) → Weigh (40 * tokens_in e) ((at_first e).before ++ op (store p (at_first e).value) ∷ [])
-  valued e p =
-      let x = computed e in
-      upto (40 * tokens_in e) (then_one (at_first e).before (op (store p (at_first e).value)) x.before (an_op (store p (at_first e).value))) (omega (arith, x.total))
+  valued e p = stored_weighs l e p (first_temporary l) (computed e)
+
+  placed : (e : Expression) (p : Place) → Weigh (40 * tokens_in e) (lower_store l e p (first_temporary l))
+  placed e p = store_weighs l e p (first_temporary l)
 
   -- what is thrown
   thrown : (t : ObjectType) (build : List Region) (m : ℕ) → Weigh m build → Weigh (m + 65) (thrown_as l t build)
@@ -84,11 +85,11 @@ module _ (l : Lowering) where
   returning_weighs : (e : Option Expression) (d : ℕ) → Weigh (40 * tokens_in_value e + 2) (returning l e d)
   returning_weighs None d = single (an_exit d)
   returning_weighs (Some e) d =
-      then_one (with_value (at_first e) (λ v. op (store (slot_place (result_slot l)) v))) (leave_region d) (valued e (slot_place (result_slot l))) (an_exit d)
+      then_one (lower_store l e (slot_place (result_slot l)) (first_temporary l)) (leave_region d) (placed e (slot_place (result_slot l))) (an_exit d)
 
   initialised_weighs : (x : Name) (e : Option Expression) → Weigh (40 * tokens_in_value e) (initialised l x e)
   initialised_weighs x None = no_weight 0
-  initialised_weighs x (Some e) = valued e (slot_place (variable_slot l (local_number x.bound)))
+  initialised_weighs x (Some e) = placed e (slot_place (variable_slot l (local_number x.bound)))
 
   bound_weighs : (x : Option Name) (p : Place) → Weigh 16 (bound_to l x p)
   bound_weighs None p = no_weight 16
@@ -156,7 +157,7 @@ module _ (l : Lowering) where
         record { few = omega (arith, body.few, others.few, after.few) }
     statement_weighs (assign names e) rest m i n d r =
         upto (40 * statement_tokens (assign names e) + m)
-        (then_others ((at_first e).before ++ op (store (place_of l names) (at_first e).value) ∷ []) (rest d) (valued e (place_of l names)) (r d)) (omega arith)
+        (then_others (lower_store l e (place_of l names) (first_temporary l)) (rest d) (placed e (place_of l names)) (r d)) (omega arith)
     statement_weighs (evaluate e) rest m i n d r =
         upto (40 * statement_tokens (evaluate e) + m)
         (then_others (dropped l e (first_temporary l)) (rest d) (dropped_weighs l e (first_temporary l)) (r d)) (omega arith)

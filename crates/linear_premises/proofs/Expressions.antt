@@ -11,7 +11,7 @@ use Rattle.cxx_ast.specs.declared.types.Ty.{Ty}
 use Rattle.cxx_ast.specs.Plain.{Expression, number, path, paren, unary, binary, call, std_call, Expressions, no_expressions, expression_then}
 use Rattle.meaning_forms.specs.Expression.{lvalue_of, names_of, callee_bound, receiver, parameter_types, constructor_types, function_named}
 use Rattle.region_forms.specs.Form.{Place, arguments_from, store, evaluate, op, Region, regions_from}
-use Rattle.region_forms.specs.LowerExpression.{Lowering, place_of, has_call, some_call, Lowered, LoweredArguments, stored_in, truth_of, both, receiver_argument, callee_of, handler_arguments, given_arguments, given_before, int_passed, address_passed, refers, lower, lower_arguments, dropped, constructor_chosen, lower_construct}
+use Rattle.region_forms.specs.LowerExpression.{Lowering, place_of, has_call, some_call, Lowered, LoweredArguments, stored_in, truth_of, both, receiver_argument, callee_of, handler_arguments, given_arguments, given_before, int_passed, address_passed, refers, lower, lower_arguments, dropped, lower_store, constructor_chosen, lower_construct}
 use Rattle.address_bounds.specs.Everywhere.{Said, RegionsAll}
 use Rattle.flight_homes.specs.Lives.{HandlersKnown, CalleeKnown, ValueKnown, OpKnown, anything}
 
@@ -117,6 +117,19 @@ module _ (l : Lowering) where
   dropped_good (path names) t = evaluated (path names) t
   dropped_good (unary o e place) t = evaluated (unary o e place) t
   dropped_good (binary o a b) t = evaluated (binary o a b) t
+
+  pub store_good : (e : Expression) (p : Place) (t : ℕ) → Good (lower_store l e p t)
+  store_good (call names es) p t =
+      let b = callee_bound names in
+      let given = lower_arguments l es (parameter_types l.program b) t in
+      then_good (given_before b given) _ (before_good b given (arguments_given es (parameter_types l.program b) t)) (call_known l b (receiver names) es given, tt)
+  store_good (std_call x es place) p t =
+      let given = lower_arguments l es [] t in then_good (given_before x.bound given) _ (before_good x.bound given (arguments_given es [] t)) (call_known l x.bound [] es given, tt)
+  store_good (paren e place) p t = store_good e p t
+  store_good (number v place) p t = valued (number v place) t p
+  store_good (path names) p t = valued (path names) t p
+  store_good (unary o e place) p t = valued (unary o e place) t p
+  store_good (binary o a b) p t = valued (binary o a b) t p
 
   pub built_good : (k : ℕ) (es : Expressions) (p : Place) (t : ℕ) → Good (lower_construct l k es p t)
   built_good k es p t =

@@ -27,14 +27,14 @@ use Rattle.cxx_ast.specs.Grammatical.{IsExpression, AreExpressions}
 use Rattle.meaning_forms.specs.Class.{object_type, function_at, method_at}
 use Rattle.meaning_forms.specs.Running.{function, method}
 use Rattle.meaning_forms.specs.Expression.{lvalue_of, names_of, receiver, callee_bound, types_of, parameter_types, function_named, function_number as function_number_bound, count_of as expressions_count}
-use Rattle.region_forms.specs.Form.{handler_argument, address_argument, arguments_from}
-use Rattle.region_forms.specs.LowerExpression.{handler_arguments, call_dropped, Lowered, LoweredArguments, LoweredCall, has_call, some_call, both, call_of, call_stored, address_passed, int_passed, refers, place_of, lower, lower_arguments}
-use Rattle.region_forms.specs.Mentioned.{slots_of, slots_of_arguments}
-use Rattle.region_forms.specs.WellFormed.{count_of}
+use Rattle.region_forms.specs.Form.{Place, handler_argument, address_argument, arguments_from}
+use Rattle.region_forms.specs.LowerExpression.{handler_arguments, call_dropped, call_placed, Lowered, LoweredArguments, LoweredCall, has_call, some_call, both, call_of, call_stored, address_passed, int_passed, refers, place_of, lower, lower_arguments}
+use Rattle.region_forms.specs.Mentioned.{slots_of, slots_of_root, slots_of_arguments}
+use Rattle.region_forms.specs.WellFormed.{count_of, int_place}
 use Rattle.region_forms.specs.Layout.{layout_of}
 use Rattle.region_ir.proofs.AtNumber.{number_within}
 use Rattle.region_formed.proofs.Fine.{Fine, fine_parts}
-use Rattle.region_formed.proofs.Meant.{ParamsMeant, Shaped, numbered, Given, lowering_in, regions_in, Reach, MeaningMeant}
+use Rattle.region_formed.proofs.Meant.{ParamsMeant, Shaped, numbered, Given, lowering_in, slots_in, regions_in, Reach, MeaningMeant}
 use Rattle.region_formed.proofs.Meanings.{look_meant}
 use Rattle.region_formed.proofs.Paths.{path_meant}
 use Rattle.region_formed.proofs.Called.{Callable, calls_function, calls_method, calls_builtin, builds, bound_called, CalledFine, CallMeant, called, std_called}
@@ -215,6 +215,14 @@ call_put {g = g} {c = c} t free h =
 -- a call whose value is dropped
 pub call_dropped_passes : {g : Given} {c : LoweredCall} → CallPasses g c → Pass g (call_dropped c)
 call_dropped_passes h = with_last h.before (record { holds = λ few. both_true (h.given.holds few) h.callee })
+
+-- a call whose value is stored in a place
+pub call_placed_passes : {g : Given} {c : LoweredCall} → (p : Place) → int_place (regions_in g) (slots_in g) p ≡ true → CallPasses g c → Pass g (call_placed p c)
+call_placed_passes {g = g} {c = c} p there h =
+    with_last h.before (record {
+      holds = λ few. let parts = of_max (slots_of_root p.root) (slots_of_arguments (arguments_from c.arguments)) (slots_of g.body) few in
+          both_true there (both_true (h.given.holds parts.1) h.callee);
+    })
 
 -- what is called of `std` has ints alone as parameters
 std_types : (g : Given) (b : Bool) (o : Option Builtin) →

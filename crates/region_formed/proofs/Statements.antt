@@ -19,13 +19,13 @@ use Rattle.cxx_ast.specs.Resolve.{bind, bind_some, resolve_class, resolve_type, 
 use Rattle.cxx_ast.specs.Grammatical.{Each, Where, NotEmpty, IsReference, IsExpression, AreExpressions, IsCall, IsStatement}
 use Rattle.meaning_forms.specs.Class.{class_type, class_named, object_type}
 use Rattle.meaning_forms.specs.Expression.{callee_bound, receiver}
-use Rattle.region_forms.specs.Form.{Place, Value, store, Region, op, branch, loop, catch, leave_region, Clauses, clause_then, regions_from, in_order}
+use Rattle.region_forms.specs.Form.{Place, Value, Region, branch, loop, catch, leave_region, Clauses, clause_then, regions_from, in_order}
 use Rattle.region_forms.specs.Layout.{layout_of}
 use Rattle.region_forms.specs.Numbering.{declared_in}
-use Rattle.region_forms.specs.LowerExpression.{Lowered, result_slot, exception_slot, first_temporary, slot_place, place_of, lower, dropped, lower_construct}
-use Rattle.region_forms.specs.LowerStatement.{variable_slot, thrown_place, with_value, returning, initialised, bound_to, looping, scoped, caught_parameter, with_caught, handler}
+use Rattle.region_forms.specs.LowerExpression.{Lowered, result_slot, exception_slot, first_temporary, slot_place, place_of, lower, dropped, lower_store, lower_construct}
+use Rattle.region_forms.specs.LowerStatement.{variable_slot, thrown_place, returning, initialised, bound_to, looping, scoped, caught_parameter, with_caught, handler}
 use Rattle.region_forms.specs.Mentioned.{slots_of, slots_of_all, slots_of_value, slots_of_clauses}
-use Rattle.region_forms.specs.WellFormed.{is_reference, address_place, clause_type_test}
+use Rattle.region_forms.specs.WellFormed.{is_reference, int_place, address_place, clause_type_test}
 use Rattle.region_ir.specs.Leaves.{clause_leaves_test}
 use Rattle.region_ir.proofs.Specials.{take_objects}
 use Rattle.region_formed.proofs.Fine.{Fine, fine_parts, fine_sound}
@@ -35,7 +35,7 @@ use Rattle.region_formed.proofs.Paths.{path_meant}
 use Rattle.region_formed.proofs.Types.{class_stands, type_typed, stands_typed, held_same, From, from_first, variable_meant, slot_of, place_of_variable}
 use Rattle.region_formed.proofs.Called.{called, std_called}
 use Rattle.region_formed.proofs.Passing.{Few, OnePasses, Pass, ValuePasses, of_max, then_pass, one_then, none_pass, one_pass, with_last, in_order_passes, op_passes, put_passes, number_passes, LoweredPasses}
-use Rattle.region_formed.proofs.Expressions.{call_dropped_passes, not_thrown, call_meant, std_meant, lowered, arguments_lowered}
+use Rattle.region_formed.proofs.Expressions.{call_dropped_passes, call_placed_passes, not_thrown, call_meant, std_meant, lowered, arguments_lowered}
 use Rattle.region_formed.proofs.Building.{construct_passes}
 use Rattle.region_formed.proofs.Throws.{free, help_there, thrown_there, protected, value_put, copied_passes}
 
@@ -214,18 +214,41 @@ module _ (g : Given) where
       let a = judged g.env sc e in
       lowered g sc r e i (fine_parts g.defined a.found (int_wanted a.kind a.place) f).0 (first_temporary (lowering_in g)) (free g)
 
+  -- a value that is stored in a place
+  stored : (sc : Scope) → Reach g sc → (e : Expression) → IsExpression e → Fine g.defined (judged g.env sc e).found → (p : Place) →
+      int_place (regions_in g) (slots_in g) p ≡ true → Pass g (lower_store (lowering_in g) (resolve_expression g.env sc e) p (first_temporary (lowering_in g)))
+  stored sc r (call names es) i f p there =
+      let c = called g sc r false names (all_judged g.env sc es) i.0 f in
+      call_placed_passes p there (call_meant g sc r false es i.1 (first_temporary (lowering_in g)) (callee_bound (resolve_path g.env sc names))
+      (receiver (resolve_path g.env sc names)) _ c (not_thrown g sc r (all_judged g.env sc es) (receiver (resolve_path g.env sc names)) c.what c.fine)
+      (λ types s. arguments_lowered g sc r es types s (first_temporary (lowering_in g)) (free g)))
+  stored sc r (std_call n es place) i f p there =
+      let c = std_called g sc false place n (all_judged g.env sc es) f in
+      call_placed_passes p there (std_meant g sc r false n es place i _ c (not_thrown g sc r (all_judged g.env sc es) [] c.what c.fine) (first_temporary (lowering_in g))
+      (λ types s. arguments_lowered g sc r es types s (first_temporary (lowering_in g)) (free g)))
+  stored sc r (paren e place) i f p there = stored sc r e i f p there
+  stored sc r (number v place) i f p there = value_put p (lowered g sc r (number v place) i f (first_temporary (lowering_in g)) (free g)) there
+  stored sc r (path names) i f p there = value_put p (lowered g sc r (path names) i f (first_temporary (lowering_in g)) (free g)) there
+  stored sc r (unary o e place) i f p there = value_put p (lowered g sc r (unary o e place) i f (first_temporary (lowering_in g)) (free g)) there
+  stored sc r (binary o a b) i f p there = value_put p (lowered g sc r (binary o a b) i f (first_temporary (lowering_in g)) (free g)) there
+
+  int_stored : (sc : Scope) → Reach g sc → (e : Expression) → IsExpression e → Fine g.defined (int_found (judged g.env sc e)) → (p : Place) →
+      int_place (regions_in g) (slots_in g) p ≡ true → Pass g (lower_store (lowering_in g) (resolve_expression g.env sc e) p (first_temporary (lowering_in g)))
+  int_stored sc r e i f p there =
+      let a = judged g.env sc e in stored sc r e i (fine_parts g.defined a.found (int_wanted a.kind a.place) f).0 p there
+
   pub returned : (sc : Scope) → Reach g sc → (b : Bool) (place : ℕ) (e : Option Expression) → Where IsExpression e → Fine g.defined (return_found g.env sc b place e) →
       (d : ℕ) → Pass g (returning (lowering_in g) (resolve_value g.env sc e) d)
   returned sc r b place None i f d = one_pass (left_passes g d)
   returned sc r true place (Some e) i f d =
-      with_last (value_put (slot_place (result_slot (lowering_in g))) (value sc r e i f) (int_in g (result_slot (lowering_in g)) (result_at g))) (left_passes g d)
+      with_last (int_stored sc r e i f (slot_place (result_slot (lowering_in g))) (int_in g (result_slot (lowering_in g)) (result_at g))) (left_passes g d)
   returned sc r false place (Some e) i f d = absurd f
 
   pub started : (sc : Scope) → Reach g sc → (n : Name) (e : Option Expression) → Where IsExpression e → Fine g.defined (start_found g.env sc e) →
       slice_get g.variables sc.next ≡ Some Int → Pass g (initialised (lowering_in g) (bind n (Local sc.next)) (resolve_value g.env sc e))
   started sc r n None i f v = none_pass
   started sc r n (Some e) i f v =
-      value_put (slot_place (variable_slot (lowering_in g) sc.next)) (value sc r e i f) (place_of_variable g sc.next Int int_kind v refl tt).0
+      int_stored sc r e i f (slot_place (variable_slot (lowering_in g) sc.next)) (place_of_variable g sc.next Int int_kind v refl tt).0
 
   pub reference_bound : (sc : Scope) (t : Ty) → IsReference t → slice_get g.variables sc.next ≡ Some (resolve_type g.env sc t) → (n : Option Name) (p : Place) →
       address_place (regions_in g) (slots_in g) p ≡ true → Pass g (bound_to (lowering_in g) (bind_some n (Local sc.next)) p)
@@ -260,14 +283,13 @@ module _ (g : Given) where
   -- an assignment
   pub assigned : (sc : Scope) → Reach g sc → (names : List Name) (e : Expression) → NotEmpty names → IsExpression e →
       Fine g.defined (assigned_found (reached g.env sc names) (first_place names) ++ int_found (judged g.env sc e)) →
-      Pass g (with_value (lower (lowering_in g) (resolve_expression g.env sc e) (first_temporary (lowering_in g)))
-      (λ v. op (store (place_of (lowering_in g) (resolve_path g.env sc names)) v)))
+      Pass g (lower_store (lowering_in g) (resolve_expression g.env sc e) (place_of (lowering_in g) (resolve_path g.env sc names)) (first_temporary (lowering_in g)))
   assigned sc r [] e some i f = absurd some
   assigned sc r (n ∷ names) e some i f =
       let x = reached g.env sc (n ∷ names) in
       let parts = fine_parts g.defined (assigned_found x (first_place (n ∷ names))) (int_found (judged g.env sc e)) f in
       let way = fine_parts g.defined x.found _ parts.0 in
-      value_put (place_of (lowering_in g) (resolve_path g.env sc (n ∷ names))) (value sc r e i parts.1) (path_meant g sc r n names way.0).int
+      int_stored sc r e i parts.1 (place_of (lowering_in g) (resolve_path g.env sc (n ∷ names))) (path_meant g sc r n names way.0).int
 
   -- a local object, and what is done in its scope
   pub object_passes : (sc : Scope) → Reach g sc → (c n : Name) (es : Expressions) → AreExpressions es → Fine g.defined (class_found g.env sc c) →

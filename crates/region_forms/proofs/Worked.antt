@@ -3,15 +3,15 @@ use Rattle.std.specs.Prelude.{◌≡◌, refl, pos, ℕ, true, false, List, [], 
 use Rattle.cxx_ast.specs.declared.name.Bound.{Bound}
 use Rattle.cxx_ast.specs.declared.name.Bound.TheVariants.{Local, Field, Class, Func, Builtin}
 use Rattle.cxx_ast.specs.declared.name.Builtin.TheVariants.{WriteInt, Module, SetUnexpected}
-use Rattle.cxx_ast.specs.declared.types.Ty.TheVariants.{Int, Void, Object, ObjectRef}
+use Rattle.cxx_ast.specs.declared.types.Ty.TheVariants.{Int, Void, Object, IntRef, ObjectRef}
 use Rattle.cxx_ast.specs.declared.declaration.FuncKind.TheVariants.{Plain, Constructor, Destructor}
 use Rattle.cxx_ast.specs.declared.expression.BinaryOp.TheVariants.{Add, Less, Equal, And, Or}
-use Rattle.cxx_ast.specs.Plain.{Class as ClassTree, listed, noexcept, Specification, Checked, Expression, number, path, binary, call, std_call, Expressions, no_expressions, expression_then, Statement, if_else, block, while, return, break, continue, throw, try, assign, evaluate, local_int, local_object, no_else, Statements, no_statements, statement_then, no_handlers, handler_then}
+use Rattle.cxx_ast.specs.Plain.{Class as ClassTree, listed, noexcept, Specification, Checked, Expression, number, path, paren, binary, call, std_call, Expressions, no_expressions, expression_then, Statement, if_else, block, while, return, break, continue, throw, try, assign, evaluate, local_int, local_object, no_else, Statements, no_statements, statement_then, no_handlers, handler_then}
 use Rattle.eh_outer.specs.declared.module.Reply.{Reply}
 use Rattle.eh_outer.specs.declared.module.Reply.TheVariants.{Raise}
 use Rattle.meaning_forms.specs.Meaning.{program_meaning}
 use Rattle.meaning_forms.proofs.Trees.{nm, pa, ini, fn, cl, ck}
-use Rattle.region_forms.specs.Form.{Place, in_slot, through, defined, builtin, Value, number as number_value, load, binary as binary_value, Arguments, no_arguments, argument_then, int_argument, store, call as call_op, construct, enter, destroy_scope, leave_handler, Region, op, protect, catch, leave_region, no_clauses, clause_then, in_order, function_at}
+use Rattle.region_forms.specs.Form.{Place, in_slot, through, defined, builtin, Value, number as number_value, load, binary as binary_value, call_value, Arguments, no_arguments, argument_then, int_argument, store, call as call_op, construct, enter, destroy_scope, leave_handler, Region, op, protect, catch, leave_region, no_clauses, clause_then, in_order, function_at}
 use Rattle.region_forms.specs.Layout.{layout_of}
 use Rattle.region_forms.specs.LowerProgram.{regions_of}
 use Rattle.region_forms.specs.Meaning.{regions_meaning}
@@ -171,6 +171,42 @@ two_objects-regions : (function_at (regions_of two_objects (layout_of two_object
     (destroy_scope (at 1) 6) ∷ []) ∷ [])
 unfolding two_objects
 two_objects-regions = refl
+
+-- What a call gives goes to a variable, behind a reference and to the result at once, also in parentheses; inside a sum it waits in slot 4.
+--     int h(int k) { write_int(k); return k; } int f(int& x) { int y = h(1); x = (h(y)); y = h(2) + x; return h(y); } int main() { int a; return f(a) + a; }
+calls_that_are_stored : Checked
+calls_that_are_stored = ck (bad_exception ∷ []) [] (
+    fn Plain Int (pa Int (Some (nm (Local 0))) ∷ []) None [] (rows (say (var (Local 0)) ∷ return 0 (Some (var (Local 0))) ∷ [])) ∷
+    fn Plain Int (pa (IntRef false) (Some (nm (Local 0))) ∷ []) None [] (rows (
+    local_int (nm (Local 1)) (Some (called (Func 0) (int 1 ∷ []))) ∷
+    assign (nm (Local 0) ∷ []) (paren (called (Func 0) (var (Local 1) ∷ [])) 0) ∷
+    assign (nm (Local 1) ∷ []) (binary Add (called (Func 0) (int 2 ∷ [])) (var (Local 0))) ∷
+    return 0 (Some (called (Func 0) (var (Local 1) ∷ []))) ∷ [])) ∷
+    fn Plain Int [] None [] (rows (
+    local_int (nm (Local 0)) None ∷
+    return 0 (Some (binary Add (called (Func 1) (var (Local 0) ∷ [])) (var (Local 0)))) ∷ [])) ∷ []) 2
+
+calls_that_are_stored-same : AreSame calls_that_are_stored []
+unfolding calls_that_are_stored
+calls_that_are_stored-same = (refl, refl)
+
+-- what function h gives
+abbrev given_by_h : Value → Value
+given_by_h v = call_value (defined 0) (given v)
+
+-- what x refers to
+abbrev referred : Place
+referred = record { root = through 0; offset = 0 }
+
+calls_that_are_stored-regions : (function_at (regions_of calls_that_are_stored (layout_of calls_that_are_stored)) 1).body ≡ in_order (in_order (
+    op (store (at 1) (given_by_h (number_value (pos 1)))) ∷
+    op (store referred (given_by_h (load (at 1)))) ∷
+    op (store (at 4) (given_by_h (number_value (pos 2)))) ∷
+    op (store (at 1) (binary_value Add (load (at 4)) (load referred))) ∷
+    op (store (at 2) (given_by_h (load (at 1)))) ∷
+    leave_region 2 ∷ []) ∷ [])
+unfolding calls_that_are_stored
+calls_that_are_stored-regions = refl
 
 -- What is `noexcept` is unwound, and ends the program, whatever comes out of it: an int, a foreign exception, or an exception of a destructor.
 --     struct T { int n; T(int k) { n = k; } ~T() noexcept { write_int(n); if (n == 2) throw n; } };

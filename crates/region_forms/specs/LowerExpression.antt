@@ -1,6 +1,6 @@
--- How expressions are lowered. A call stands alone in an operation that stores its value in a slot of its own; what was computed
--- before a call is stored before it, so operands and arguments are evaluated left to right (profile). What is left is a value without
--- calls.
+-- How expressions are lowered. A call stands alone in an operation that stores its value in a slot of its own, or in the place that an
+-- expression that is nothing but a call is stored in; what was computed before a call is stored before it, so operands and arguments are
+-- evaluated left to right (profile). What is left is a value without calls.
 use Rattle.std.specs.Prelude.{ℕ, ◌+◌, pos, Bool, true, false, ◌||◌, List, [], ◌∷◌, ◌++◌, drop, length, Option, Some, None, slice_get, unwrap_or, if◌then◌else◌}
 use Rattle.cxx_ast.specs.declared.name.Bound.{Bound}
 use Rattle.cxx_ast.specs.declared.name.Bound.TheVariants.{Global, Local, Field, Func, Method, Builtin as BuiltinBound}
@@ -212,6 +212,10 @@ call_of l b object es given = record {
 abbrev pub call_stored : ℕ → LoweredCall → Lowered
 call_stored t c = in_temporary (c.before ++ stored_in t (call_value c.callee (arguments_from c.arguments)) ∷ []) t
 
+-- a call's value is stored in a place by the operation that makes the call
+abbrev pub call_placed : Place → LoweredCall → List Region
+call_placed p c = c.before ++ op (store p (call_value c.callee (arguments_from c.arguments))) ∷ []
+
 -- a call's value is dropped
 abbrev pub call_dropped : LoweredCall → List Region
 call_dropped c = c.before ++ op (call_only c.callee (arguments_from c.arguments)) ∷ []
@@ -261,6 +265,14 @@ dropped l (call names es) t =
 dropped l (std_call n es place) t = call_dropped (call_of l n.bound [] es (lower_arguments l es [] t))
 dropped l (paren e place) t = dropped l e t
 dropped l e t = (lower l e t).before ++ op (evaluate (lower l e t).value) ∷ []
+
+-- an expression's value is stored in a place; where the expression is a call, its value goes there at once
+abbrev pub lower_store : Lowering → Expression → Place → ℕ → List Region
+lower_store l (call names es) p t =
+    call_placed p (call_of l (callee_bound names) (receiver names) es (lower_arguments l es (parameter_types l.program (callee_bound names)) t))
+lower_store l (std_call n es place) p t = call_placed p (call_of l n.bound [] es (lower_arguments l es [] t))
+lower_store l (paren e place) p t = lower_store l e p t
+lower_store l e p t = (lower l e t).before ++ op (store p (lower l e t).value) ∷ []
 
 -- an object of class k is built in a place
 abbrev pub constructed : ℕ → Place → LoweredArguments → List Region

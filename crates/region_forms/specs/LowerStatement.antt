@@ -17,7 +17,7 @@ use Rattle.meaning_forms.specs.Frame.{local_number}
 use Rattle.meaning_forms.specs.Expression.{lvalue_of, callee_bound}
 use Rattle.region_forms.specs.Form.{Place, Value, number, load, address_argument, arguments_from, store, bind, construct, make, throw as throw_op, rethrow, enter, destroy_scope, free_object, leave_handler, Region, op, branch, loop, protect, catch, barrier, leave_region, Clauses, no_clauses, clause_then, in_order}
 use Rattle.region_forms.specs.Numbering.{number_of, type_number, destructor_of, declared_in, all_declared_in}
-use Rattle.region_forms.specs.LowerExpression.{Lowering, result_slot, exception_slot, first_temporary, slot_place, through_place, place_of, lvalue_type, has_call, Lowered, lower, dropped, lower_construct}
+use Rattle.region_forms.specs.LowerExpression.{Lowering, result_slot, exception_slot, first_temporary, slot_place, through_place, place_of, lvalue_type, has_call, Lowered, lower, dropped, lower_store, lower_construct}
 
 -- the slot of a variable
 abbrev pub variable_slot : Lowering → ℕ → ℕ
@@ -81,13 +81,12 @@ with_value x next = x.before ++ next x.value ∷ []
 -- `return` leaves every region
 abbrev pub returning : Lowering → Option Expression → ℕ → List Region
 returning l None d = leave_region d ∷ []
-returning l (Some e) d = with_value (lower l e (first_temporary l)) (λ v. op (store (slot_place (result_slot l)) v)) ++ leave_region d ∷ []
+returning l (Some e) d = lower_store l e (slot_place (result_slot l)) (first_temporary l) ++ leave_region d ∷ []
 
 -- the initial value of a local int
 abbrev pub initialised : Lowering → Name → Option Expression → List Region
 initialised l n None = []
-initialised l n (Some e) =
-    with_value (lower l e (first_temporary l)) (λ v. op (store (slot_place (variable_slot l (local_number n.bound))) v))
+initialised l n (Some e) = lower_store l e (slot_place (variable_slot l (local_number n.bound))) (first_temporary l)
 
 -- the slot of a named reference
 abbrev pub bound_to : Lowering → Option Name → Place → List Region
@@ -145,8 +144,7 @@ abbrev mutual
   statement l (throw place e) rest i n d = throwing l e
   statement l (try ss hs) rest i n d =
       catch (in_order (statements l ss i n (d + 2))) (clauses l hs i (n + length (all_declared_in ss)) (d + 2)) ∷ rest d
-  statement l (assign names e) rest i n d =
-      with_value (lower l e (first_temporary l)) (λ v. op (store (place_of l names) v)) ++ rest d
+  statement l (assign names e) rest i n d = lower_store l e (place_of l names) (first_temporary l) ++ rest d
   statement l (evaluate e) rest i n d = dropped l e (first_temporary l) ++ rest d
   statement l (local_int x e) rest i n d = initialised l x e ++ rest d
   statement l (local_ref x names) rest i n d = bound_to l x.name (place_of l names) ++ rest d

@@ -10,8 +10,8 @@ use Rattle.cxx_ast.specs.declared.expression.BinaryOp.{BinaryOp}
 use Rattle.cxx_ast.specs.declared.expression.BinaryOp.TheVariants.{And, Or}
 use Rattle.cxx_ast.specs.Plain.{Expression, number, path, paren, unary, binary, call, std_call, Expressions, no_expressions, expression_then}
 use Rattle.meaning_forms.specs.Expression.{lvalue_of, names_of, callee_bound, parameter_types, constructor_types}
-use Rattle.region_forms.specs.Form.{Place, Region, op, evaluate, regions_from}
-use Rattle.region_forms.specs.LowerExpression.{Lowering, Lowered, LoweredArguments, has_call, some_call, both, given_before, int_passed, address_passed, refers, place_of, lower, lower_arguments, dropped, constructor_chosen, lower_construct}
+use Rattle.region_forms.specs.Form.{Place, Region, op, evaluate, store, regions_from}
+use Rattle.region_forms.specs.LowerExpression.{Lowering, Lowered, LoweredArguments, has_call, some_call, both, given_before, int_passed, address_passed, refers, place_of, lower, lower_arguments, dropped, constructor_chosen, lower_store, lower_construct}
 use Rattle.region_ir.specs.Exits.{exits_inside, all_exits_inside}
 
 -- regions at a depth whose exits lead inside
@@ -93,6 +93,21 @@ dropped_anywhere l (std_call n es place) t d =
     (given_anywhere n.bound (lower_arguments l es [] t) (lowered_arguments l es [] t) d) refl
 dropped_anywhere l (paren e place) t d = dropped_anywhere l e t d
 dropped_anywhere l e t d = evaluated (lower l e t) (lowered l e t) d
+
+-- an expression's value is stored in a place
+pub valued : (x : Lowered) (p : Place) → Anywhere x.before → Anywhere (x.before ++ op (store p x.value) ∷ [])
+valued x p h d = with_last d x.before _ (h d) refl
+
+pub store_anywhere : (l : Lowering) (e : Expression) (p : Place) (t : ℕ) → Anywhere (lower_store l e p t)
+store_anywhere l (call names es) p t d =
+    let given = lower_arguments l es (parameter_types l.program (callee_bound names)) t in
+    with_last d (given_before (callee_bound names) given) _
+    (given_anywhere (callee_bound names) given (lowered_arguments l es (parameter_types l.program (callee_bound names)) t) d) refl
+store_anywhere l (std_call n es place) p t d =
+    with_last d (given_before n.bound (lower_arguments l es [] t)) _
+    (given_anywhere n.bound (lower_arguments l es [] t) (lowered_arguments l es [] t) d) refl
+store_anywhere l (paren e place) p t d = store_anywhere l e p t d
+store_anywhere l e p t d = valued (lower l e t) p (lowered l e t) d
 
 -- an object is built in a place
 pub constructed_anywhere : (l : Lowering) (k : ℕ) (es : Expressions) (p : Place) (t : ℕ) → Anywhere (lower_construct l k es p t)

@@ -1,5 +1,5 @@
 -- The exits of what statements become lead inside, where jumps stand in loops and the exits of the rest of the block lead inside.
-use Rattle.std.proofs.Common.{◌≡◌, ◌+◌, ◌-◌, ◌<◌, ◌≤◌, ◌&&◌, ℕ, Bool, true, false, nat_le, List, [], ◌∷◌, ◌++◌, length, Option, Some, None, refl, subst, arith}
+use Rattle.std.proofs.Common.{◌≡◌, ◌+◌, ◌-◌, ◌<◌, ◌≤◌, ◌&&◌, ℕ, Bool, true, false, nat_le, List, [], length, Option, Some, None, refl, subst, arith}
 use Rattle.std.proofs.lemmas.Bool.{and_parts}
 use Rattle.std.proofs.lemmas.Bool.Decides.{nat_tests}
 use Rattle.std.specs.Cmp.Derive.{both_true}
@@ -13,12 +13,12 @@ use Rattle.cxx_ast.specs.Plain.{Expression, call, std_call, Expressions, Stateme
 use Rattle.meaning_forms.specs.Class.{ObjectType, int_type, class_type, class_named}
 use Rattle.meaning_forms.specs.Frame.{local_number}
 use Rattle.meaning_forms.specs.Expression.{lvalue_of, callee_bound}
-use Rattle.region_forms.specs.Form.{Place, store, Region, op, branch, leave_region, in_order}
+use Rattle.region_forms.specs.Form.{Place, Region, branch, leave_region, in_order}
 use Rattle.region_forms.specs.Numbering.{declared_in, all_declared_in}
-use Rattle.region_forms.specs.LowerExpression.{Lowering, result_slot, first_temporary, slot_place, place_of, lvalue_type, has_call, Lowered, lower, dropped, lower_construct}
+use Rattle.region_forms.specs.LowerExpression.{Lowering, result_slot, first_temporary, slot_place, place_of, lvalue_type, has_call, Lowered, lower, dropped, lower_store, lower_construct}
 use Rattle.region_forms.specs.LowerStatement.{variable_slot, thrown_place, int_thrown, object_thrown, call_thrown, part_thrown, lvalue_thrown, operand_thrown, throwing, with_value, returning, initialised, bound_to, looping, scoped, caught_parameter, with_caught, handler, nothing_more, statement, otherwise, statements, clauses}
 use Rattle.region_ir.specs.Exits.{exits_inside, clause_exits_inside, jumps_stand, else_jumps_stand, all_jumps_stand, handler_jumps_stand}
-use Rattle.region_ir.proofs.ExitExpressions.{Inside, behind, with_last, Anywhere, lowered, dropped_anywhere, constructed_anywhere}
+use Rattle.region_ir.proofs.ExitExpressions.{Inside, behind, with_last, Anywhere, lowered, valued, dropped_anywhere, store_anywhere, constructed_anywhere}
 
 -- the exits of what stands at a depth lead inside, at every depth that the region number i, counted from outside, holds
 abbrev pub Rest : ℕ → (ℕ → List Region) → Type 0
@@ -59,10 +59,6 @@ two_deeper d rs h = let e : d + 2 ≡ d + 1 + 1 = omega arith in subst (λ n. In
 four_deeper : (d : ℕ) (rs : List Region) → Inside (d + 4) rs → Inside (d + 1 + 1 + 1 + 1) rs
 four_deeper d rs h = let e : d + 4 ≡ d + 1 + 1 + 1 + 1 = omega arith in subst (λ n. Inside n rs) e h
 
--- a value's operation
-valued : (x : Lowered) (p : Place) → Anywhere x.before → Anywhere (x.before ++ op (store p x.value) ∷ [])
-valued x p h d = with_last d x.before _ (h d) refl
-
 -- what is thrown
 int_anywhere : (l : Lowering) (e : Expression) → Anywhere (int_thrown l e)
 int_anywhere l e d = both_true (valued (lower l e (first_temporary l)) (thrown_place l) (lowered l e (first_temporary l)) (d + 1 + 1)) refl
@@ -96,13 +92,12 @@ throwing_anywhere l (Some e) d = operand_anywhere l e d
 returning_inside : (l : Lowering) (e : Option Expression) (d : ℕ) → Exits d d → Inside d (returning l e d)
 returning_inside l None d h = both_true h refl
 returning_inside l (Some e) d h =
-    with_last d (with_value (lower l e (first_temporary l)) (λ v. op (store (slot_place (result_slot l)) v))) (leave_region d)
-    (valued (lower l e (first_temporary l)) (slot_place (result_slot l)) (lowered l e (first_temporary l)) d) h
+    with_last d (lower_store l e (slot_place (result_slot l)) (first_temporary l)) (leave_region d)
+    (store_anywhere l e (slot_place (result_slot l)) (first_temporary l) d) h
 
 initialised_anywhere : (l : Lowering) (n : Name) (e : Option Expression) → Anywhere (initialised l n e)
 initialised_anywhere l n None d = refl
-initialised_anywhere l n (Some e) d =
-    valued (lower l e (first_temporary l)) (slot_place (variable_slot l (local_number n.bound))) (lowered l e (first_temporary l)) d
+initialised_anywhere l n (Some e) d = store_anywhere l e (slot_place (variable_slot l (local_number n.bound))) (first_temporary l) d
 
 bound_anywhere : (l : Lowering) (n : Option Name) (p : Place) → Anywhere (bound_to l n p)
 bound_anywhere l None p d = refl
@@ -169,8 +164,7 @@ mutual
       both_true (both_true (two_deeper d (statements l ss i n (d + 2)) (statements_inside l ss b i n (d + 2) o parts.0 (deeper 2 i d k)))
       (clauses_inside l hs b i (n + length (all_declared_in ss)) d o parts.1 (deeper 2 i d k))) (h d k)
   statement_inside l (assign names e) rest b i n d o j h k =
-      behind d (with_value (lower l e (first_temporary l)) (λ v. op (store (place_of l names) v))) (rest d)
-      (valued (lower l e (first_temporary l)) (place_of l names) (lowered l e (first_temporary l)) d) (h d k)
+      behind d (lower_store l e (place_of l names) (first_temporary l)) (rest d) (store_anywhere l e (place_of l names) (first_temporary l) d) (h d k)
   statement_inside l (evaluate e) rest b i n d o j h k =
       behind d (dropped l e (first_temporary l)) (rest d) (dropped_anywhere l e (first_temporary l) d) (h d k)
   statement_inside l (local_int x e) rest b i n d o j h k = behind d (initialised l x e) (rest d) (initialised_anywhere l x e d) (h d k)

@@ -10,8 +10,8 @@ use Rattle.cxx_ast.specs.declared.expression.BinaryOp.{BinaryOp}
 use Rattle.cxx_ast.specs.declared.expression.BinaryOp.TheVariants.{And, Or}
 use Rattle.cxx_ast.specs.Plain.{Expression, number, path, paren, unary, binary, call, std_call, Expressions, no_expressions, expression_then}
 use Rattle.meaning_forms.specs.Expression.{lvalue_of, names_of, callee_bound, receiver, parameter_types, constructor_types, function_named}
-use Rattle.region_forms.specs.Form.{Place, Value, call_value, Argument, arguments_from, op, evaluate}
-use Rattle.region_forms.specs.LowerExpression.{Lowering, Lowered, LoweredArguments, LoweredCall, has_call, some_call, both, call_of, call_stored, call_dropped, given_before, given_arguments, handler_arguments, receiver_argument, int_passed, address_passed, refers, place_of, lower, lower_arguments, dropped, constructor_chosen, lower_construct}
+use Rattle.region_forms.specs.Form.{Place, Value, call_value, Argument, arguments_from, op, store, evaluate}
+use Rattle.region_forms.specs.LowerExpression.{Lowering, Lowered, LoweredArguments, LoweredCall, has_call, some_call, both, call_of, call_placed, call_stored, call_dropped, given_before, given_arguments, handler_arguments, receiver_argument, int_passed, address_passed, refers, place_of, lower, lower_arguments, dropped, constructor_chosen, lower_store, lower_construct}
 use Rattle.region_ir.specs.Shape.{is_pure, is_pure_or_call, are_pure}
 use Rattle.region_ir.proofs.ShapedRows.{Row, behind, with_last}
 
@@ -131,6 +131,20 @@ dropped_shaped l (call names es) t =
 dropped_shaped l (std_call n es place) t = left_alone _ (called l n.bound [] es _ (lowered_arguments l es [] t))
 dropped_shaped l (paren e place) t = dropped_shaped l e t
 dropped_shaped l e t = evaluated (lower l e t) (lowered l e t)
+
+-- an expression's value is stored in a place
+pub valued : (x : Lowered) (p : Place) → Shaped x → Row (x.before ++ op (store p x.value) ∷ [])
+valued x p h = with_last x.before _ h.before (whole x.value h.value)
+
+call_valued : (p : Place) (c : LoweredCall) → ShapedCall c → Row (call_placed p c)
+call_valued p c h = with_last c.before _ h.before h.arguments
+
+pub store_shaped : (l : Lowering) (e : Expression) (p : Place) (t : ℕ) → Row (lower_store l e p t)
+store_shaped l (call names es) p t =
+    call_valued p _ (called l (callee_bound names) (receiver names) es _ (lowered_arguments l es (parameter_types l.program (callee_bound names)) t))
+store_shaped l (std_call n es place) p t = call_valued p _ (called l n.bound [] es _ (lowered_arguments l es [] t))
+store_shaped l (paren e place) p t = store_shaped l e p t
+store_shaped l e p t = valued (lower l e t) p (lowered l e t)
 
 -- an object is built in a place
 pub constructed_shaped : (l : Lowering) (k : ℕ) (es : Expressions) (p : Place) (t : ℕ) → Row (lower_construct l k es p t)

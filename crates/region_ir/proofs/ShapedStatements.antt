@@ -1,5 +1,5 @@
 -- What statements become has the shape, where the rest of the block does at every depth that the innermost loop holds.
-use Rattle.std.proofs.Common.{◌≡◌, ◌+◌, ◌-◌, ◌<◌, ℕ, Bool, true, false, nat_le, List, [], ◌∷◌, ◌++◌, length, Option, Some, None, refl, arith}
+use Rattle.std.proofs.Common.{◌≡◌, ◌+◌, ◌-◌, ◌<◌, ℕ, Bool, true, false, nat_le, List, [], length, Option, Some, None, refl, arith}
 use Rattle.std.proofs.lemmas.Bool.Decides.{nat_tests}
 use Rattle.std.specs.Cmp.Derive.{both_true}
 use Rattle.cxx_ast.specs.declared.name.Bound.{Bound}
@@ -12,13 +12,13 @@ use Rattle.cxx_ast.specs.Plain.{Expression, call, std_call, Expressions, Stateme
 use Rattle.meaning_forms.specs.Class.{ObjectType, int_type, class_type, class_named}
 use Rattle.meaning_forms.specs.Frame.{local_number}
 use Rattle.meaning_forms.specs.Expression.{lvalue_of, callee_bound}
-use Rattle.region_forms.specs.Form.{Place, store, Region, op, branch, leave_region, in_order}
+use Rattle.region_forms.specs.Form.{Place, Region, branch, leave_region, in_order}
 use Rattle.region_forms.specs.Numbering.{declared_in, all_declared_in}
-use Rattle.region_forms.specs.LowerExpression.{Lowering, result_slot, first_temporary, slot_place, place_of, lvalue_type, has_call, Lowered, lower, dropped, lower_construct}
+use Rattle.region_forms.specs.LowerExpression.{Lowering, result_slot, first_temporary, slot_place, place_of, lvalue_type, has_call, Lowered, lower, dropped, lower_store, lower_construct}
 use Rattle.region_forms.specs.LowerStatement.{variable_slot, thrown_place, int_thrown, object_thrown, call_thrown, part_thrown, lvalue_thrown, operand_thrown, throwing, with_value, returning, initialised, bound_to, looping, scoped, caught_parameter, with_caught, handler, nothing_more, statement, otherwise, statements, clauses}
 use Rattle.region_ir.specs.Shape.{has_shape, is_row, clauses_have_shape}
 use Rattle.region_ir.proofs.ShapedRows.{Row, behind, with_last}
-use Rattle.region_ir.proofs.ShapedExpressions.{Shaped, whole, lowered, dropped_shaped, constructed_shaped}
+use Rattle.region_ir.proofs.ShapedExpressions.{Shaped, lowered, valued, dropped_shaped, store_shaped, constructed_shaped}
 
 -- what stands at a depth has the shape at every depth that the region number i, counted from outside, holds
 abbrev pub Rest : ℕ → (ℕ → List Region) → Type 0
@@ -39,10 +39,6 @@ to_next_turn i d h = grind (arith, nat_tests)
 
 pub deeper : (n i d : ℕ) → i < d → i < d + n
 deeper n i d h = omega (arith, h)
-
--- a value's operation
-valued : (x : Lowered) (p : Place) → Shaped x → Row (x.before ++ op (store p x.value) ∷ [])
-valued x p h = with_last x.before _ h.before (whole x.value h.value)
 
 -- what is thrown
 int_shaped : (l : Lowering) (e : Expression) → Row (int_thrown l e)
@@ -77,13 +73,11 @@ throwing_shaped l (Some e) = operand_shaped l e
 returning_shaped : (l : Lowering) (e : Option Expression) (d : ℕ) → Leaves d → Row (returning l e d)
 returning_shaped l None d h = both_true h refl
 returning_shaped l (Some e) d h =
-    with_last (with_value (lower l e (first_temporary l)) (λ v. op (store (slot_place (result_slot l)) v))) (leave_region d)
-    (valued (lower l e (first_temporary l)) (slot_place (result_slot l)) (lowered l e (first_temporary l))) h
+    with_last (lower_store l e (slot_place (result_slot l)) (first_temporary l)) (leave_region d) (store_shaped l e (slot_place (result_slot l)) (first_temporary l)) h
 
 initialised_shaped : (l : Lowering) (n : Name) (e : Option Expression) → Row (initialised l n e)
 initialised_shaped l n None = refl
-initialised_shaped l n (Some e) =
-    valued (lower l e (first_temporary l)) (slot_place (variable_slot l (local_number n.bound))) (lowered l e (first_temporary l))
+initialised_shaped l n (Some e) = store_shaped l e (slot_place (variable_slot l (local_number n.bound))) (first_temporary l)
 
 bound_shaped : (l : Lowering) (n : Option Name) (p : Place) → Row (bound_to l n p)
 bound_shaped l None p = refl
@@ -139,8 +133,7 @@ mutual
       both_true (both_true (statements_shaped l ss i n (d + 2) (deeper 2 i d k))
       (clauses_shaped l hs i (n + length (all_declared_in ss)) (d + 2) (deeper 2 i d k))) (h d k)
   statement_shaped l (assign names e) rest i n d h k =
-      behind (with_value (lower l e (first_temporary l)) (λ v. op (store (place_of l names) v))) (rest d)
-      (valued (lower l e (first_temporary l)) (place_of l names) (lowered l e (first_temporary l))) (h d k)
+      behind (lower_store l e (place_of l names) (first_temporary l)) (rest d) (store_shaped l e (place_of l names) (first_temporary l)) (h d k)
   statement_shaped l (evaluate e) rest i n d h k = behind (dropped l e (first_temporary l)) (rest d) (dropped_shaped l e (first_temporary l)) (h d k)
   statement_shaped l (local_int x e) rest i n d h k = behind (initialised l x e) (rest d) (initialised_shaped l x e) (h d k)
   statement_shaped l (local_ref x names) rest i n d h k =

@@ -5,8 +5,8 @@ use Rattle.cxx_ast.specs.Plain.{Statement, block, empty, if_else, while, return,
 use Rattle.cxx_ast.specs.declared.name.Name.{Name}
 use Rattle.cxx_ast.specs.declared.statement.Stmt.{Stmt, Block', Empty, If', While', Return, Break, Continue, Throw, Try', Assign, Call, LocalInt, LocalRef, LocalObject}
 use Rattle.cxx_ast.specs.View.{statement_of}
-use Rattle.region_forms.specs.Form.{Region, branch, in_order, op, store}
-use Rattle.region_forms.specs.LowerExpression.{Lowering, dropped, first_temporary, lower, place_of}
+use Rattle.region_forms.specs.Form.{Region, branch, in_order}
+use Rattle.region_forms.specs.LowerExpression.{Lowering, dropped, first_temporary, lower, lower_store, place_of}
 use Rattle.region_forms.specs.LowerStatement.{bound_to, initialised, nothing_more, otherwise, statement, statements, with_value}
 use Rattle.region_forms.specs.Numbering.{declared_in, all_declared_in}
 use Rattle.region_ir.specs.Standing.{leaves, opens}
@@ -31,7 +31,7 @@ goes_on l (continue place) ss i n d e f = absurd (cc e)
 goes_on l (throw place t) ss i n d e f = absurd (cc e)
 goes_on l (try ts hs) ss i n d e f = refl
 goes_on l (assign names t) ss i n d e f =
-    followed (with_value (lower l t (first_temporary l)) (λ v. op (store (place_of l names) v))) (statements l ss i (n + length (declared_in (assign names t))) d)
+    followed (lower_store l t (place_of l names) (first_temporary l)) (statements l ss i (n + length (declared_in (assign names t))) d)
 goes_on l (evaluate t) ss i n d e f = followed (dropped l t (first_temporary l)) (statements l ss i (n + length (declared_in (evaluate t))) d)
 goes_on l (local_int x t) ss i n d e f = followed (initialised l x t) (statements l ss i (n + length (declared_in (local_int x t))) d)
 goes_on l (local_ref x names) ss i n d e f =

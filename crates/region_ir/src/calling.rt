@@ -7,12 +7,13 @@ ghost use Rattle.region_forms.specs.LowerExpression as rules;
 ghost use Rattle.region_forms.specs.LowerExpression.{Lowered as LoweredMeant, LoweredCall as CallMeant};
 ghost use Rattle.region_ir.specs.Lowers.{Lowers};
 ghost use Rattle.region_ir.specs.Passed.{CallLowers, PassesOne, none_passed, takes_handler};
-ghost use Rattle.region_ir.specs.View.{argument_of, arguments_of, callee_of, region_of, value_of};
+ghost use Rattle.region_ir.specs.View.{argument_of, arguments_of, callee_of, place_of, region_of, value_of};
 
 use crate::NoMemory;
 use crate::expression::{Lowered, in_slot, stored_in};
 use crate::numbers::behind;
 use crate::operation::RegionOp;
+use crate::place::Place;
 use crate::region::Region;
 use crate::value::{Arg, Callee, Value};
 use cxx_ast::expression::Expr;
@@ -91,6 +92,20 @@ pub fn call_stored(
         value: in_slot(slot),
         next: behind(slot, 1)?,
     })
+}
+
+/// A call's value is stored in a place.
+#[inline(never)]
+pub fn call_placed(
+    place: Place,
+    call: LoweredCall,
+    before: &mut Vec<Region>,
+) -> Result<(), NoMemory>
+    ensures { (x : CallMeant) (others : List RegionMeant) → CallLowers x others before.old.items call.callee call.arguments.items → OnOk result (map region_of before.new.items ≡ others ++ rules.call_placed (place_of place) x) }
+{
+    let value = call_value(call.callee, call.arguments);
+    before.push(Region::Op(RegionOp::Store(place, value)))?;
+    Ok(())
 }
 
 /// A call's value is dropped.

@@ -2,7 +2,7 @@
 ghost use Rattle.std.specs.Prelude.{◌≡◌, ◌++◌, ◌∷◌, [], List, map, IfOk, OnOk};
 ghost use Rattle.cxx_ast.specs.View.{expression_of, expressions_of};
 ghost use Rattle.scope_flow.specs.Asked.{parameter_types_of};
-ghost use Rattle.region_forms.specs.Form.{Region as RegionMeant, evaluate, in_order, op};
+ghost use Rattle.region_forms.specs.Form.{Region as RegionMeant, evaluate, in_order, op, store};
 ghost use Rattle.region_forms.specs.LowerExpression as rules;
 ghost use Rattle.region_forms.specs.LowerExpression.{Lowered as LoweredMeant};
 ghost use Rattle.region_ir.specs.Given.{lowering_of};
@@ -13,7 +13,7 @@ ghost use Rattle.region_ir.specs.View.{argument_of, place_of, region_of};
 use crate::NoMemory;
 use crate::called::{callee_of, constructor_chosen, receiver_argument, refers};
 use crate::calling::{
-    LoweredCall, call_dropped, call_stored, pass_handler, pass_int, takes_handler,
+    LoweredCall, call_dropped, call_placed, call_stored, pass_handler, pass_int, takes_handler,
 };
 use crate::calls::{calls_among, calls_behind, has_call};
 use crate::expression::{
@@ -261,6 +261,50 @@ pub fn dropped(
         }
         Expr::Number(_, _) | Expr::Path(_) | Expr::Unary(_, _, _) | Expr::Binary(_, _, _) => {
             evaluated(l, e, slot, before)
+        }
+    }
+}
+
+/// The value of an expression is computed, and stored in a place, behind other regions.
+#[inline(never)]
+#[tactic(auto, using(crate::proofs::Behind::put_behind))]
+pub fn value_stored(
+    l: &Lowering<'_>,
+    e: &Expr,
+    place: Place,
+    slot: u32,
+    before: &mut Vec<Region>,
+) -> Result<(), NoMemory>
+    ensures { OnOk result (map region_of before.new.items ≡ map region_of before.old.items ++ ((rules.lower (lowering_of l.now) (expression_of e.now) slot).before ++ op (store (place_of place) (rules.lower (lowering_of l.now) (expression_of e.now) slot).value) ∷ [])) }
+{
+    let it = lower(l, e, slot, before)?;
+    before.push(Region::Op(RegionOp::Store(place, it.value)))?;
+    Ok(())
+}
+
+/// The value of an expression is stored in a place, behind other regions: that of a call by the operation that makes the call.
+pub fn lower_store(
+    l: &Lowering<'_>,
+    e: &Expr,
+    place: Place,
+    slot: u32,
+    before: &mut Vec<Region>,
+) -> Result<(), NoMemory>
+    ensures { OnOk result (map region_of before.new.items ≡ map region_of before.old.items ++ rules.lower_store (lowering_of l.now) (expression_of e.now) (place_of place) slot) }
+{
+    match e {
+        Expr::Paren(inner, _) => lower_store(l, inner, place, slot, before),
+        Expr::Call(callee, es) => {
+            let names = callee.path.as_slice();
+            let call = lower_named_call(l, es.as_slice(), names, slot, before)?;
+            call_placed(place, call, before)
+        }
+        Expr::StdCall(name, es, _) => {
+            let call = lower_std_call(l, es.as_slice(), name.bound, slot, before)?;
+            call_placed(place, call, before)
+        }
+        Expr::Number(_, _) | Expr::Path(_) | Expr::Unary(_, _, _) | Expr::Binary(_, _, _) => {
+            value_stored(l, e, place, slot, before)
         }
     }
 }

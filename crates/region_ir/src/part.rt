@@ -12,12 +12,11 @@ ghost use Rattle.region_ir.specs.View.{place_of, region_of, value_of};
 
 use crate::NoMemory;
 use crate::initialiser::initialiser_for;
-use crate::lower::lower_construct;
+use crate::lower::{lower_construct, value_stored};
 use crate::lowering::{Lowering, member_offset, through_place};
 use crate::operation::RegionOp;
 use crate::place::Place;
 use crate::region::Region;
-use crate::simple::stored;
 use crate::value::{Arg, Value};
 use cxx_ast::declaration::Init;
 use cxx_ast::expression::Expr;
@@ -131,7 +130,7 @@ fn initial_value(
             before.push(store(target, Value::Number(0)))?;
             Ok(())
         }
-        Some(first) => stored(l, first, target, before),
+        Some(first) => value_stored(l, first, target, l.first_temporary()?, before),
     }
 }
 

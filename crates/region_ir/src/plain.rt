@@ -8,11 +8,11 @@ ghost use Rattle.region_ir.specs.Standing.{leaves};
 ghost use Rattle.region_ir.specs.View.{region_of};
 
 use crate::NoMemory;
-use crate::lower::dropped;
+use crate::lower::{dropped, lower_store};
 use crate::lowering::Lowering;
 use crate::numbers::behind;
 use crate::region::Region;
-use crate::simple::{left, returning, stored};
+use crate::simple::{left, returning};
 use crate::statement::Standing;
 use crate::throwing::throwing;
 use crate::variable::with_statements as with_variables;
@@ -36,7 +36,10 @@ pub fn with_plain(
         Stmt::Break(_) => left(behind(at.outward(), 1)?, before),
         Stmt::Continue(_) => left(at.outward(), before),
         Stmt::Throw(_, e) => throwing(l, e, before),
-        Stmt::Assign(it, e) => stored(l, e, l.place_of(it.path.as_slice())?, before),
+        Stmt::Assign(it, e) => {
+            let place = l.place_of(it.path.as_slice())?;
+            lower_store(l, e, place, l.first_temporary()?, before)
+        }
         Stmt::Call(e) => dropped(l, e, l.first_temporary()?, before),
         _ => Err(NoMemory),
     }

@@ -3,7 +3,7 @@ ghost use Rattle.std.specs.Prelude.{◌≡◌, ◌++◌, ◌∷◌, [], true, fa
 ghost use Rattle.cxx_ast.specs.View.{expression_of, option_of};
 ghost use Rattle.meaning_forms.specs.Frame.{local_number};
 ghost use Rattle.meaning_forms.specs.Running.{destructor};
-ghost use Rattle.region_forms.specs.Form.{branch, destroy_scope, leave_region, op, protect, store};
+ghost use Rattle.region_forms.specs.Form.{branch, destroy_scope, leave_region, protect};
 ghost use Rattle.region_forms.specs.LowerExpression.{first_temporary, has_call, lower};
 ghost use Rattle.region_forms.specs.LowerStatement as rules;
 ghost use Rattle.region_forms.specs.Numbering.{number_of};
@@ -14,7 +14,7 @@ ghost use Rattle.region_ir.specs.View.{place_of, region_of};
 use crate::NoMemory;
 use crate::calls::has_call;
 use crate::expression::in_order;
-use crate::lower::lower;
+use crate::lower::{lower, lower_store};
 use crate::lowering::{Lowering, slot_place};
 use crate::numbers::behind;
 use crate::operation::{Cleanup, RegionOp};
@@ -23,22 +23,6 @@ use crate::region::Region;
 use crate::value::Value;
 use cxx_ast::expression::Expr;
 use cxx_ast::name::{Bound, Name};
-
-/// The value of an expression is stored in a place, behind other regions.
-#[inline(never)]
-#[tactic(auto, using(crate::proofs::Behind::put_behind))]
-pub fn stored(
-    l: &Lowering<'_>,
-    e: &Expr,
-    place: Place,
-    before: &mut Vec<Region>,
-) -> Result<(), NoMemory>
-    ensures { OnOk result (map region_of before.new.items ≡ map region_of before.old.items ++ rules.with_value (lower (lowering_of l.now) (expression_of e.now) (first_temporary (lowering_of l.now))) (λ v. op (store (place_of place) v))) }
-{
-    let lowered = lower(l, e, l.first_temporary()?, before)?;
-    before.push(Region::Op(RegionOp::Store(place, lowered.value)))?;
-    Ok(())
-}
 
 /// The value of an expression decides between two regions, behind others.
 #[inline(never)]
@@ -137,7 +121,8 @@ pub fn returning(
     match e {
         None => left(depth, before),
         Some(e) => {
-            stored(l, e, slot_place(l.result_slot()?), before)?;
+            let result = slot_place(l.result_slot()?);
+            lower_store(l, e, result, l.first_temporary()?, before)?;
             left(depth, before)
         }
     }
@@ -172,7 +157,10 @@ pub fn initialised(
 {
     match e {
         None => Ok(()),
-        Some(e) => stored(l, e, slot_place(local_slot(l, name)?), before),
+        Some(e) => {
+            let place = slot_place(local_slot(l, name)?);
+            lower_store(l, e, place, l.first_temporary()?, before)
+        }
     }
 }
 

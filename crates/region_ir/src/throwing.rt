@@ -13,12 +13,11 @@ use crate::NoMemory;
 use crate::called::lvalue_type;
 use crate::expression::in_order;
 use crate::handling::{copied, thrown_place};
-use crate::lower::lower_construct;
+use crate::lower::{lower_construct, value_stored};
 use crate::lowering::Lowering;
 use crate::numbering::type_number;
 use crate::operation::{Cleanup, RegionOp};
 use crate::region::Region;
-use crate::simple::stored;
 use cxx_ast::expression::Expr;
 use cxx_ast::name::{Bound, Builtin, Name};
 use scope_flow::{callee_bound, lvalue_of};
@@ -48,7 +47,8 @@ fn int_thrown(l: &Lowering<'_>, e: &Expr, before: &mut Vec<Region>) -> Result<()
     ensures { OnOk result (map region_of before.new.items ≡ map region_of before.old.items ++ rules.int_thrown (lowering_of l.now) (expression_of e.now)) }
 {
     let mut build = Vec::new(l.alloc);
-    stored(l, e, thrown_place(l)?, &mut build)?;
+    let object = thrown_place(l)?;
+    value_stored(l, e, object, l.first_temporary()?, &mut build)?;
     thrown_as(l, ObjectType::Int, build, before)
 }
 

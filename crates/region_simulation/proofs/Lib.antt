@@ -18,6 +18,8 @@ pub mod Standard
 pub mod Offsets
 pub mod Parts
 pub mod Writing
+pub mod Giving
+pub mod Placing
 pub mod Assigning
 pub mod First
 pub mod Leaving

@@ -28,7 +28,8 @@ pub fn writes_stand()
     ensures { WritesStand }
 {}
 
-/// An assignment to what names stand for is a store in their place, behind what comes before the value that is assigned.
+/// An assignment to what names stand for is a store in their place, behind what comes before the value that is assigned. Where that is what a call
+/// gives, the operation that makes the call stores it.
 pub fn assignments_store()
     ensures { AssignmentsStore }
 {}

@@ -1,25 +1,17 @@
 -- Expressions whose values are dropped. Calls do what those do whose values are stored.
-use Rattle.std.proofs.Common.{◌≡◌, ℕ, ◌≤◌, ℤ, pos, negsuc, List, [], ◌∷◌, ◌++◌, Option, Some, None, refl, sym, ap, ◌∙◌, subst, arith}
-use Rattle.std.specs.Prelude.{slice_get, slice_set, if◌then◌else◌}
-use Rattle.eh_outer.specs.declared.module.Reply.{Reply}
-use Rattle.eh_outer.specs.declared.module.Reply.TheVariants.{Value as ValueReply, Raise}
-use Rattle.run_items.specs.declared.item.Item.TheVariants.{Line}
+use Rattle.std.proofs.Common.{◌≡◌, ℕ, ◌≤◌, ℤ, List, [], ◌∷◌, ◌++◌, Option, None, refl, sym, ap, ◌∙◌, subst, arith}
+use Rattle.std.specs.Prelude.{if◌then◌else◌}
 use Rattle.cxx_ast.specs.Plain.{Checked, Expression, number, path, paren, unary, binary, call, std_call}
-use Rattle.cxx_ast.specs.declared.name.Builtin.{Builtin}
-use Rattle.cxx_ast.specs.declared.name.Builtin.TheVariants.{WriteInt, ReadByte, Exit, Module, Cancel, Terminate, SetTerminate, SetUnexpected, Uncaught, BadException}
-use Rattle.meaning_forms.specs.Arithmetic.{truth}
 use Rattle.meaning_forms.specs.World.{World as SourceWorld}
 use Rattle.meaning_forms.specs.Context.{Context as SourceContext}
 use Rattle.meaning_forms.specs.Outcome.{Result as SourceResult, done as source_done, stopped as source_stopped, thrown, cancelled, ended, undefined, out_of_turns, deep, Action as SourceAction}
 use Rattle.meaning_forms.specs.Frame.{Frame as SourceFrame}
 use Rattle.meaning_forms.specs.Expression.{callee_bound, receiver, parameter_types}
-use Rattle.region_forms.specs.Form.{Callee, defined, builtin, Arguments, arguments_from, load, call_value, help_slot, Region, op, store, evaluate, call as call_only, regions_from}
+use Rattle.region_forms.specs.Form.{Callee, Arguments, arguments_from, load, call_value, help_slot, Region, op, store, evaluate, call as call_only, regions_from}
 use Rattle.region_forms.specs.Layout.{Layout}
-use Rattle.region_forms.specs.World.{Word, number_word, Frame, World, with_item}
-use Rattle.region_forms.specs.Evaluation.{slot_location, words_in}
-use Rattle.region_forms.specs.Effect.{if_some, stored_at, finished, number_at, handler_at, byte_of, bytes_after, answered, replied, module_called, some_travel, built_in, called}
+use Rattle.region_forms.specs.World.{number_word, Frame}
 use Rattle.region_forms.specs.Outcome.{State, Context, Flow, normal, leaves, Result, done, stopped, Action, continued, pure}
-use Rattle.region_forms.specs.Ending.{Running, perform, settled}
+use Rattle.region_forms.specs.Ending.{Running, perform}
 use Rattle.region_forms.specs.Meaning.{followed, operation}
 use Rattle.linear_simulation.specs.Watched.{watched_all as regions}
 use Rattle.region_forms.specs.LowerExpression.{Lowering, first_temporary, slot_place, stored_in, Lowered, LoweredCall, call_of, call_stored, call_dropped, lower, lower_arguments, dropped}
@@ -33,6 +25,7 @@ use Rattle.region_statements.specs.Sequences.{GoesOn}
 use Rattle.region_simulation.proofs.Following.{Agreement, keeps_all, keeps_on}
 use Rattle.region_simulation.proofs.Joining.{joined, alone}
 use Rattle.region_simulation.proofs.Storing.{valued_as, other_number}
+use Rattle.region_simulation.proofs.Giving.{Gives, calls_give}
 
 -- the same, but for the frame's slots from the t-th on
 abbrev pub Nearly : {A : Type 0} → ℕ → Result A → Result A → Type 0
@@ -54,59 +47,19 @@ nearly_answer t (done a s) z f (g, e, keeps) = (g, ap (λ q. continued q (λ a. 
 nearly_answer t (stopped x s) z f e = ap (λ q. continued q (λ a. pure (f a))) e
 
 module _ (b : Running) (t : ℕ) (help : b.kinds t ≡ help_slot) (c : Context) where
-  -- a value is stored in the slot, or dropped
-  finishes : (z : ℤ) (f : Frame) (w : World) (s : State) → Nearly t (settled (finished b.kinds (Some (slot_place t)) z f w) s) (settled (finished b.kinds None z f w) s)
-  finishes z f w s =
-      subst (λ k. Nearly t (settled (stored_at (slot_location k f.call t 0) z f w) s) (settled (finished b.kinds None z f w) s)) (sym help) (
-        f,
-        refl,
-        record { call = refl; slots = λ q lt. sym (ap (λ m. if m then number_word z else f.slots q) (other_number q t lt)) },
-      )
-
-  performs : (z : ℤ) (f : Frame) (w : World) (s : State) → Nearly t (perform b (finished b.kinds (Some (slot_place t)) z f w) c s) (perform b (finished b.kinds None z f w) c s)
-  performs z f w s =
-      subst (λ k. Nearly t (perform b (stored_at (slot_location k f.call t 0) z f w) c s) (perform b (finished b.kinds None z f w) c s)) (sym help) (
-        f,
-        refl,
-        record { call = refl; slots = λ q lt. sym (ap (λ m. if m then number_word z else f.slots q) (other_number q t lt)) },
-      )
-
-  modules : (k : ℕ) (x : Option (List Reply)) (f : Frame) (w : World) (s : State)
-      → Nearly t (perform b (replied b.kinds (Some (slot_place t)) k x f w) c s) (perform b (replied b.kinds None k x f w) c s)
-  modules k None f w s = performs (pos 0) f w s
-  modules k (Some []) f w s = performs (pos 0) f w s
-  modules k (Some (ValueReply z ∷ left)) f w s = performs z f (record w { replies = slice_set w.replies k left }) s
-  modules k (Some (Raise u ∷ left)) f w s = nearly_itself t (perform b (answered b.kinds None k (Raise u) f (record w { replies = slice_set w.replies k left })) c s)
-
-  built_ins : (n : Builtin) (given : List Word) (f : Frame) (w : World) (s : State)
-      → Nearly t (perform b (built_in b.kinds n (Some (slot_place t)) given f w) c s) (perform b (built_in b.kinds n None given f w) c s)
-  built_ins WriteInt given f w s = performs (pos 0) f (with_item (Line (number_at given 0)) w) s
-  built_ins ReadByte given f w s = performs (byte_of w.input) f (record w { input = bytes_after w.input }) s
-  built_ins Exit given f w s = nearly_itself t (perform b (built_in b.kinds Exit None given f w) c s)
-  built_ins Module given f w s = go (number_at given 0)
-    where
-      go : (z : ℤ) → Nearly t (perform b (module_called b.kinds (Some (slot_place t)) z f w) c s) (perform b (module_called b.kinds None z f w) c s)
-      go (negsuc k) = performs (pos 0) f w s
-      go (pos k) = modules k (slice_get w.replies k) f w s
-  built_ins Cancel given f w s = nearly_itself t (perform b (built_in b.kinds Cancel None given f w) c s)
-  built_ins Terminate given f w s = nearly_itself t (perform b (built_in b.kinds Terminate None given f w) c s)
-  built_ins SetTerminate given f w s = performs (pos 0) f (record w { installed = record (w.installed) { terminate_handler = handler_at given } }) s
-  built_ins SetUnexpected given f w s = performs (pos 0) f (record w { installed = record (w.installed) { unexpected_handler = handler_at given } }) s
-  built_ins Uncaught given f w s = performs (truth (some_travel w.uncaught)) f w s
-  built_ins BadException given f w s = nearly_itself t (perform b (built_in b.kinds BadException None given f w) c s)
-
   -- whatever is called
   calls_nearly : (n : Callee) (args : Arguments) (s : State)
       → Nearly t (operation b (store (slot_place t) (call_value n args)) c s) (operation b (call_only n args) c s)
-  calls_nearly n args s = go n (words_in b.kinds s.frame s.world args)
+  calls_nearly n args s = go (operation b (store (slot_place t) (call_value n args)) c s) (operation b (call_only n args) c s) (calls_give b c t help None n args s)
     where
-      go : (n : Callee) (given : Option (List Word)) → Nearly t (perform b (if_some given (λ x. called b.kinds n (Some (slot_place t)) x s.frame s.world)) c s)
-          (perform b (if_some given (λ x. called b.kinds n None x s.frame s.world)) c s)
-      go n None = refl
-      go (builtin f) (Some x) = built_ins f x s.frame s.world s
-      go (defined n) (Some x) =
-          nearly_behind t (b.call n x c s) (λ z u. settled (finished b.kinds (Some (slot_place t)) z u.frame u.world) u) (λ z u. settled (finished b.kinds None z u.frame u.world) u)
-          (λ z u. finishes z u.frame u.world u)
+      go : (y z : Result (Unit {0})) → Gives b.kinds t None y z → Nearly t y z
+      go (stopped x s2) z e = e
+      go (done u s2) z (n, s3, is, so) =
+          subst (λ s2. Nearly t (done u s2) z) (sym is) (
+            s3.frame,
+            so s3 refl,
+            record { call = refl; slots = λ q lt. sym (ap (λ m. if m then number_word n else s3.frame.slots q) (other_number q t lt)) },
+          )
 
   -- behind what comes before a call
   pub drops_nearly : (before : List Region) (n : Callee) (args : Arguments) (s : State)

@@ -1,15 +1,18 @@
 -- Statements that go on normally before what follows, and `return`.
-use Rattle.std.proofs.Common.{◌≡◌, ℕ, ℤ, Bool, true, false, List, [], ◌∷◌, ◌++◌, Option, Some, None, refl, sym, subst, arith, append_assoc}
+use Rattle.std.proofs.Common.{◌≡◌, ℕ, ℤ, Bool, true, false, List, [], ◌∷◌, ◌++◌, Option, Some, None, refl, sym, ap, subst, arith}
+use Rattle.cxx_ast.specs.Plain.{Expression}
 use Rattle.meaning_forms.specs.Context.{Context as SourceContext}
 use Rattle.meaning_forms.specs.Frame.{Frame as SourceFrame}
 use Rattle.meaning_forms.specs.Outcome.{Action as SourceAction, Flow as SourceFlow, returns, pure as source_pure, ◌>>=◌}
-use Rattle.region_forms.specs.Form.{Region, op, store, leave_region, regions_from}
-use Rattle.region_forms.specs.Outcome.{Flow, normal, leaves}
-use Rattle.region_forms.specs.Ending.{Running}
+use Rattle.region_forms.specs.Form.{Region, leave_region, regions_from}
+use Rattle.region_forms.specs.Evaluation.{slot_location}
+use Rattle.region_forms.specs.Effect.{stored_at}
+use Rattle.region_forms.specs.Outcome.{Flow, normal, leaves, done}
+use Rattle.region_forms.specs.Ending.{Running, settled}
 use Rattle.region_forms.specs.Meaning.{followed}
 use Rattle.linear_simulation.specs.Watched.{watched_all as regions}
-use Rattle.region_forms.specs.LowerExpression.{Lowering, result_slot, first_temporary, slot_place, stored_in, Lowered}
-use Rattle.region_forms.specs.LowerStatement.{variable_slot, with_value}
+use Rattle.region_forms.specs.LowerExpression.{Lowering, result_slot, first_temporary, slot_place, lower, lower_store}
+use Rattle.region_forms.specs.LowerStatement.{variable_slot}
 use Rattle.region_simulation.specs.Reach.{KindsFit}
 use Rattle.region_simulation.specs.Stands.{context_of}
 use Rattle.region_simulation.specs.Alike.{Alike}
@@ -18,10 +21,10 @@ use Rattle.region_simulation.specs.Flows.{FlowAgrees, DoesAlike}
 use Rattle.region_statements.specs.Sequences.{GoesOn}
 use Rattle.region_simulation.proofs.Following.{Agreement, alike_less, alike_on, follows_now}
 use Rattle.region_simulation.proofs.Joining.{joined}
-use Rattle.region_simulation.proofs.Storing.{with_temporary, stores_first, temporary_is, follows_stored}
+use Rattle.region_simulation.proofs.Storing.{with_temporary, temporary_is, follows_stored}
 use Rattle.region_simulation.proofs.Leaving.{follows_forgetting, scope_left}
 use Rattle.region_simulation.proofs.Flowing.{alike_seq}
-use Rattle.region_statements.proofs.Choosing.{value_then}
+use Rattle.region_simulation.proofs.Placing.{stored_then}
 
 module _ (l : Lowering) (own : Option ℕ) (gives : Bool) (b : Running) (v : SourceFrame) (c : SourceContext) where
   -- then what follows is done
@@ -49,19 +52,20 @@ module _ (l : Lowering) (own : Option ℕ) (gives : Bool) (b : Running) (v : Sou
   does_return n i d e at w s stands scope = (leaves d, s, refl, (follows_now l.layout l.program at (variable_slot l n) c w s stands, (refl, e)))
 
   -- `return` with a value, which the result's slot gets
-  pub does_return_value : KindsFit l b.kinds → (n i d : ℕ) (act : SourceAction ℤ) (x : Lowered) → gives ≡ true → Evaluates l own b v c (first_temporary l) act x
-      → DoesAlike l own gives b v c n i d (act >>= (λ z. source_pure (returns (Some z)))) (with_value x (λ y. op (store (slot_place (result_slot l)) y)) ++ leave_region d ∷ [])
-  does_return_value fit n i d act x e evaluates =
-      subst (λ rs. DoesAlike l own gives b v c n i d (act >>= (λ z. source_pure (returns (Some z)))) rs)
-      (sym (append_assoc x.before (stored_in (result_slot l) x.value ∷ []) (leave_region d ∷ [])))
-      (value_then l own gives b v c n i d act x (λ z. source_pure (returns (Some z))) (stored_in (result_slot l) x.value ∷ leave_region d ∷ []) evaluates
-      (λ z at w s stands scope is.
-      let there = scope.there in (
-        leaves d,
-        with_temporary (result_slot l) z s,
-        stores_first b (result_slot l) x.value z (leave_region d ∷ []) (context_of w.open_calls c) s (fit.behind (result_slot l) (omega arith)) is,
-        (
-          follows_stored l.layout l.program at (variable_slot l n) c w s (result_slot l) z (omega (arith, there)) stands,
-          (refl, e, temporary_is (result_slot l) z s),
-        ),
-      )))
+  pub does_return_value : KindsFit l b.kinds → (n i d : ℕ) (act : SourceAction ℤ) (e : Expression) → gives ≡ true
+      → Evaluates l own b v c (first_temporary l) act (lower l e (first_temporary l))
+      → DoesAlike l own gives b v c n i d (act >>= (λ z. source_pure (returns (Some z)))) (lower_store l e (slot_place (result_slot l)) (first_temporary l) ++ leave_region d ∷ [])
+  does_return_value fit n i d act e is evaluates at w s stands scope =
+      let there = scope.there in
+      let k = variable_slot l n in
+      let r = result_slot l in
+      let agree = FlowAgrees l gives i d in
+      let act2 : ℤ → SourceAction SourceFlow = (λ z. source_pure (returns (Some z))) in
+      stored_then l own b v c fit (first_temporary l) (omega arith) k (omega (arith, there)) (slot_place r) (leave_region d ∷ []) agree act2 e act evaluates at w s stands scope.reach
+      (λ z w2 s2 h.
+      let s3 = with_temporary r z s2 in (
+        s3,
+        ap (λ q. settled (stored_at (slot_location q s2.frame.call r 0) z s2.frame s2.world) s2) (fit.behind r (omega arith)),
+        alike_on l.layout l.program agree at k c c w s w2 s2 h (act2 z w2) (done (leaves d) s3)
+            (leaves d, s3, refl, (follows_stored l.layout l.program h.places k c w2 s2 r z (omega (arith, there)) h.stands, (refl, is, temporary_is r z s2))),
+      ))

@@ -1,5 +1,6 @@
 -- Local variables: an int gets a place at its slot, set or not, and a reference's slot gets an address.
-use Rattle.std.proofs.Common.{◌≡◌, ℕ, ◌+◌, ◌<◌, ℤ, Bool, List, [], ◌∷◌, ◌++◌, Option, Some, None, refl, sym, ap, ◌∙◌, subst, arith, length, append_assoc}
+use Rattle.std.proofs.Common.{◌≡◌, ℕ, ◌+◌, ◌<◌, ℤ, Bool, List, ◌∷◌, ◌++◌, Option, Some, None, refl, sym, ap, ◌∙◌, subst, arith, length}
+use Rattle.cxx_ast.specs.Plain.{Expression}
 use Rattle.cxx_ast.specs.declared.name.Name.{Name}
 use Rattle.cxx_ast.specs.declared.types.Ty.TheVariants.{Int}
 use Rattle.meaning_forms.specs.Class.{object_type}
@@ -8,16 +9,16 @@ use Rattle.meaning_forms.specs.World.{World as SourceWorld, Reference, whole}
 use Rattle.meaning_forms.specs.Context.{Context as SourceContext}
 use Rattle.meaning_forms.specs.Frame.{Frame as SourceFrame}
 use Rattle.meaning_forms.specs.Outcome.{Result as SourceResult, done as source_done, stopped as source_stopped, Action as SourceAction, continued as source_continued, Flow as SourceFlow, new_object, ◌>>=◌}
-use Rattle.region_forms.specs.Form.{Region, op, store, bind, regions_from}
+use Rattle.region_forms.specs.Form.{Region, op, bind, regions_from}
 use Rattle.region_forms.specs.World.{written, address_word, with_slot}
 use Rattle.region_forms.specs.Evaluation.{slot_location}
 use Rattle.region_forms.specs.Effect.{if_some, goes, stored_at}
 use Rattle.region_forms.specs.Outcome.{State, normal, continued, pure}
-use Rattle.region_forms.specs.Ending.{Running, perform}
+use Rattle.region_forms.specs.Ending.{Running, perform, settled}
 use Rattle.region_forms.specs.Meaning.{followed}
 use Rattle.linear_simulation.specs.Watched.{watched_all as regions}
-use Rattle.region_forms.specs.LowerExpression.{Lowering, first_temporary, variable_type, slot_place, place_of, Lowered}
-use Rattle.region_forms.specs.LowerStatement.{variable_slot, with_value}
+use Rattle.region_forms.specs.LowerExpression.{Lowering, first_temporary, variable_type, slot_place, place_of, lower, lower_store}
+use Rattle.region_forms.specs.LowerStatement.{variable_slot}
 use Rattle.region_simulation.specs.Places.{Places}
 use Rattle.region_simulation.specs.Reach.{slot_address, KindsFit, kind_for}
 use Rattle.region_simulation.specs.Stands.{context_of}
@@ -26,10 +27,10 @@ use Rattle.region_simulation.specs.Evaluates.{Everywhere, Evaluates}
 use Rattle.region_simulation.specs.Flows.{FlowAgrees, DoesAlike}
 use Rattle.region_simulation.proofs.Following.{keeps_all, alike_less, alike_on}
 use Rattle.region_simulation.proofs.Keeping.{Addressed}
-use Rattle.region_simulation.proofs.Storing.{valued_as}
+use Rattle.region_simulation.proofs.Leaving.{follows_forgetting, scope_left}
+use Rattle.region_simulation.proofs.Placing.{stored_then}
 use Rattle.region_simulation.proofs.Standing.{with_object}
 use Rattle.region_simulation.proofs.Declaring.{declaring}
-use Rattle.region_statements.proofs.Choosing.{value_then}
 use Rattle.region_statements.proofs.Variables.{unset_nowhere, IsReference, Declared, int_declared, int_set, reference_declared}
 
 -- actions in another grouping
@@ -69,25 +70,30 @@ module _ (l : Lowering) (own : Option ℕ) (gives : Bool) (b : Running) (v : Sou
         (int_declared l own v c n there at w s stands scope is_int None s.world.memory (λ q ne. refl) (λ path x e. absurd (unset_nowhere path x e)))
 
     -- with one
-    pub does_int_value : (act : SourceAction ℤ) (x : Lowered) (rest : ℕ → SourceAction SourceFlow) (ys : List Region) → Evaluates l own b v c (first_temporary l) act x
+    pub does_int_value : (act : SourceAction ℤ) (e : Expression) (rest : ℕ → SourceAction SourceFlow) (ys : List Region)
+        → Evaluates l own b v c (first_temporary l) act (lower l e (first_temporary l))
         → ((o : ℕ) → DoesAlike l own gives b (declaring n (whole o) v) c (n + 1) i d (rest o) ys)
-        → DoesAlike l own gives b v c n i d ((act >>= (λ z. new_object (cell (Some z)))) >>= rest) (with_value x (λ y. op (store (slot_place (variable_slot l n)) y)) ++ ys)
-    does_int_value act x rest ys evaluates next =
-        let first = op (store (slot_place (variable_slot l n)) x.value) in
-        does_same l own gives b v c n i d (act >>= (λ z. new_object (cell (Some z)) >>= rest)) ((act >>= (λ z. new_object (cell (Some z)))) >>= rest)
-        (with_value x (λ y. op (store (slot_place (variable_slot l n)) y)) ++ ys) (λ w. regrouped (act w) (λ z. new_object (cell (Some z))) rest)
-        (subst (λ rs. DoesAlike l own gives b v c n i d (act >>= (λ z. new_object (cell (Some z)) >>= rest)) rs) (sym (append_assoc x.before (first ∷ []) ys))
-        (value_then l own gives b v c n i d act x (λ z. new_object (cell (Some z)) >>= rest) (first ∷ ys) evaluates
-        (λ z at w s stands scope is.
-        let ctx = context_of w.open_calls c in
+        → DoesAlike l own gives b v c n i d ((act >>= (λ z. new_object (cell (Some z)))) >>= rest) (lower_store l e (slot_place (variable_slot l n)) (first_temporary l) ++ ys)
+    does_int_value act e rest ys evaluates next =
         let k = variable_slot l n in
-        let a = slot_address s.frame.call k in
-        subst (λ q. Alike l.layout l.program at k c w s (FlowAgrees l gives i d) (rest (length w.objects) (with_object (cell (Some z)) w)) q)
-        (sym (ap (λ q. continued (continued (perform b q ctx s) (λ u. pure normal)) (followed (regions b (regions_from ys) ctx)))
-        (valued_as b.kinds x.value (Some (slot_place k)) s.frame s.world z is ∙
-        ap (λ q. stored_at (slot_location q s.frame.call k 0) z s.frame s.world) (fit.variables n there ∙ ap kind_for is_int))))
-        (declared_then (whole (length w.objects)) (rest (length w.objects)) ys (next (length w.objects)) at w s (with_object (cell (Some z)) w)
-        (record s { world = written a z s.world }) (int_set l own v c n there at w s stands scope is_int z)))))
+        let agree = FlowAgrees l gives i d in
+        let f : ℤ → SourceAction SourceFlow = (λ z. new_object (cell (Some z)) >>= rest) in
+        does_same l own gives b v c n i d (act >>= f) ((act >>= (λ z. new_object (cell (Some z)))) >>= rest)
+        (lower_store l e (slot_place k) (first_temporary l) ++ ys) (λ w. regrouped (act w) (λ z. new_object (cell (Some z))) rest)
+        (λ at w s stands scope.
+        stored_then l own b v c fit (first_temporary l) (omega arith) k (omega (arith, there)) (slot_place k) ys agree f e act evaluates at w s stands scope.reach
+        (λ z w2 s2 h.
+        let g = follows_forgetting l.layout l.program at k c w s c w2 s2 h in
+        let s3 = record s2 { world = written (slot_address s2.frame.call k) z s2.world } in
+        let w3 = with_object (cell (Some z)) w2 in
+        let o = length w2.objects in (
+          s3,
+          ap (λ q. settled (stored_at (slot_location q s2.frame.call k 0) z s2.frame s2.world) s2) (fit.variables n there ∙ ap kind_for is_int),
+          alike_on l.layout l.program agree at k c c w s w2 s2 g (rest o w3) (regions b (regions_from ys) (context_of w.open_calls c) s3)
+              (subst (λ m. Alike l.layout l.program g.places k c w2 s2 agree (rest o w3) (regions b (regions_from ys) (context_of m c) s3)) h.open_calls
+              (declared_then (whole o) (rest o) ys (next o) g.places w2 s2 w3 s3
+              (int_set l own v c n there g.places w2 s2 g.stands (scope_left l own v n at w s c c w2 s2 stands h scope) is_int z))),
+        )))
 
   pub does_reference : (r : SourceWorld → Reference) (names : List Name) (rest : Reference → SourceAction SourceFlow) (ys : List Region) → IsReference (variable_type l n)
       → Everywhere l own v c (λ at w s. Addressed l b.kinds at (first_temporary l) s.frame (r w) (object_type (variable_type l n)) names)

@@ -1,4 +1,5 @@
 -- Main: where it flows off its end, its regions store what a return of 0 does.
+use Rattle.cxx_ast.specs.Plain.{number as source_number}
 use Rattle.std.proofs.Common.{◌≡◌, ℕ, suc, ◌+◌, pos, true, false, List, [], ◌∷◌, ◌++◌, Some, None, refl, sym, ap, ◌∙◌, subst, arith, length}
 use Rattle.std.specs.Prelude.{◌==◌}
 use Rattle.std.proofs.lemmas.Bool.Decides.{nat_tests}
@@ -117,5 +118,5 @@ main_runs_alike p layout q limit fuel apart same int there typed alike stays at 
         (limited l f.specification (λ d. statements l (statements_in f.body) 0 n d) 1 ∷ []) (op (store (slot_place (result_slot l)) (number (pos 0))) ∷ leave_region 1 ∷ [])
         (body_does l None (fueled_call p limit fuel) b fit apart (same_for p layout q limit fuel apart same kinds) f (alike kinds fit).0 (alike kinds fit).1 v c
         (subst (λ xs. AreTypedStatements l None (gives_int f.result) (statements_in f.body) xs n) (sym variables) (typed.statements references counted)))
-        (does_return_value l None (gives_int f.result) b v c fit n 0 1 (source_pure (pos 0)) (record { before = []; value = number (pos 0); next = 0 }) (ap gives_int int)
-        (meant_case l None b v c fit (first_temporary l) 0 (source_pure (pos 0)) [] (number (pos 0)) refl (λ at w s stands reach. (refl, refl))))
+        (does_return_value l None (gives_int f.result) b v c fit n 0 1 (source_pure (pos 0)) (source_number (pos 0) 0) (ap gives_int int)
+        (meant_case l None b v c fit (first_temporary l) (first_temporary l) (source_pure (pos 0)) [] (number (pos 0)) refl (λ at w s stands reach. (refl, refl))))

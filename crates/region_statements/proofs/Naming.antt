@@ -1,6 +1,7 @@
 -- Assignments, and local variables by their names.
 use Rattle.std.proofs.Common.{◌≡◌, ℕ, ◌+◌, ◌<◌, ℤ, Bool, List, [], ◌∷◌, ◌++◌, Option, Some, None, refl, sym, subst, arith, length}
 use Rattle.class_layout.specs.StandApart.{StandApart}
+use Rattle.cxx_ast.specs.Plain.{Expression}
 use Rattle.cxx_ast.specs.declared.name.Name.{Name}
 use Rattle.cxx_ast.specs.declared.types.Ty.{Ty}
 use Rattle.cxx_ast.specs.declared.types.Ty.TheVariants.{Int, Void, Object, IntRef, ObjectRef}
@@ -11,11 +12,11 @@ use Rattle.meaning_forms.specs.World.{Reference, whole, nowhere}
 use Rattle.meaning_forms.specs.Context.{Context as SourceContext}
 use Rattle.meaning_forms.specs.Frame.{Frame as SourceFrame, with_variable, with_parameter, lvalue, bound_as, local_number}
 use Rattle.meaning_forms.specs.Outcome.{Result as SourceResult, done as source_done, stopped as source_stopped, Action as SourceAction, continued as source_continued, Flow as SourceFlow, normal as source_normal, pure as source_pure, new_object, write, world, ◌>>=◌, ◌>>◌}
-use Rattle.region_forms.specs.Form.{Region, op, store, bind}
+use Rattle.region_forms.specs.Form.{Region, op, bind}
 use Rattle.region_forms.specs.Outcome.{normal}
 use Rattle.region_forms.specs.Ending.{Running}
-use Rattle.region_forms.specs.LowerExpression.{Lowering, first_temporary, slot_place, place_of, variable_type, Lowered}
-use Rattle.region_forms.specs.LowerStatement.{variable_slot, with_value, bound_to}
+use Rattle.region_forms.specs.LowerExpression.{Lowering, first_temporary, slot_place, place_of, variable_type, lower, lower_store}
+use Rattle.region_forms.specs.LowerStatement.{variable_slot, bound_to}
 use Rattle.region_simulation.specs.Reach.{KindsFit}
 use Rattle.region_simulation.specs.Names.{AreNamed}
 use Rattle.region_simulation.specs.Evaluates.{Everywhere, Evaluates}
@@ -36,14 +37,15 @@ module _ (l : Lowering) (own : Option ℕ) (gives : Bool) (b : Running) (v : Sou
   does_nothing at w s stands scope = (normal, s, refl, (follows_now l.layout l.program at (variable_slot l n) c w s stands, refl))
 
   -- an assignment, then the rest
-  pub does_assign : StandApart l.layout.classes l.program.classes → (act : SourceAction ℤ) (x : Lowered) (names : List Name) (rest : SourceAction SourceFlow) (ys : List Region)
-      → AreNamed l own v.variables names int_type → Evaluates l own b v c (first_temporary l) act x → DoesAlike l own gives b v c n i d rest ys
-      → DoesAlike l own gives b v c n i d (act >>= (λ z. world >>= (λ w. write (lvalue l.program w v names) z >> rest))) (with_value x (λ y. op (store (place_of l names) y)) ++ ys)
-  does_assign apart act x names rest ys named evaluates next =
+  pub does_assign : StandApart l.layout.classes l.program.classes → (act : SourceAction ℤ) (e : Expression) (names : List Name) (rest : SourceAction SourceFlow) (ys : List Region)
+      → AreNamed l own v.variables names int_type → Evaluates l own b v c (first_temporary l) act (lower l e (first_temporary l)) → DoesAlike l own gives b v c n i d rest ys
+      → DoesAlike l own gives b v c n i d (act >>= (λ z. world >>= (λ w. write (lvalue l.program w v names) z >> rest))) (lower_store l e (place_of l names) (first_temporary l) ++ ys)
+  does_assign apart act e names rest ys named evaluates next =
+      let stored = lower_store l e (place_of l names) (first_temporary l) in
       does_same l own gives b v c n i d (assigned l v names act >> rest) (act >>= (λ z. world >>= (λ w. write (lvalue l.program w v names) z >> rest)))
-      (with_value x (λ y. op (store (place_of l names) y)) ++ ys) (λ w. same (act w))
-      (does_next l own gives b v c n i d (assigned l v names act) (λ u. rest) (with_value x (λ y. op (store (place_of l names) y))) ys
-      (assignments_store l own b v c fit apart (first_temporary l) act x names (omega arith) named evaluates) (λ u. next))
+      (stored ++ ys) (λ w. same (act w))
+      (does_next l own gives b v c n i d (assigned l v names act) (λ u. rest) stored ys
+      (assignments_store l own b v c fit apart (first_temporary l) act e names (omega arith) named evaluates) (λ u. next))
     where
       same : (r : SourceResult ℤ) → source_continued (source_continued r (λ z w. write (lvalue l.program w v names) z w)) (λ u. rest)
           ≡ source_continued r (λ z. world >>= (λ w. write (lvalue l.program w v names) z >> rest))
@@ -65,22 +67,22 @@ module _ (l : Lowering) (own : Option ℕ) (gives : Bool) (b : Running) (v : Sou
           → DoesAlike l own gives b v c q i d (new_object (cell None) >>= (λ o. rest (with_variable x (whole o) v))) ys) e
           (λ there is_int next. does_int l own gives b v c fit (local_number x.bound) i d there is_int (λ o. rest (with_variable x (whole o) v)) ys next)
 
-  pub does_named_int_value : (x : Name) → DeclaresNext l n (Some x) Int → (act : SourceAction ℤ) (e : Lowered) (rest : SourceFrame → SourceAction SourceFlow) (ys : List Region)
-      → Evaluates l own b v c (first_temporary l) act e
+  pub does_named_int_value : (x : Name) → DeclaresNext l n (Some x) Int → (act : SourceAction ℤ) (e : Expression) (rest : SourceFrame → SourceAction SourceFlow) (ys : List Region)
+      → Evaluates l own b v c (first_temporary l) act (lower l e (first_temporary l))
       → ((o : ℕ) → DoesAlike l own gives b (with_variable x (whole o) v) c (n + 1) i d (rest (with_variable x (whole o) v)) ys)
       → DoesAlike l own gives b v c n i d ((act >>= (λ z. new_object (cell (Some z)))) >>= (λ o. rest (with_variable x (whole o) v)))
-      (with_value e (λ y. op (store (slot_place (variable_slot l (local_number x.bound))) y)) ++ ys)
+      (lower_store l e (slot_place (variable_slot l (local_number x.bound))) (first_temporary l) ++ ys)
   does_named_int_value x declares act e rest ys evaluates next =
       go n declares.numbered declares.there declares.typed next
     where
       go : (q : ℕ) → local_number x.bound ≡ q → q < length l.variables → variable_type l q ≡ Int
           → ((o : ℕ) → DoesAlike l own gives b (with_variable x (whole o) v) c (q + 1) i d (rest (with_variable x (whole o) v)) ys)
           → DoesAlike l own gives b v c q i d ((act >>= (λ z. new_object (cell (Some z)))) >>= (λ o. rest (with_variable x (whole o) v)))
-          (with_value e (λ y. op (store (slot_place (variable_slot l (local_number x.bound))) y)) ++ ys)
+          (lower_store l e (slot_place (variable_slot l (local_number x.bound))) (first_temporary l) ++ ys)
       go q f = subst (λ q. q < length l.variables → variable_type l q ≡ Int
           → ((o : ℕ) → DoesAlike l own gives b (with_variable x (whole o) v) c (q + 1) i d (rest (with_variable x (whole o) v)) ys)
           → DoesAlike l own gives b v c q i d ((act >>= (λ z. new_object (cell (Some z)))) >>= (λ o. rest (with_variable x (whole o) v)))
-          (with_value e (λ y. op (store (slot_place (variable_slot l (local_number x.bound))) y)) ++ ys)) f
+          (lower_store l e (slot_place (variable_slot l (local_number x.bound))) (first_temporary l) ++ ys)) f
           (λ there is_int next. does_int_value l own gives b v c fit (local_number x.bound) i d there is_int act e (λ o. rest (with_variable x (whole o) v)) ys evaluates next)
 
   -- a local reference, named or not

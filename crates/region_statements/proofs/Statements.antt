@@ -63,7 +63,7 @@ module _ (l : Lowering) (own : Option ℕ) (gives : Bool) (call : SourceCalls) (
       → DoesAlike l own gives b v c n i d (source_returning (source_running l call) v e c) (returning l e d)
   returns v c n i d None h = does_return l own gives b v c n i d h
   returns v c n i d (Some e) h =
-      does_return_value l own gives b v c fit n i d (value_of (source_running l call) v e c) (lower l e (first_temporary l)) h.0 (evaluates v c e h.1)
+      does_return_value l own gives b v c fit n i d (value_of (source_running l call) v e c) e h.0 (evaluates v c e h.1)
 
   int_declared : (v : SourceFrame) (c : SourceContext) (n i d : ℕ) (x : Name) (e : Option Expression) → DeclaresNext l n (Some x) Int → IsTypedIfThere l own v.variables e
       → (rest : SourceFrame → SourceAction SourceFlow) (ys : List Region)
@@ -71,7 +71,7 @@ module _ (l : Lowering) (own : Option ℕ) (gives : Bool) (call : SourceCalls) (
       → DoesAlike l own gives b v c n i d (local_cell (source_running l call) v e c >>= (λ o. rest (with_variable x (whole o) v))) (initialised l x e ++ ys)
   int_declared v c n i d x None declares typed rest ys next = does_named_int l own gives b v c fit n i d x declares rest ys next
   int_declared v c n i d x (Some e) declares typed rest ys next =
-      does_named_int_value l own gives b v c fit n i d x declares (value_of (source_running l call) v e c) (lower l e (first_temporary l)) rest ys (evaluates v c e typed) next
+      does_named_int_value l own gives b v c fit n i d x declares (value_of (source_running l call) v e c) e rest ys (evaluates v c e typed) next
 
   -- what follows a statement, where the m-th variable is the next behind it
   abbrev RestDoes : SourceContext → (m i : ℕ) → (List Variable → Type 0) → (SourceFrame → SourceAction SourceFlow) → (ℕ → List Region) → Type 0
@@ -121,7 +121,7 @@ module _ (l : Lowering) (own : Option ℕ) (gives : Bool) (call : SourceCalls) (
         (catch (in_order (statements l ss i n (d + 2))) (clauses l hs i (n + length (all_declared_in ss)) (d + 2)) ∷ []) (ys d)
         (exceptions.tries v c n i d ss hs lt (λ v c n i d lt typed. statements_do ss (Unit {0}) v c n i d lt typed) (handlers_do hs (Unit {0})) typed.0 typed.1) (next v d lt typed.2 n (omega arith))
     statement_does (assign names e) after rest ys v c n i d lt next typed =
-        does_assign l own gives b v c fit n i d apart (value_of (source_running l call) v e c) (lower l e (first_temporary l)) names (rest v) (ys d) typed.0 (evaluates v c e typed.1)
+        does_assign l own gives b v c fit n i d apart (value_of (source_running l call) v e c) e names (rest v) (ys d) typed.0 (evaluates v c e typed.1)
         (next v d lt typed.2 n (omega arith))
     statement_does (evaluate e) after rest ys v c n i d lt next typed =
         does_next l own gives b v c n i d (value_of (source_running l call) v e c) (λ z. rest v) (dropped l e (first_temporary l)) (ys d)

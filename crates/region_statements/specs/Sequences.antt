@@ -6,11 +6,11 @@ use Rattle.meaning_forms.specs.Context.{Context as SourceContext}
 use Rattle.meaning_forms.specs.Frame.{Frame as SourceFrame}
 use Rattle.meaning_forms.specs.Statement.{loop as source_loop, ◌then◌}
 use Rattle.meaning_forms.specs.Outcome.{Action as SourceAction, Flow as SourceFlow, breaks, continues, returns, pure as source_pure, world, ◌>>=◌, ◌>>◌}
-use Rattle.region_forms.specs.Form.{Region, op, store, branch, leave_region, in_order, regions_from}
+use Rattle.region_forms.specs.Form.{Region, branch, leave_region, in_order, regions_from}
 use Rattle.region_forms.specs.Outcome.{normal}
 use Rattle.region_forms.specs.Ending.{Running}
 use Rattle.linear_simulation.specs.Watched.{watched_all}
-use Rattle.region_forms.specs.LowerExpression.{Lowering, result_slot, first_temporary, slot_place, Lowered, lower, dropped}
+use Rattle.region_forms.specs.LowerExpression.{Lowering, result_slot, first_temporary, slot_place, Lowered, lower, dropped, lower_store}
 use Rattle.region_forms.specs.LowerStatement.{with_value, looping}
 use Rattle.region_simulation.specs.Reach.{KindsFit}
 use Rattle.region_simulation.specs.Stands.{context_of}
@@ -90,6 +90,7 @@ ReturnsLeave = InEachCall (λ l own gives b v c.
 -- `return` with a value
 abbrev pub ValuesReturn : Type 0
 ValuesReturn = InEachCall (λ l own gives b v c.
-    KindsFit l b.kinds → (n i d : ℕ) (act : SourceAction ℤ) (x : Lowered) → gives ≡ true → Evaluates l own b v c (first_temporary l) act x
+    KindsFit l b.kinds → (n i d : ℕ) (act : SourceAction ℤ) (e : Expression) → gives ≡ true
+    → Evaluates l own b v c (first_temporary l) act (lower l e (first_temporary l))
     → DoesAlike l own gives b v c n i d (act >>= (λ z. source_pure (returns (Some z))))
-    (with_value x (λ y. op (store (slot_place (result_slot l)) y)) ++ leave_region d ∷ []))
+    (lower_store l e (slot_place (result_slot l)) (first_temporary l) ++ leave_region d ∷ []))

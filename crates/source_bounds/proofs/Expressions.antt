@@ -13,7 +13,7 @@ use Rattle.meaning_forms.specs.Running.{constructor}
 use Rattle.meaning_forms.specs.Expression.{lvalue_of, names_of, callee_bound, receiver, parameter_types, constructor_types, function_named}
 use Rattle.region_forms.specs.Form.{Place, Value, number as number_value, call_value, Argument, arguments_from, store, evaluate, construct, call as call_only, op, branch, in_order}
 use Rattle.region_forms.specs.Numbering.{number_of}
-use Rattle.region_forms.specs.LowerExpression.{Lowering, slot_place, place_of, has_call, some_call, Lowered, LoweredArguments, LoweredCall, stored_in, truth_of, if_true, if_false, left_stored, both, receiver_argument, handler_arguments, call_of, call_stored, call_dropped, int_passed, address_passed, refers, lower, lower_arguments, dropped, constructor_chosen, lower_construct}
+use Rattle.region_forms.specs.LowerExpression.{Lowering, slot_place, place_of, has_call, some_call, Lowered, LoweredArguments, LoweredCall, stored_in, truth_of, if_true, if_false, left_stored, both, receiver_argument, handler_arguments, call_of, call_placed, call_stored, call_dropped, int_passed, address_passed, refers, lower, lower_arguments, dropped, lower_store, constructor_chosen, lower_construct}
 use Rattle.source_bounds.specs.OperationWords.{value_words, arguments_words}
 use Rattle.source_bounds.specs.LeastTokens.{tokens_in, tokens_in_all}
 use Rattle.source_bounds.proofs.Budget.{Fine, Whole, no_more, within, behind, with_last, in_front, alone, one_op, ordered, tested}
@@ -198,6 +198,30 @@ module _ (rows i : ℕ) where
         (dropped_call d (32 * tokens_in_all es + 6) (call_of l n.bound [] es given) (given_cost d (32 * tokens_in_all es) n.bound [] es given (arguments_cost es [] d t))) (omega arith)
     dropped_fine (paren e place) d t = within (32 * tokens_in (paren e place)) (dropped_fine e d t) (omega arith)
     dropped_fine e d t = valued_for_nothing e d t (lowered e d t)
+
+    -- an expression whose value is stored in a place
+    placed_call : (d m : ℕ) (p : Place) (c : LoweredCall) → CallCosts d m c → Fine rows i d (m + 5) (call_placed p c)
+    placed_call d m p c h =
+        let value = call_value c.callee (arguments_from c.arguments) in
+        within (m + 5) (with_last c.before (op (store p value)) h.before (one_op rows i d (store p value))) (omega (arith, h.total))
+
+    pub valued : (e : Expression) (p : Place) (d t : ℕ) → Costs d (32 * tokens_in e) (lower l e t) → Fine rows i d (32 * tokens_in e) ((lower l e t).before ++ op (store p (lower l e t).value) ∷ [])
+    valued e p d t h =
+        within (32 * tokens_in e) (with_last (lower l e t).before (op (store p (lower l e t).value)) h.before (one_op rows i d (store p (lower l e t).value))) (omega (arith, h.total))
+
+    pub store_fine : (e : Expression) (p : Place) (d t : ℕ) → Fine rows i d (32 * tokens_in e) (lower_store l e p t)
+    store_fine (call names es) p d t =
+        let b = callee_bound names in
+        let given = lower_arguments l es (parameter_types l.program b) t in
+        within (32 * tokens_in (call names es))
+        (placed_call d (32 * tokens_in_all es + 6) p (call_of l b (receiver names) es given)
+        (given_cost d (32 * tokens_in_all es) b (receiver names) es given (arguments_cost es (parameter_types l.program b) d t))) (omega arith)
+    store_fine (std_call n es place) p d t =
+        let given = lower_arguments l es [] t in
+        within (32 * tokens_in (std_call n es place))
+        (placed_call d (32 * tokens_in_all es + 6) p (call_of l n.bound [] es given) (given_cost d (32 * tokens_in_all es) n.bound [] es given (arguments_cost es [] d t))) (omega arith)
+    store_fine (paren e place) p d t = within (32 * tokens_in (paren e place)) (store_fine e p d t) (omega arith)
+    store_fine e p d t = valued e p d t (lowered e d t)
 
     -- an object is built
     pub built_fine : (k : ℕ) (es : Expressions) (p : Place) (d t : ℕ) → Fine rows i d (32 * tokens_in_all es + 5) (lower_construct l k es p t)

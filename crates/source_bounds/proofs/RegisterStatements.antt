@@ -15,13 +15,13 @@ use Rattle.meaning_forms.specs.Call.{initialiser_for, statements_in, place_named
 use Rattle.meaning_forms.specs.Expression.{lvalue_of, callee_bound}
 use Rattle.region_forms.specs.Form.{Place, store, Region, op, branch, leave_region, in_order}
 use Rattle.region_forms.specs.Numbering.{declared_in, all_declared_in}
-use Rattle.region_forms.specs.LowerExpression.{Lowering, result_slot, first_temporary, slot_place, place_of, lvalue_type, has_call, Lowered, lower, dropped, lower_construct}
+use Rattle.region_forms.specs.LowerExpression.{Lowering, result_slot, first_temporary, slot_place, place_of, lvalue_type, has_call, Lowered, lower, dropped, lower_store, lower_construct}
 use Rattle.region_forms.specs.LowerStatement.{variable_slot, copied, thrown_place, thrown_as, int_thrown, object_thrown, call_thrown, part_thrown, lvalue_thrown, operand_thrown, throwing, with_value, returning, initialised, bound_to, looping, scoped, caught_parameter, with_caught, handler, nothing_more, statement, otherwise, statements, clauses}
 use Rattle.region_forms.specs.LowerProgram.{part_place, limited, build_parts, destroy_parts, default_part, copy_part, initial_part, last_result, body_of}
 use Rattle.source_bounds.specs.BuiltinCalls.{CallsFit, AllCallsFit, ValueCallsFit, StatementCallsFit, ElseCallsFit, StatementsCallsFit, HandlersCallsFit, BodyCallsFit, InitialisersCallsFit, FunctionCallsFit}
 use Rattle.source_bounds.specs.LeastTokens.{tokens_in, tokens_in_all, tokens_in_value, statement_tokens, else_tokens, statements_tokens, handlers_tokens, initialisers_tokens, body_tokens, function_tokens}
 use Rattle.source_bounds.specs.RegisterWeights.{RegionFits, ClausesFit}
-use Rattle.source_bounds.proofs.Registers.{AllFit, then_fit, held, valued_fits, dropped_fits, built_fits}
+use Rattle.source_bounds.proofs.Registers.{AllFit, then_fit, held, valued_fits, dropped_fits, store_fits, built_fits}
 
 module _ (l : Lowering) where
   abbrev Others : (ℕ → List Region) → Type 0
@@ -32,6 +32,9 @@ module _ (l : Lowering) where
 
   valued : (e : Expression) (p : Place) → tokens_in e ≤ 2000 → CallsFit e → AllFit ((at_first e).before ++ op (store p (at_first e).value) ∷ [])
   valued e p h c = valued_fits l e (first_temporary l) p h c
+
+  stored : (e : Expression) (p : Place) → tokens_in e ≤ 2000 → CallsFit e → AllFit (lower_store l e p (first_temporary l))
+  stored e p h c = store_fits l e p (first_temporary l) h c
 
   -- what is thrown
   thrown : (t : ObjectType) (build : List Region) → AllFit build → AllFit (thrown_as l t build)
@@ -68,11 +71,11 @@ module _ (l : Lowering) where
   returning_fits : (e : Option Expression) (d : ℕ) → tokens_in_value e ≤ 2000 → ValueCallsFit e → AllFit (returning l e d)
   returning_fits None d h c = (tt, tt)
   returning_fits (Some e) d h c =
-      then_fit (with_value (at_first e) (λ v. op (store (slot_place (result_slot l)) v))) (leave_region d ∷ []) (valued e (slot_place (result_slot l)) h c) (tt, tt)
+      then_fit (lower_store l e (slot_place (result_slot l)) (first_temporary l)) (leave_region d ∷ []) (stored e (slot_place (result_slot l)) h c) (tt, tt)
 
   initialised_fits : (x : Name) (e : Option Expression) → tokens_in_value e ≤ 2000 → ValueCallsFit e → AllFit (initialised l x e)
   initialised_fits x None h c = tt
-  initialised_fits x (Some e) h c = valued e (slot_place (variable_slot l (local_number x.bound))) h c
+  initialised_fits x (Some e) h c = stored e (slot_place (variable_slot l (local_number x.bound))) h c
 
   bound_fits : (x : Option Name) (p : Place) → AllFit (bound_to l x p)
   bound_fits None p = tt
@@ -126,7 +129,7 @@ module _ (l : Lowering) where
     statement_fits (try ss hs) rest i n d h c r =
         ((statements_fit ss i n (d + 2) (omega (arith, h)) c.0, clauses_fit hs i (n + length (all_declared_in ss)) (d + 2) (omega (arith, h)) c.1), r d)
     statement_fits (assign names e) rest i n d h c r =
-        then_fit (with_value (at_first e) (λ v. op (store (place_of l names) v))) (rest d) (valued e (place_of l names) (omega (arith, h)) c) (r d)
+        then_fit (lower_store l e (place_of l names) (first_temporary l)) (rest d) (stored e (place_of l names) (omega (arith, h)) c) (r d)
     statement_fits (evaluate e) rest i n d h c r =
         then_fit (dropped l e (first_temporary l)) (rest d) (dropped_fits l e (first_temporary l) (omega (arith, h)) c) (r d)
     statement_fits (local_int x e) rest i n d h c r = then_fit (initialised l x e) (rest d) (initialised_fits x e (omega (arith, h)) c) (r d)

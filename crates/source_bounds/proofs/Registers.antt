@@ -12,7 +12,7 @@ use Rattle.cxx_ast.specs.declared.types.Ty.{Ty}
 use Rattle.cxx_ast.specs.Plain.{Expression, number, path, paren, unary, binary, call, std_call, Expressions, no_expressions, expression_then}
 use Rattle.meaning_forms.specs.Expression.{lvalue_of, names_of, count_of, callee_bound, receiver, parameter_types, constructor_types, function_named}
 use Rattle.region_forms.specs.Form.{Place, Value, number as number_value, load, unary as unary_value, binary as binary_value, call_value, Argument, int_argument, address_argument, handler_argument, arguments_from, store, evaluate, Region, op, regions_from}
-use Rattle.region_forms.specs.LowerExpression.{Lowering, place_of, has_call, some_call, Lowered, LoweredArguments, stored_in, truth_of, both, callee_of, receiver_argument, handler_arguments, given_before, call_of, int_passed, address_passed, refers, lower, lower_arguments, dropped, constructor_chosen, lower_construct}
+use Rattle.region_forms.specs.LowerExpression.{Lowering, place_of, has_call, some_call, Lowered, LoweredArguments, stored_in, truth_of, both, callee_of, receiver_argument, handler_arguments, given_before, call_of, int_passed, address_passed, refers, lower, lower_arguments, dropped, lower_store, constructor_chosen, lower_construct}
 use Rattle.machine_forms.specs.Bounds.{ArgumentsFit, CallFits, ValueFits}
 use Rattle.machine_forms.specs.ValueCode.{operator_needs, needs}
 use Rattle.source_bounds.specs.BuiltinCalls.{GivenFits, CallsFit, AllCallsFit}
@@ -263,6 +263,18 @@ module _ (l : Lowering) where
       then_fit (given_before n.bound (lower_arguments l es [] t)) _ (before_fits n.bound es (lower_arguments l es [] t) given) (call_fits l n.bound [] es (lower_arguments l es [] t) given c.0, tt)
   dropped_fits (paren e place) t h c = dropped_fits e t (omega (arith, h)) c
   dropped_fits e t h c = evaluated e t (held e t h c)
+
+  pub store_fits : (e : Expression) (p : Place) (t : ℕ) → tokens_in e ≤ 2000 → CallsFit e → AllFit (lower_store l e p t)
+  store_fits (call names es) p t h c =
+      let b = callee_bound names in
+      let types = parameter_types l.program b in
+      let given = arguments_given es types t (omega (arith, h)) c.1 in
+      then_fit (given_before b (lower_arguments l es types t)) _ (before_fits b es (lower_arguments l es types t) given) (call_fits l b (receiver names) es (lower_arguments l es types t) given c.0, tt)
+  store_fits (std_call n es place) p t h c =
+      let given = arguments_given es [] t (omega (arith, h)) c.1 in
+      then_fit (given_before n.bound (lower_arguments l es [] t)) _ (before_fits n.bound es (lower_arguments l es [] t) given) (call_fits l n.bound [] es (lower_arguments l es [] t) given c.0, tt)
+  store_fits (paren e place) p t h c = store_fits e p t (omega (arith, h)) c
+  store_fits e p t h c = valued_fits e t p h c
 
   pub built_fits : (k : ℕ) (es : Expressions) (p : Place) (t : ℕ) → tokens_in_all es ≤ 2000 → AllCallsFit es → AllFit (lower_construct l k es p t)
   built_fits k es p t h c =

@@ -14,12 +14,12 @@ use Rattle.meaning_forms.specs.Frame.{local_number}
 use Rattle.meaning_forms.specs.Expression.{lvalue_of, callee_bound}
 use Rattle.region_forms.specs.Form.{Place, number, store, bind, make, throw as throw_op, rethrow, enter, destroy_scope, free_object, leave_handler, Region, op, branch, leave_region, in_order}
 use Rattle.region_forms.specs.Numbering.{number_of, type_number, destructor_of, declared_in, all_declared_in}
-use Rattle.region_forms.specs.LowerExpression.{Lowering, result_slot, exception_slot, first_temporary, slot_place, place_of, lvalue_type, has_call, Lowered, lower, dropped, lower_construct}
-use Rattle.region_forms.specs.LowerStatement.{variable_slot, copied, thrown_place, thrown_as, int_thrown, object_thrown, call_thrown, part_thrown, lvalue_thrown, operand_thrown, throwing, with_value, returning, initialised, bound_to, looping, scoped, caught_parameter, with_caught, handler, clause_type, nothing_more, statement, otherwise, statements, clauses}
+use Rattle.region_forms.specs.LowerExpression.{Lowering, result_slot, exception_slot, first_temporary, slot_place, place_of, lvalue_type, has_call, Lowered, lower, dropped, lower_store, lower_construct}
+use Rattle.region_forms.specs.LowerStatement.{variable_slot, copied, thrown_place, thrown_as, int_thrown, object_thrown, call_thrown, part_thrown, lvalue_thrown, operand_thrown, throwing, returning, initialised, bound_to, looping, scoped, caught_parameter, with_caught, handler, clause_type, nothing_more, statement, otherwise, statements, clauses}
 use Rattle.source_bounds.specs.LeastTokens.{tokens_in, tokens_in_all, tokens_in_value, statement_tokens, else_tokens, statements_tokens, handlers_tokens}
 use Rattle.source_bounds.specs.NamedTypes.{NamesRows, ElseNamesRows, AllNameRows, HandlersNameRows}
 use Rattle.source_bounds.proofs.Budget.{Fine, Whole, FineClauses, no_more, within, whole_within, clauses_within, behind, with_last, in_front, alone, one_op, ordered, tested, looped, protected, guarded, no_clause, one_clause, barred_op, one_exit, out_of_all, out_of_loop, to_next_turn}
-use Rattle.source_bounds.proofs.Expressions.{Costs, lowered, dropped_fine, built_fine}
+use Rattle.source_bounds.proofs.Expressions.{Costs, lowered, dropped_fine, valued as first_valued, store_fine, built_fine}
 
 module _ (rows : ℕ) (l : Lowering) where
   -- what the rest of a block becomes
@@ -34,9 +34,10 @@ module _ (rows : ℕ) (l : Lowering) where
     computed e d = lowered rows i l e d (first_temporary l)
 
     pub valued : (e : Expression) (p : Place) (d : ℕ) → Fine rows i d (32 * tokens_in e) ((at_first e).before ++ op (store p (at_first e).value) ∷ [])
-    valued e p d =
-        let x = computed e d in
-        within (32 * tokens_in e) (with_last (at_first e).before (op (store p (at_first e).value)) x.before (one_op rows i d (store p (at_first e).value))) (omega (arith, x.total))
+    valued e p d = first_valued rows i l e p d (first_temporary l) (computed e d)
+
+    stored : (e : Expression) (p : Place) (d : ℕ) → Fine rows i d (32 * tokens_in e) (lower_store l e p (first_temporary l))
+    stored e p d = store_fine rows i l e p d (first_temporary l)
 
     -- what is thrown
     thrown : (t : ObjectType) (build : List Region) (m d : ℕ) → Rest i m (λ e. build) → Fine rows i d (m + 19) (thrown_as l t build)
@@ -84,11 +85,11 @@ module _ (rows : ℕ) (l : Lowering) where
     returning_cost : (e : Option Expression) (d : ℕ) → Fine rows i d (32 * tokens_in_value e + 5) (returning l e d)
     returning_cost None d = within 5 (alone (out_of_all rows i d)) (omega arith)
     returning_cost (Some e) d =
-        with_last (with_value (at_first e) (λ v. op (store (slot_place (result_slot l)) v))) (leave_region d) (valued e (slot_place (result_slot l)) d) (out_of_all rows i d)
+        with_last (lower_store l e (slot_place (result_slot l)) (first_temporary l)) (leave_region d) (stored e (slot_place (result_slot l)) d) (out_of_all rows i d)
 
     initialised_cost : (x : Name) (e : Option Expression) (d : ℕ) → Fine rows i d (32 * tokens_in_value e) (initialised l x e)
     initialised_cost x None d = no_more rows i d 0
-    initialised_cost x (Some e) d = valued e (slot_place (variable_slot l (local_number x.bound))) d
+    initialised_cost x (Some e) d = stored e (slot_place (variable_slot l (local_number x.bound))) d
 
     bound_cost : (x : Option Name) (p : Place) (d : ℕ) → Fine rows i d 3 (bound_to l x p)
     bound_cost None p d = no_more rows i d 3
@@ -165,7 +166,7 @@ module _ (rows : ℕ) (l : Lowering) where
         (clauses_fine hs i (n + length (all_declared_in ss)) (d + 2) (d + 1) (omega arith) h.1)) (r d)) (omega arith)
     statement_fine (assign names e) rest m i n d h r =
         within (128 * statement_tokens (assign names e) + m)
-        (behind ((at_first e).before ++ op (store (place_of l names) (at_first e).value) ∷ []) (rest d) (valued i e (place_of l names) d) (r d)) (omega arith)
+        (behind (lower_store l e (place_of l names) (first_temporary l)) (rest d) (stored i e (place_of l names) d) (r d)) (omega arith)
     statement_fine (evaluate e) rest m i n d h r =
         within (128 * statement_tokens (evaluate e) + m) (behind (dropped l e (first_temporary l)) (rest d) (dropped_fine rows i l e d (first_temporary l)) (r d)) (omega arith)
     statement_fine (local_int x e) rest m i n d h r =

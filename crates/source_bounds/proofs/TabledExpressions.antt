@@ -12,7 +12,7 @@ use Rattle.meaning_forms.specs.Running.{constructor}
 use Rattle.meaning_forms.specs.Expression.{lvalue_of, names_of, callee_bound, receiver, parameter_types, constructor_types}
 use Rattle.region_forms.specs.Form.{Place, Value, number as number_value, call_value, arguments_from, store, evaluate, construct, call as call_only, op, branch, in_order}
 use Rattle.region_forms.specs.Numbering.{number_of}
-use Rattle.region_forms.specs.LowerExpression.{Lowering, slot_place, place_of, has_call, some_call, Lowered, LoweredArguments, LoweredCall, stored_in, truth_of, if_true, if_false, left_stored, both, given_before, call_of, call_stored, call_dropped, int_passed, address_passed, refers, lower, lower_arguments, dropped, constructor_chosen, lower_construct}
+use Rattle.region_forms.specs.LowerExpression.{Lowering, slot_place, place_of, has_call, some_call, Lowered, LoweredArguments, LoweredCall, stored_in, truth_of, if_true, if_false, left_stored, both, given_before, call_of, call_placed, call_stored, call_dropped, int_passed, address_passed, refers, lower, lower_arguments, dropped, lower_store, constructor_chosen, lower_construct}
 use Rattle.source_bounds.specs.LeastTokens.{tokens_in, tokens_in_all}
 use Rattle.source_bounds.proofs.Tabled.{Tabled, TabledRegion, no_table, upto, first_of, single, then_others, then_one, an_op, in_a_row, two_sides}
 
@@ -129,6 +129,27 @@ module _ (l : Lowering) where
       (call_dropped_sited (tokens_in_all es) (call_of l n.bound [] es given) (given_sited (tokens_in_all es) n.bound given (arguments_sited es [] t))) (omega arith) (omega arith)
   dropped_sited (paren e place) t = upto (tokens_in (paren e place)) 0 (dropped_sited e t) (omega arith) (omega arith)
   dropped_sited e t = valued_sited e t (sited e t)
+
+  call_placed_sited : (m : ℕ) (p : Place) (c : LoweredCall) → Tabled m 0 c.before → Tabled (m + 1) 0 (call_placed p c)
+  call_placed_sited m p c h =
+      let value = call_value c.callee (arguments_from c.arguments) in
+      upto (m + 1) 0 (then_one c.before (op (store p value)) h (an_op (store p value))) (omega arith) (omega arith)
+
+  pub stored_sited : (e : Expression) (p : Place) (t : ℕ) → Sited (tokens_in e) (lower l e t) → Tabled (tokens_in e) 0 ((lower l e t).before ++ op (store p (lower l e t).value) ∷ [])
+  stored_sited e p t h = upto (tokens_in e) 0 (then_one (lower l e t).before (op (store p (lower l e t).value)) h.before (an_op (store p (lower l e t).value))) (omega (arith, h.total)) (omega arith)
+
+  pub store_sited : (e : Expression) (p : Place) (t : ℕ) → Tabled (tokens_in e) 0 (lower_store l e p t)
+  store_sited (call names es) p t =
+      let b = callee_bound names in
+      let given = lower_arguments l es (parameter_types l.program b) t in
+      upto (tokens_in (call names es)) 0
+      (call_placed_sited (tokens_in_all es) p (call_of l b (receiver names) es given) (given_sited (tokens_in_all es) b given (arguments_sited es (parameter_types l.program b) t))) (omega arith) (omega arith)
+  store_sited (std_call n es place) p t =
+      let given = lower_arguments l es [] t in
+      upto (tokens_in (std_call n es place)) 0
+      (call_placed_sited (tokens_in_all es) p (call_of l n.bound [] es given) (given_sited (tokens_in_all es) n.bound given (arguments_sited es [] t))) (omega arith) (omega arith)
+  store_sited (paren e place) p t = upto (tokens_in (paren e place)) 0 (store_sited e p t) (omega arith) (omega arith)
+  store_sited e p t = stored_sited e p t (sited e t)
 
   pub built_sited : (k : ℕ) (es : Expressions) (p : Place) (t : ℕ) → Tabled (tokens_in_all es + 1) 0 (lower_construct l k es p t)
   built_sited k es p t =

@@ -14,12 +14,12 @@ use Rattle.meaning_forms.specs.Frame.{local_number}
 use Rattle.meaning_forms.specs.Expression.{lvalue_of, callee_bound}
 use Rattle.region_forms.specs.Form.{Place, number, store, bind, make, throw as throw_op, rethrow, enter, destroy_scope, free_object, leave_handler, Region, op, branch, leave_region, Clauses, in_order}
 use Rattle.region_forms.specs.Numbering.{number_of, type_number, destructor_of, declared_in, all_declared_in}
-use Rattle.region_forms.specs.LowerExpression.{Lowering, result_slot, exception_slot, first_temporary, slot_place, place_of, lvalue_type, has_call, Lowered, lower, dropped, lower_construct}
-use Rattle.region_forms.specs.LowerStatement.{variable_slot, copied, thrown_place, thrown_as, int_thrown, object_thrown, call_thrown, part_thrown, lvalue_thrown, operand_thrown, throwing, with_value, returning, initialised, bound_to, looping, scoped, caught_parameter, with_caught, handler, nothing_more, statement, otherwise, statements, clauses}
+use Rattle.region_forms.specs.LowerExpression.{Lowering, result_slot, exception_slot, first_temporary, slot_place, place_of, lvalue_type, has_call, Lowered, lower, dropped, lower_store, lower_construct}
+use Rattle.region_forms.specs.LowerStatement.{variable_slot, copied, thrown_place, thrown_as, int_thrown, object_thrown, call_thrown, part_thrown, lvalue_thrown, operand_thrown, throwing, returning, initialised, bound_to, looping, scoped, caught_parameter, with_caught, handler, nothing_more, statement, otherwise, statements, clauses}
 use Rattle.source_bounds.specs.TableWeights.{sites_in_clauses, guards_in_clauses}
 use Rattle.source_bounds.specs.LeastTokens.{tokens_in, tokens_in_all, tokens_in_value, statement_tokens, else_tokens, statements_tokens, handlers_tokens}
 use Rattle.source_bounds.proofs.Tabled.{Tabled, TabledRegion, no_table, upto, first_of, single, then_others, then_one, an_op, in_a_row, two_sides, a_loop, a_scope}
-use Rattle.source_bounds.proofs.TabledExpressions.{Sited, sited, dropped_sited, built_sited}
+use Rattle.source_bounds.proofs.TabledExpressions.{Sited, sited, dropped_sited, stored_sited, store_sited, built_sited}
 
 pub record TabledClauses (m : ℕ) (cs : Clauses) : Type 0 where
   pub sites : sites_in_clauses cs ≤ m
@@ -36,9 +36,10 @@ module _ (l : Lowering) where
   computed e = sited l e (first_temporary l)
 
   pub valued_table : (e : Expression) (p : Place) → Tabled (tokens_in e) 0 ((at_first e).before ++ op (store p (at_first e).value) ∷ [])
-  valued_table e p =
-      let x = computed e in
-      upto (tokens_in e) 0 (then_one (at_first e).before (op (store p (at_first e).value)) x.before (an_op (store p (at_first e).value))) (omega (arith, x.total)) (omega arith)
+  valued_table e p = stored_sited l e p (first_temporary l) (computed e)
+
+  store_table : (e : Expression) (p : Place) → Tabled (tokens_in e) 0 (lower_store l e p (first_temporary l))
+  store_table e p = store_sited l e p (first_temporary l)
 
   -- what is thrown
   thrown_table : (t : ObjectType) (build : List Region) (m : ℕ) → Tabled m 0 build → Tabled (m + 2) 0 (thrown_as l t build)
@@ -87,12 +88,12 @@ module _ (l : Lowering) where
   returning_table : (e : Option Expression) (d : ℕ) → Tabled (tokens_in_value e) 0 (returning l e d)
   returning_table None d = upto 0 0 (single (exit_table d)) (omega arith) (omega arith)
   returning_table (Some e) d =
-      upto (tokens_in e) 0 (then_one (with_value (at_first e) (λ v. op (store (slot_place (result_slot l)) v))) (leave_region d) (valued_table e (slot_place (result_slot l))) (exit_table d))
+      upto (tokens_in e) 0 (then_one (lower_store l e (slot_place (result_slot l)) (first_temporary l)) (leave_region d) (store_table e (slot_place (result_slot l))) (exit_table d))
       (omega arith) (omega arith)
 
   initialised_table : (x : Name) (e : Option Expression) → Tabled (tokens_in_value e) 0 (initialised l x e)
   initialised_table x None = no_table 0 0
-  initialised_table x (Some e) = valued_table e (slot_place (variable_slot l (local_number x.bound)))
+  initialised_table x (Some e) = store_table e (slot_place (variable_slot l (local_number x.bound)))
 
   bound_table : (x : Option Name) (p : Place) → Tabled 1 0 (bound_to l x p)
   bound_table None p = no_table 1 0
@@ -162,7 +163,7 @@ module _ (l : Lowering) where
         record { sites = omega (arith, body.sites, others.sites, after.sites); guards = omega (arith, body.guards, others.guards, after.guards) }
     statement_table (assign names e) rest m k i n d r =
         upto (statement_tokens (assign names e) + m) (statement_tokens (assign names e) + k)
-        (then_others ((at_first e).before ++ op (store (place_of l names) (at_first e).value) ∷ []) (rest d) (valued_table e (place_of l names)) (r d)) (omega arith) (omega arith)
+        (then_others (lower_store l e (place_of l names) (first_temporary l)) (rest d) (store_table e (place_of l names)) (r d)) (omega arith) (omega arith)
     statement_table (evaluate e) rest m k i n d r =
         upto (statement_tokens (evaluate e) + m) (statement_tokens (evaluate e) + k)
         (then_others (dropped l e (first_temporary l)) (rest d) (dropped_sited l e (first_temporary l)) (r d)) (omega arith) (omega arith)
