@@ -26,5 +26,3 @@ mod meanings;
 mod outside;
 #[cfg(test)]
 mod pack;
-#[cfg(test)]
-mod produced;

@@ -1,9 +1,8 @@
-// What a user sees of `pack`, over a store and sinks in memory: the worked image, with other tables behind it, compiled programs, and images of
-// another compiler. The tables of the first, before and after, are by hand from the LSB Core's "Exception Frames".
+// What a user sees of `pack`, over a store and sinks in memory: the worked image, with other tables behind it, and compiled programs. The
+// tables, before and after, are by hand from the LSB Core's "Exception Frames".
 use crate::compiled::{Answer, answered, holding};
 use crate::images::WORKED;
 use crate::mean_rows::{objects, specifications, throws};
-use crate::produced::{COUNTS, IMAGES, Produced};
 use eh_driver::{Status, ehc};
 use eh_outer::{MemSink, MemStore, Module};
 use std::alloc::{AllocError, Global};
@@ -246,66 +245,5 @@ fn packed_programs(rt: HostRuntime) -> Result<(), Fail> {
         }
     }
     assert!(rt; count > 0, "{count}");
-    Ok(())
-}
-
-// The bytes of an image of another producer, as it is or packed.
-fn produced(alloc: Global, image: &Produced, is_packed: bool) -> Result<Vec<u8>, AllocError> {
-    let mut bytes = image.front.to_vec(alloc)?;
-    for (_, before, after) in image.tables {
-        let table = if is_packed { after } else { before };
-        bytes.extend_from_slice(table.bytes)?;
-    }
-    bytes.extend_from_slice(image.back)?;
-    Ok(bytes)
-}
-
-// The text of its dump: the same frames, and their tables.
-fn dumped(alloc: Global, image: &Produced, is_packed: bool) -> Result<Vec<u8>, AllocError> {
-    let mut text = image.head.as_bytes().to_vec(alloc)?;
-    for (frame, before, after) in image.tables {
-        let table = if is_packed { after } else { before };
-        text.extend_from_slice(frame.as_bytes())?;
-        text.extend_from_slice(table.lines.as_bytes())?;
-    }
-    Ok(text)
-}
-
-// What another compiler wrote is clean, packed as by hand, clean with the same frames, and then not packed again.
-#[test]
-fn images_of_another_compiler(rt: HostRuntime) -> Result<(), Fail> {
-    let alloc = rt.alloc();
-    for image in IMAGES.iter() {
-        let before = produced(alloc, image, false)?;
-        let after = produced(alloc, image, true)?;
-        let mut store = store_of(alloc, before.as_slice(), &[])?;
-        for (words, text) in [
-            (
-                ["check", "IMG"].as_slice(),
-                COUNTS.as_bytes().to_vec(alloc)?,
-            ),
-            (["dump", "IMG"].as_slice(), dumped(alloc, image, false)?),
-            (
-                ["pack", "IMG", "OUT"].as_slice(),
-                image.line.as_bytes().to_vec(alloc)?,
-            ),
-            (
-                ["check", "OUT"].as_slice(),
-                COUNTS.as_bytes().to_vec(alloc)?,
-            ),
-            (["dump", "OUT"].as_slice(), dumped(alloc, image, true)?),
-            (
-                ["pack", "OUT", "OUT"].as_slice(),
-                b"packed 0 of 4 tables, 0 bytes saved\n".to_vec(alloc)?,
-            ),
-        ] {
-            let seen = answered(alloc, words, &mut store)?;
-            assert_eq!(rt; seen.err.bytes(), b"".as_slice(), "{words:?}");
-            assert_eq!(rt; seen.out.bytes(), text.as_slice(), "{words:?}");
-            assert_eq!(rt; seen.status, Status::Done, "{words:?}");
-        }
-        assert_eq!(rt; store.file("OUT").unwrap_or(b""), after.as_slice());
-        assert_eq!(rt; store.file("IMG").unwrap_or(b""), before.as_slice());
-    }
     Ok(())
 }
