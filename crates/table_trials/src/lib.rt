@@ -1,4 +1,4 @@
-//! Trials of the calls that read, write, judge and print exception tables, frames and images, on bytes that were worked out by hand and on
+//! Trials of the calls that read, write, judge, print and pack exception tables, frames and images, on bytes that were worked out by hand and on
 //! what other producers wrote. There are tests alone.
 #![tactic(auto)]
 
@@ -16,6 +16,10 @@ mod frames;
 mod images;
 #[cfg(test)]
 mod made_frames;
+#[cfg(test)]
+mod packed;
+#[cfg(test)]
+mod produced;
 #[cfg(test)]
 mod rows;
 #[cfg(test)]
