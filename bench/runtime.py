@@ -70,10 +70,10 @@ fn tables_last(machine: &Machine, frames: &Frames) -> bool
     is_constant(machine) && tables_are_readable(machine, frames)
 }
 
-fn frames_of(alloc: Global, machine: &Machine) -> Option<Frames>
+fn frames_of(alloc: Global, machine: &Machine, header: u64) -> Option<Frames>
     ensures { IfSome result (λ frames. AreLasting machine.now frames) }
 {
-    match read_frames(alloc, machine.tables(), HEADER) {
+    match read_frames(alloc, machine.tables(), header) {
         Err(_) => None,
         Ok(frames) => {
             if tables_last(machine, &frames) {
@@ -88,7 +88,7 @@ fn frames_of(alloc: Global, machine: &Machine) -> Option<Frames>
 fn runtime_of(alloc: Global, machine: Machine) -> Result<Option<Runtime>, AllocError>
     ensures { IfOk result (λ made. IfSome made (λ runtime. runtime.turns ≡ 0)) }
 {
-    match frames_of(alloc, &machine) {
+    match frames_of(alloc, &machine, HEADER) {
         None => Ok(None),
         Some(frames) => Ok(Some(Runtime::new(alloc, machine, frames, PLACES)?)),
     }

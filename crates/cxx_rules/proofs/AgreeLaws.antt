@@ -1,11 +1,12 @@
 -- Declarations that agree say the same.
-use Rattle.std.proofs.Common.{◌≡◌, ℕ, Bool, true, false, ◌&&◌, ◌||◌, not, List, [], ◌∷◌, Option, Some, None, refl, ap, ◌∙◌, sym, subst, cond, bytes_eq, nat_eq, arith}
+use Rattle.std.proofs.Common.{◌≡◌, ℕ, zero, suc, Bool, true, false, ◌&&◌, ◌||◌, not, List, [], ◌∷◌, Option, Some, None, refl, ap, ◌∙◌, sym, subst, cond, bytes_eq, nat_eq, nat_lt, length, map, option_map, position, slice_index_or, is_some, arith}
 use Rattle.std.proofs.lemmas.Bool.Decides.{nat_tests}
 use Rattle.std.proofs.lemmas.Slice.Eq.{bytes_eq-Decides}
 use Rattle.cxx_ast.specs.Environment.{Kind, int_kind, truth_kind, void_kind, class_kind, no_kind, same_kind, Passing, Signature}
 use Rattle.cxx_ast.specs.ClassRules.{same_test}
 use Rattle.cxx_ast.specs.Broken.{same_passing, same_parameters, has_kind, all_in, same_allowed, agree, differs_from}
 use Rattle.cxx_rules.specs.SignaturesOf.{first_named}
+use Rattle.cxx_rules.proofs.TextLaws.{position-cons, some_suc}
 
 pub both_true : (a b : Bool) → (a && b) ≡ true → (a ≡ true) × (b ≡ true)
 both_true true b h = (refl, h)
@@ -72,6 +73,33 @@ parameters_alike (t ∷ ts) (p ∷ ps) (q ∷ qs) h =
     let parts = both_true (same_passing p q) (same_parameters ps qs) h in
     ap (λ b. b && same_parameters ts qs) (passing_alike t p q parts.0) ∙ ap (λ b. same_passing t p && b) (parameters_alike ts ps qs parts.1)
 
+lt_none : (i : ℕ) → nat_lt i 0 ≡ false
+lt_none i = grind (arith, nat_tests)
+
+lt_more : (i n : ℕ) → nat_lt (suc i) (suc n) ≡ nat_lt i n
+lt_more i n = grind (arith, nat_tests)
+
+or_later : (a b : Bool) → b ≡ true → (a || b) ≡ true
+or_later true b e = refl
+or_later false b e = e
+
+-- a list has the type that stands at a place of it
+pub has_at : {R : Type 0} (f : R → Kind) (x : Kind) (ks : List R) (i : ℕ) (d k : R) →
+    true ≡ nat_lt i (length ks) → k ≡ slice_index_or ks i d → same_kind (f k) x ≡ true → has_kind x (map f ks) ≡ true
+has_at f x [] i d k h e s = let none : true ≡ false = h ∙ lt_none i in absurd (cc none)
+has_at f x (j ∷ ks) zero d k h e s = ap (λ b. b || has_kind x (map f ks)) (ap (λ y. same_kind (f y) x) (sym e) ∙ s)
+has_at f x (j ∷ ks) (suc i) d k h e s = or_later (same_kind (f j) x) (has_kind x (map f ks)) (has_at f x ks i d k (h ∙ lt_more i (length ks)) e s)
+
+-- a list has a type exactly where it has a place for it
+pub has_place : {R : Type 0} (f : R → Kind) (x : Kind) (ks : List R) → is_some (position (λ k. same_kind (f k) x) ks) ≡ has_kind x (map f ks)
+has_place f x [] = refl
+has_place f x (k ∷ ks) = ap is_some (position-cons (λ j. same_kind (f j) x) k ks) ∙ by (same_kind (f k) x) (has_place f x ks)
+  where
+    by : (b : Bool) → is_some (position (λ j. same_kind (f j) x) ks) ≡ has_kind x (map f ks) →
+        is_some (cond b (Some 0) (option_map suc (position (λ j. same_kind (f j) x) ks))) ≡ (b || has_kind x (map f ks))
+    by true h = refl
+    by false h = some_suc (position (λ j. same_kind (f j) x) ks) ∙ h
+
 -- what a list has is in another that has all of it
 kept : (k : Kind) (js ks : List Kind) → all_in js ks ≡ true → has_kind k js ≡ true → has_kind k ks ≡ true
 kept k [] ks all h = absurd (cc h)
@@ -121,12 +149,8 @@ all_itself : (js ks : List Kind) → ((k : Kind) → has_kind k js ≡ true → 
 all_itself [] ks h = refl
 all_itself (j ∷ js) ks h =
     let a = h j (ap (λ b. b || has_kind j js) (kind_itself j)) in
-    let b = all_itself js ks (λ k e. h k (later (same_kind j k) (has_kind k js) e)) in
+    let b = all_itself js ks (λ k e. h k (or_later (same_kind j k) (has_kind k js) e)) in
     rw a b
-  where
-    later : (a b : Bool) → b ≡ true → (a || b) ≡ true
-    later true b e = refl
-    later false b e = e
 
 allowed_itself : (o : Option (List Kind)) → same_allowed o o ≡ true
 allowed_itself None = refl

@@ -1,14 +1,13 @@
 -- The names of the parts of classes.
-use Rattle.std.proofs.Common.{◌≡◌, ℕ, zero, suc, Bool, true, false, ◌||◌, List, [], ◌∷◌, ◌++◌, Option, Some, None, Vec, drop, refl, ap, ◌∙◌, sym, bytes_eq, position, subst, take, slice_get}
+use Rattle.std.proofs.Common.{◌≡◌, ℕ, zero, suc, Bool, true, false, ◌||◌, List, [], ◌∷◌, ◌++◌, Option, Some, None, refl, ap, ◌∙◌, sym, bytes_eq, position, subst, take, slice_get}
 use Rattle.std.proofs.lemmas.Slice.Eq.{bytes_eq-Decides}
 use Rattle.std.specs.Prelude.{⊤}
-use Rattle.std.specs.declared.alloc.Global.{Global}
 use Rattle.cxx_ast.specs.Environment.{ClassEntry, Environment, unknown}
 use Rattle.cxx_ast.specs.FunctionRules.{has_text}
 use Rattle.cxx_ast.specs.Lookup.{field_named, method_named, first_of_two, member_of}
 use Rattle.cxx_rules.specs.NamesOf.{field_texts, function_texts}
 use Rattle.cxx_rules.specs.Known.{part_names, HaveMembers, HasNoMember}
-use Rattle.cxx_rules.specs.Positions.{texts_of, AreAmong, AreWith}
+use Rattle.cxx_rules.specs.Positions.{AreAmong, AreWith}
 use Rattle.cxx_rules.proofs.LookupLaws.{no_field, no_method}
 use Rattle.cxx_rules.proofs.TextLaws.{has_position, none_by}
 
@@ -56,12 +55,6 @@ with_both old mid new first more f g = (
   λ q h. g.0 q (f.0 q h),
   λ q h. either (has_text q first) (has_text q more) (sym (has_append q first more) ∙ h) (λ e. g.0 q (f.1 q e)) (λ e. g.1 q e),
 )
-
--- texts in memory, from one on
-pub texts_dropped : (n : ℕ) (vs : List (Vec ℕ Global)) → texts_of (drop n vs) ≡ drop n (texts_of vs)
-texts_dropped zero vs = refl
-texts_dropped (suc n) [] = refl
-texts_dropped (suc n) (v ∷ vs) = texts_dropped n vs
 
 -- more texts have the names too
 pub members_kept : (old new : List (List ℕ)) (cs : List ClassEntry) → AreAmong old new → HaveMembers old cs → HaveMembers new cs

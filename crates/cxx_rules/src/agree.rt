@@ -1,5 +1,6 @@
 // Whether the declarations of a function agree.
-ghost use Rattle.std.specs.Prelude.{◌≡◌, ◌&&◌, map};
+ghost use Rattle.std.specs.Prelude.{◌≡◌, ◌&&◌, true, is_some, map, position};
+ghost use Rattle.cxx_ast.specs.Environment.{same_kind};
 ghost use Rattle.cxx_ast.specs.Broken.{same_passing, same_parameters, has_kind, all_in, same_allowed, agree};
 ghost use Rattle.cxx_rules.specs.KindOf.{kind_of, kinds_of};
 
@@ -28,25 +29,47 @@ fn same_parameters(ps: &[Passing], qs: &[Passing]) -> bool
     true
 }
 
-// A list has a type.
-fn has_kind(kind: Kind, kinds: &[Kind]) -> bool
-    ensures { result ≡ has_kind (kind_of kind) (map kind_of kinds.now) }
+// A list has a type at a place.
+fn is_at(kind: Kind, kinds: &[Kind], place: usize) -> bool
+    ensures { result ≡ true → has_kind (kind_of kind) (map kind_of kinds.now) ≡ true }
 {
-    for k in kinds {
-        if k.is(kind) {
-            return true;
-        }
+    match kinds.get(place) {
+        None => false,
+        Some(k) => k.is(kind),
     }
-    false
+}
+
+// The first place of a type in a list.
+fn place_in(kind: Kind, kinds: &[Kind]) -> Option<usize>
+    ensures { result ≡ position (λ k. same_kind (kind_of k) (kind_of kind)) kinds.now }
+{
+    kinds.iter().position(|k| k.is(kind))
+}
+
+// Where a list has a type. It is sought beside a place first, since two declarations mostly name their types in one order, or in its reverse.
+fn place_near(kind: Kind, kinds: &[Kind], near: usize) -> Option<usize>
+    ensures { is_some result ≡ has_kind (kind_of kind) (map kind_of kinds.now) }
+{
+    let next = near.saturating_add(1);
+    if is_at(kind, kinds, next) {
+        return Some(next);
+    }
+    let last = near.saturating_sub(1);
+    if is_at(kind, kinds, last) {
+        return Some(last);
+    }
+    place_in(kind, kinds)
 }
 
 // Each type of a list is in another.
 fn all_in(kinds: &[Kind], others: &[Kind]) -> bool
     ensures { result ≡ all_in (map kind_of kinds.now) (map kind_of others.now) }
 {
+    let mut near = 0;
     for k in kinds {
-        if !has_kind(*k, others) {
-            return false;
+        match place_near(*k, others, near) {
+            None => return false,
+            Some(place) => near = place,
         }
     }
     true

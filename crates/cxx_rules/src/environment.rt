@@ -6,11 +6,12 @@ ghost use Rattle.cxx_ast.specs.FunctionRules.{has_text};
 ghost use Rattle.cxx_ast.specs.Lookup.{entry_of};
 ghost use Rattle.cxx_ast.specs.Resolve.{function_number};
 ghost use Rattle.cxx_rules.specs.Known.{part_names, HasNoMember};
+ghost use Rattle.cxx_rules.specs.NamesOf.{field_texts, function_texts};
 ghost use Rattle.cxx_rules.specs.Positions.{AreWith};
 
 use crate::NoMemory;
 use crate::class::ClassEntry;
-use crate::entry::Signature;
+use crate::entry::{Field, Signature};
 use crate::names::{Names, Thing};
 use crate::signatures::Signatures;
 use crate::texts::Texts;
@@ -282,11 +283,37 @@ impl<'t> Environment<'t> {
     }
 }
 
+// The names of data members among those of parts of classes.
+fn with_fields(alloc: Global, members: Texts, fields: &[Field<'_>]) -> Result<Texts, NoMemory>
+    ensures { IfOk result (λ m. AreWith members (field_texts fields.now) m) }
+{
+    let mut texts = members;
+    for field in fields {
+        texts = texts.with_one(alloc, field.name().text.as_bytes())?;
+    }
+    Ok(texts)
+}
+
+// The names of functions among those of parts of classes.
+fn with_functions(
+    alloc: Global,
+    members: Texts,
+    functions: &[Signature<'_>],
+) -> Result<Texts, NoMemory>
+    ensures { IfOk result (λ m. AreWith members (function_texts functions.now) m) }
+{
+    let mut texts = members;
+    for function in functions {
+        texts = texts.with_one(alloc, function.name().text.as_bytes())?;
+    }
+    Ok(texts)
+}
+
 // The names of a class's parts among those of parts of classes.
 fn with_members(alloc: Global, members: Texts, class: &ClassEntry<'_>) -> Result<Texts, NoMemory>
     ensures { IfOk result (λ m. AreWith members (part_names class.now) m) }
 {
-    let named = members.with_all(alloc, class.field_names())?;
-    let all = named.with_all(alloc, class.function_names())?;
+    let named = with_fields(alloc, members, class.fields())?;
+    let all = with_functions(alloc, named, class.functions())?;
     Ok(all)
 }

@@ -1,14 +1,18 @@
 // Names by their positions in a list.
-ghost use Rattle.std.specs.Prelude.{◌≡◌, ◌++◌, ◌∷◌, [], position, bytes_eq, IfOk, length, List, ℕ};
+ghost use Rattle.std.specs.Prelude.{◌≡◌, ◌++◌, ◌∷◌, [], None, position, bytes_eq, IfOk, length, take, List, ℕ};
 ghost use Rattle.cxx_ast.specs.FunctionRules.{has_text};
-ghost use Rattle.cxx_rules.specs.Positions.{ArePositions, AreWith};
+ghost use Rattle.cxx_rules.specs.Positions.{texts_of, ArePositions, AreWith};
 
 use crate::NoMemory;
 use indexmap::IndexMap;
 use std::alloc::Global;
 use std::marker::Model;
 
-/// A list of texts in which each is found at once, at its first position.
+// So many texts are sought one by one, which is faster than by a map.
+const FEW: usize = 8;
+
+/// A list of texts in which each is found at once, at its first position. The map has the positions of those that are not among
+/// the first few.
 #[derive(Drop)]
 pub struct Texts {
     first: IndexMap<Vec<u8>, usize>,
@@ -41,6 +45,19 @@ impl Texts {
     pub fn position(&self, text: &[u8]) -> Option<usize>
         ensures { result ≡ position (λ d. bytes_eq d text.now) self.now }
     {
+        match first_few(self.items.as_slice(), text) {
+            Some(position) => Some(position),
+            None => self.later(text),
+        }
+    }
+
+    // The first position of a text that is not among the first few.
+    fn later(&self, text: &[u8]) -> Option<usize>
+        ensures { position (λ d. bytes_eq d text.now) (take 8 self.now) ≡ None → result ≡ position (λ d. bytes_eq d text.now) self.now }
+    {
+        if self.items.len() <= FEW {
+            return None;
+        }
         self.first.get(text).copied()
     }
 
@@ -68,8 +85,8 @@ impl Texts {
         Ok(Texts { first, items })
     }
 
-    // The list with a text, which is put behind the others unless it is there.
-    fn with_one(self, alloc: Global, text: &[u8]) -> Result<Self, NoMemory>
+    /// The list with a text, which is put behind the others unless it is there.
+    pub fn with_one(self, alloc: Global, text: &[u8]) -> Result<Self, NoMemory>
         ensures { IfOk result (λ t. AreWith self (text.now ∷ []) t) }
     {
         if self.contains(text) {
@@ -78,17 +95,20 @@ impl Texts {
         let texts = self.with(alloc, text)?;
         Ok(texts)
     }
+}
 
-    /// The list with the texts of another, those behind it that are not there.
-    pub fn with_all(self, alloc: Global, others: &Texts) -> Result<Self, NoMemory>
-        ensures { IfOk result (λ t. AreWith self others.now t) }
-    {
-        let mut texts = self;
-        for text in others.items.as_slice() {
-            texts = texts.with_one(alloc, text.as_slice())?;
-        }
-        Ok(texts)
-    }
+// The first position of a text in a list.
+fn first_in(items: &[Vec<u8>], text: &[u8]) -> Option<usize>
+    ensures { result ≡ position (λ v. bytes_eq v.items text.now) items.now }
+{
+    items.iter().position(|item| item.as_slice() == text)
+}
+
+// The first position of a text among the first few.
+fn first_few(items: &[Vec<u8>], text: &[u8]) -> Option<usize>
+    ensures { result ≡ position (λ d. bytes_eq d text.now) (take 8 (texts_of items.now)) }
+{
+    first_in(&items[..FEW.min(items.len())], text)
 }
 
 // A map of first positions, with the number that a text has behind the others.
@@ -100,6 +120,9 @@ fn numbered(
 ) -> Result<IndexMap<Vec<u8>, usize>, NoMemory>
     ensures { (texts : List (List ℕ)) → ArePositions first.entries texts → length texts ≡ number → IfOk result (λ m. ArePositions m.entries (texts ++ text.now ∷ [])) }
 {
+    if number < FEW {
+        return Ok(first);
+    }
     if first.get(text).is_some() {
         return Ok(first);
     }

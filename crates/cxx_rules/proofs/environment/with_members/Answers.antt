@@ -8,5 +8,5 @@ pub returns : goal.returns
 returns c =
     let class = c.args.class.now in
     with_both c.args.members c.in_ok-named.named c.in_ok-all.all (field_texts class.fields) (function_texts class.functions)
-    (subst (λ ts. AreWith c.args.members ts c.in_ok-named.named) c.field_names.ensures c.in_ok-named.ensures)
-    (subst (λ ts. AreWith c.in_ok-named.named ts c.in_ok-all.all) c.function_names.ensures c.in_ok-all.ensures)
+    (subst (λ fs. AreWith c.args.members (field_texts fs) c.in_ok-named.named) c.fields.ensures c.in_ok-named.ensures)
+    (subst (λ fs. AreWith c.in_ok-named.named (function_texts fs) c.in_ok-all.all) c.functions.ensures c.in_ok-all.ensures)

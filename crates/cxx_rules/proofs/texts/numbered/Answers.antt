@@ -1,12 +1,15 @@
-use Rattle.std.proofs.Common.{ap, ◌∙◌, sym, ◌++◌, ◌∷◌, [], bytes_eq}
+use Rattle.std.proofs.Common.{ap, ◌∙◌, sym, ◌++◌, ◌∷◌, [], bytes_eq, arith}
 use Rattle.std.specs.Map.{lookup}
 use Rattle.indexmap.proofs.CallerLemmas.{insert_entry-new}
-use Rattle.cxx_rules.proofs.TextLaws.{positions_new, positions_kept, there_by, none_by}
+use Rattle.cxx_rules.proofs.TextLaws.{positions_few, positions_new, positions_kept, there_by, none_by}
 use Rattle.cxx_rules.proofs.texts.numbered.Goals as goal
+
+pub returns-then-number-lt-FEW : goal.returns-then-number-lt-FEW
+returns-then-number-lt-FEW c ts h n = positions_few c.args.text.now c.args.first.entries ts (omega (arith, n, c.if-number-lt-FEW.true)) h
 
 pub returns-then-is_some : goal.returns-then-is_some
 returns-then-is_some c ts h n =
-    positions_kept c.args.text.now c.args.first.entries ts h (there_by c.get.result _ _ c.get.ensures.value (sym c.is_some.ensures ∙ c.if-is_some.true))
+    positions_kept c.args.text.now c.args.first.entries ts (omega (arith, n, c.if-number-lt-FEW.false)) h (there_by c.get.result _ _ c.get.ensures.value (sym c.is_some.ensures ∙ c.if-is_some.true))
 
 pub returns : goal.returns
 returns c ts h n =
@@ -14,5 +17,5 @@ returns c ts h n =
     let absent = none_by _ (there_by c.get.result _ _ c.get.ensures.value (sym c.is_some.ensures ∙ c.if-is_some.false)) in
     let missing = ap (λ t. lookup (λ k. bytes_eq t k.items) c.args.first.entries) text ∙ absent in
     let added = insert_entry-new (λ a b. bytes_eq a.items b.items) c.args.first c.in_ok-from_slice.field-0 c.args.number missing in
-    positions_new c.args.text.now c.in_ok-from_slice.field-0 c.args.first.entries _ ts h text
+    positions_new c.args.text.now c.in_ok-from_slice.field-0 c.args.first.entries _ ts (omega (arith, n, c.if-number-lt-FEW.false)) h text
     (c.in_ok-insert.ensures.entries ∙ added ∙ ap (λ m. c.args.first.entries ++ (c.in_ok-from_slice.field-0, m) ∷ []) (sym n))
