@@ -64,7 +64,7 @@ module _ (r : Regions) (o : LinearOp) (args : Arguments) (wants : Option Place) 
       (m : ℕ) × (m < length r.functions) × CallsBuiltin b (argument_then (handler_argument m) no_arguments) None o
   sets b c h none k =
       let x = one_handler args h in
-      (x.0, subst (HandlersKnown (known_in r)) x.1 k, subst (λ w. CallsBuiltin b (argument_then (handler_argument x.0) no_arguments) w o) none (subst (λ a. CallsBuiltin b a wants o) x.1 c))
+      (x.0, (subst (HandlersKnown (known_in r)) x.1 k).0, subst (λ w. CallsBuiltin b (argument_then (handler_argument x.0) no_arguments) w o) none (subst (λ a. CallsBuiltin b a wants o) x.1 c))
 
   formed : (b : Builtin) → CallsBuiltin b args wants o → IsGiven b args → Wanted b wants → CalleeKnown (known_in r) (builtin b) args → Calls (length r.functions) b o
   formed WriteInt c h w k = let x = one_int args h in (x.0, without WriteInt _ wants o (never WriteInt wants (λ v. v) w) (subst (λ a. CallsBuiltin WriteInt a wants o) x.1 c))

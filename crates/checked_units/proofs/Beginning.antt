@@ -1,5 +1,5 @@
 -- A run of an image begins as the simulation of linear code asks.
-use Rattle.std.proofs.Common.{◌≡◌, refl, subst, arith, ℕ, zero, suc, ◌+◌, ◌-◌, ◌*◌, ◌<◌, ◌≤◌, ◌^◌, ℤ, pos, true, List, [], ◌∷◌, ◌++◌, map, length, Some}
+use Rattle.std.proofs.Common.{◌≡◌, refl, subst, ◌∙◌, ◌==◌, unwrap_or, arith, ℕ, zero, suc, ◌+◌, ◌-◌, ◌*◌, ◌<◌, ◌≤◌, ◌^◌, ℤ, pos, true, List, [], ◌∷◌, ◌++◌, map, length, replicate, Some}
 use Rattle.std.specs.Prelude.{slice_get, nat_lt}
 use Rattle.std.specs.List.{AllByRecursion}
 use Rattle.std.proofs.lemmas.Bool.{and_parts}
@@ -7,11 +7,14 @@ use Rattle.std.proofs.lemmas.Bool.Decides.{nat_tests}
 use Rattle.std.proofs.lemmas.List.{length-append, length-map}
 use Rattle.std.proofs.lemmas.Option.{slice_get_within, slice_get-get_or}
 use Rattle.cxx_ast.specs.Plain.{Checked}
+use Rattle.region_forms.specs.Form.{RegionFunction, no_function, function_at}
 use Rattle.region_forms.specs.Layout.{layout_of}
 use Rattle.region_forms.specs.LowerProgram.{regions_of}
 use Rattle.region_forms.specs.WellFormed.{is_well_formed}
 use Rattle.linear_forms.specs.Linear.{UnitCode}
 use Rattle.linear_forms.specs.Unit.{function_code}
+use Rattle.linear_forms.specs.UnitRun as running
+use Rattle.linear_forms.specs.UnitRun.{no_code}
 use Rattle.machine_forms.specs.Routine.{routine_words}
 use Rattle.machine_forms.specs.StubCode.{stub_words}
 use Rattle.machine_forms.specs.Emitted.{listed_type, emitted_of, emitted_stubs, unit_words, function_routine}
@@ -28,6 +31,7 @@ use Rattle.source_bounds.specs.Compiled.{unit_for}
 use Rattle.source_bounds.specs.Laws.{CheckedIsLinkable}
 use Rattle.machine_pieces.specs.Numbers.{IsInt}
 use Rattle.machine_pieces.specs.Standing.{WordsAt}
+use Rattle.machine_pieces.specs.Keeping.{AreSmall}
 use Rattle.machine_pieces.specs.UnitAt.{whole_words}
 use Rattle.machine_simulation.specs.Beginning.{global_byte, plan_before, StandsBefore}
 use Rattle.machine_forms.proofs.Words.{words_stand}
@@ -59,8 +63,29 @@ main_is_there p h =
     let inside : r.main < length r.functions = grind (arith, nat_tests, test) in
     omega (arith, inside, length-map r.functions function_code)
 
+-- the code of a function has as many parameters as the function
+same_parameters : (fs : List RegionFunction) (n : ℕ) → (unwrap_or (slice_get (map function_code fs) n) no_code).parameters ≡ (unwrap_or (slice_get fs n) no_function).parameters
+same_parameters [] n = refl
+same_parameters (f ∷ fs) zero = refl
+same_parameters (f ∷ fs) (suc n) = same_parameters fs n
+
+-- main has none
+main_takes_nothing : (p : Checked) → is_well_formed (regions_of p (layout_of p)) ≡ true → (running.code_at (unit_for p) (unit_for p).main).parameters ≡ 0
+main_takes_nothing p h =
+    let r = regions_of p (layout_of p) in
+    let behind = (and_parts (nat_lt r.main (length r.functions)) _ h).1 in
+    let test = (and_parts ((function_at r r.main).parameters == 0) _ behind).0 in
+    let none : (function_at r r.main).parameters ≡ 0 = grind (arith, nat_tests, test) in
+    same_parameters r.functions r.main ∙ none
+
+-- registers that are 0
+zeros_small : (n : ℕ) → AreSmall (replicate n 0)
+zeros_small zero = tt
+zeros_small (suc n) = (omega arith, zeros_small n)
+
 module _ (units_stand : UnitsStand) (u : UnitCode) (i : CleanImage) (tables : ℕ → ℕ) (stands : ImageStands (contents_for (emitted_of u)) i.image) (can : IsLinkable (emitted_of u)) (asked : IsAsked u)
-    (short : AllByRecursion (λ g. routine_words (function_routine g) < 2 ^ 18) u.functions) (ints : AllByRecursion IsInt u.globals) (main : u.main < length u.functions) where
+    (short : AllByRecursion (λ g. routine_words (function_routine g) < 2 ^ 18) u.functions) (ints : AllByRecursion IsInt u.globals) (main : u.main < length u.functions)
+    (nothing : (running.code_at u u.main).parameters ≡ 0) where
   abbrev e : ListedUnit
   e = emitted_of u
 
@@ -98,9 +123,11 @@ module _ (units_stand : UnitsStand) (u : UnitCode) (i : CleanImage) (tables : �
     pc = stands.entry;
     registers = refl;
     stack = refl;
+    saved = zeros_small 10;
     unit = units_stand (plan_before u base tables) (initial parts).memory asked.few short asked.frames asked.registers words;
     jump = jump_stands u base (initial parts).memory words;
     main = main;
+    takes_nothing = nothing;
     may = λ a n bottom top. stack_may parts a n bottom top;
     objects = λ a n bottom top. slots_may parts a n bottom top;
     deep = omega (arith, types, room);
@@ -120,4 +147,4 @@ module _ (units_stand : UnitsStand) (u : UnitCode) (i : CleanImage) (tables : �
 
 pub images_begin : UnitsStand → CheckedIsLinkable → CheckedUnitsAreAsked → CheckedFunctionsAreShort → CheckedRegionsAreWellFormed → ImagesBegin
 images_begin units_stand linkable asked short formed p checked i tables stands =
-    begins units_stand (unit_for p) i tables stands (linkable p checked) (asked p checked) (short p checked) (globals_are_ints p checked) (main_is_there p (formed p checked))
+    begins units_stand (unit_for p) i tables stands (linkable p checked) (asked p checked) (short p checked) (globals_are_ints p checked) (main_is_there p (formed p checked)) (main_takes_nothing p (formed p checked))

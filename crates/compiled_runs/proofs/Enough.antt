@@ -44,7 +44,7 @@ use Rattle.compiled_runs.specs.Given.{IsGiven}
 use Rattle.compiled_runs.proofs.Meaning.{end_is_meant, OverWith, over_with, end_is}
 
 -- what is spent is no more than what is enough
-enough : (tokens c k start spent n : ℕ) → spent ≤ (128 * tokens + 1024) * (c + 2) → c + 1 ≤ k → start ≤ 8 → (k + 1) * (128 * tokens + 4096) ≤ n → start + spent + 128 ≤ n
+enough : (tokens c k start spent n : ℕ) → spent ≤ (128 * tokens + 1024) * (c + 2) → c + 1 ≤ k → start ≤ 38 → (k + 1) * (128 * tokens + 4096) ≤ n → start + spent + 128 ≤ n
 enough tokens c k start spent n few turns first most =
     let wider = more (128 * tokens + 1024) (c + 2) (k + 1) (omega (arith, turns)) in
     let longer = each (128 * tokens + 1024) (128 * tokens + 4096) k (omega arith) in
@@ -77,7 +77,7 @@ module _ (p : Checked) (checked : IsChecked p) (i : CleanImage) (input : List �
   abbrev far : Meaning
   far = program_meaning p input replies n (n + 1)
 
-  module _ (few : n ≤ 2 ^ 40) (most : enough_for p turns ≤ n) (follow : (k : ℕ) → RunFollows (program_of i).image pick code (2 ^ 40) first start k) (before : ℕ) (least : before ≤ 8)
+  module _ (few : n ≤ 2 ^ 40) (most : enough_for p turns ≤ n) (follow : (k : ℕ) → RunFollows (program_of i).image pick code (2 ^ 40) first start k) (before : ℕ) (least : before ≤ 38)
       (suffice : (k : ℕ) → RunSuffices (program_of i).image pick code (2 ^ 40) first start before k) (little : CheckedRunsSpendLittle) (all : AllAreCounted) where
     -- each call and each loop that turns back has a turn of its own
     paid_for : (k : ℕ) → counted_steps code k first + 1 ≤ turns → before + spends code k first + 128 ≤ n

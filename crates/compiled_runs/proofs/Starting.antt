@@ -1,5 +1,5 @@
 -- Where main begins in an image.
-use Rattle.std.proofs.Common.{◌≡◌, ℕ, zero, suc, ◌<◌, ◌^◌, List, [], ◌∷◌, refl, sym, ap, ◌∙◌, arith, ℤ, true}
+use Rattle.std.proofs.Common.{◌≡◌, ℕ, zero, suc, ◌+◌, ◌≤◌, ◌<◌, ◌^◌, Bool, true, false, List, [], ◌∷◌, refl, sym, ap, ◌∙◌, arith, ℤ}
 use Rattle.std.specs.List.{AllByRecursion}
 use Rattle.eh_outer.specs.Domain.{is_int}
 use Rattle.eh_outer.specs.declared.module.Reply.{Reply}
@@ -10,17 +10,20 @@ use Rattle.image_forms.specs.Linked.{contents_for}
 use Rattle.image_forms.specs.Placed.{code_at}
 use Rattle.linear_forms.specs.UnitRun.{code_of, first_state}
 use Rattle.source_bounds.specs.Compiled.{unit_for, emitted_for}
-use Rattle.machine_forms.specs.Routine.{op_word}
+use Rattle.machine_forms.proofs.Chosen.{variables_are_kept}
 use Rattle.cxa_runtime.specs.Raising.{Image}
 use Rattle.cxa_runtime.specs.Run.{run}
 use Rattle.cxa_runtime.specs.World as abi
 use Rattle.eh_run.specs.Program.{program_of}
 use Rattle.machine_pieces.specs.Numbers.{IsInt}
+use Rattle.machine_pieces.specs.Transfers.{entry_steps}
 use Rattle.machine_pieces.specs.Turning.{Turns}
-use Rattle.machine_simulation.specs.Plan.{routine}
+use Rattle.machine_simulation.specs.Plan.{Plan, function, shape}
+use Rattle.machine_simulation.specs.Entering.{entry_turns}
 use Rattle.machine_simulation.specs.Bytes.{AreBytes}
 use Rattle.machine_simulation.specs.Matches.{Matches}
-use Rattle.machine_simulation.specs.Beginning.{StandsBefore, MainBegins}
+use Rattle.machine_simulation.specs.Beginning.{plan_before, StandsBefore, MainBegins}
+use Rattle.machine_simulation.proofs.Words.{front_words, prologue_some}
 use Rattle.checked_units.specs.Images.{ImagesBegin}
 use Rattle.whole_runs.specs.Turns.{Invariant}
 use Rattle.whole_runs.specs.Steps.{FollowsOn}
@@ -46,18 +49,25 @@ module _ (p : Checked) (i : CleanImage) (tables : ℕ → ℕ) (input : List ℕ
   not_there none =
       let same : after ≡ abi.begins (program_of i).hart input replies = no_turns (program_of i).image (abi.begins (program_of i).hart input replies) after turns none runs in
       let pc : after.hart.pc ≡ code_at (emitted_for p) = ap (λ w. w.hart.pc) same ∙ before.pc in
-      let six : op_word (routine (plan_of_main p tables) matches.number) 0 ≡ 6 = refl in
-      omega (arith, pc, six, matches.pc)
+      omega (arith, pc, front_words (plan_of_main p tables) matches.number, prologue_some (shape (plan_of_main p tables) matches.number), matches.pc)
 
   some_turns : (n : ℕ) → turns ≡ n → 0 < n
   some_turns zero e = absurd (not_there e)
   some_turns (suc n) e = omega arith
 
+-- few turns enter a function
+few_to_enter : (p : Plan) (n : ℕ) → entry_turns p n ≤ 34
+few_to_enter p n = by (shape p n).leaf ((variables_are_kept (function p n)).saved (shape p n) (function p n).parameters)
+  where
+    by : (leaf : Bool) {saved : ℕ} → saved ≤ 30 → entry_steps leaf + saved ≤ 34
+    by true few = omega (arith, few)
+    by false few = omega (arith, few)
+
 pub images_start : ImagesBegin → MainBegins → ImagesStart
 images_start images_begin main_begins p checked i tables stands input replies =
     let before = images_begin p checked i tables stands in
     let m = main_begins (program_of i).image (unit_for p) (code_at (emitted_for p)) tables (program_of i).hart input replies before in
-    record { turns = m.turns; some = some_turns p i tables input replies before m.turns m.after m.runs m.holds m.turns refl; few = m.few; after = m.after; runs = m.runs; matches = m.holds }
+    record { turns = m.turns; some = some_turns p i tables input replies before m.turns m.after m.runs m.holds m.turns refl; few = omega (arith, m.few, few_to_enter (plan_before (unit_for p) (code_at (emitted_for p)) tables) (unit_for p).main); after = m.after; runs = m.runs; matches = m.holds }
 
 -- an invariant that holds where main begins holds where a run does
 pub starts_where : (p : Checked) (i : CleanImage) (tables : ℕ → ℕ) (pick : ℕ → ℕ) (input : List ℕ) (replies : List (List Reply)) (S : Invariant) (s : Started p i tables input replies)

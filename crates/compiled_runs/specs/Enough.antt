@@ -43,9 +43,9 @@ pub record HasEnough (p : Checked) (i : CleanImage) : Type 0 where
       m.end ≡ meanings.OutOfTurns → let far = program_meaning p input replies n (n + 1) in (far.end ≡ meanings.Undefined → ⊥) →
       BeginsWith m.items r.items ⊎ ((r.end ≡ run_ends.Stack) × (4096 ≤ far.deepest))
 
--- some turns, and at most eight, are enough for each run of an image before its linear code begins
+-- some turns, and at most 38, are enough for each run of an image before its linear code begins
 abbrev pub RunsSufficeFor : Checked → CleanImage → Type 0
-RunsSufficeFor p i = (pick : ℕ → ℕ) (input : List ℕ) (replies : List (List Reply)) → IsGiven input replies → (before : ℕ) × (before ≤ 8) × ((steps : ℕ) →
+RunsSufficeFor p i = (pick : ℕ → ℕ) (input : List ℕ) (replies : List (List Reply)) → IsGiven input replies → (before : ℕ) × (before ≤ 38) × ((steps : ℕ) →
     RunSuffices (program_of i).image pick (code_of (unit_for p)) (2 ^ 40) (first_state (unit_for p) input replies) (begins (program_of i).hart input replies) before steps)
 
 abbrev pub SufficientImagesHaveEnough : Type 0

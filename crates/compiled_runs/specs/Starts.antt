@@ -27,11 +27,11 @@ plan_of_main p tables =
     let before = plan_before (unit_for p) (code_at (emitted_for p)) tables in let main = (unit_for p).main in
     opened before main 0 (stack_end - (shape before main).size)
 
--- some turns, and at most eight, lead from the beginning of a run to where the first operation of main begins in linear code
+-- some turns, and at most 38, lead from the beginning of a run to where the first operation of main begins in linear code
 pub record Started (p : Checked) (i : CleanImage) (tables : ℕ → ℕ) (input : List ℕ) (replies : List (List Reply)) : Type 0 where
   pub turns : ℕ
   pub some : 0 < turns
-  pub few : turns ≤ 8
+  pub few : turns ≤ 38
   pub after : abi.World
   pub runs : Turns (program_of i).image turns (abi.begins (program_of i).hart input replies) after []
   pub matches : Matches (plan_of_main p tables) (first_state (unit_for p) input replies) after

@@ -18,7 +18,7 @@ pub fn followed_images_are_compiled()
     shallow_meanings();
 }
 
-/// Every run of the image of a checked program comes to where main begins, in at least one turn and at most eight, with the same input and replies.
+/// Every run of the image of a checked program comes to where main begins, in at least one turn and at most 38, with the same input and replies.
 pub fn images_start()
     ensures { ImagesStart }
 {

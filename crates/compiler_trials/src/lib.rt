@@ -7,6 +7,8 @@ mod emission;
 #[cfg(test)]
 mod emitted_unit;
 #[cfg(test)]
+mod kept_variables;
+#[cfg(test)]
 mod layouts;
 #[cfg(test)]
 mod lowered;

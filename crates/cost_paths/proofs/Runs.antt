@@ -6,8 +6,8 @@ use Rattle.linear_forms.specs.Linear.{LinearOp, FunctionCode}
 use Rattle.linear_forms.specs.Unit.{unit_of}
 use Rattle.machine_forms.specs.LinearCode.{linear_code}
 use Rattle.machine_forms.specs.Routine.{block_words, routine_words}
-use Rattle.machine_forms.specs.Shape.{Shape, prologue}
-use Rattle.machine_forms.specs.Emitted.{shape_of, function_routine}
+use Rattle.machine_forms.specs.Shape.{Shape}
+use Rattle.machine_forms.specs.Emitted.{shape_of, function_front, function_routine}
 use Rattle.cost_paths.specs.Words.{Leads, LoopTurns, AreWordRanks, HasWordRanks}
 use Rattle.cost_paths.specs.Runs.{GoesBy, RunsFew, FewWordsRun}
 use Rattle.cost_paths.proofs.Rows.{found_below}
@@ -24,7 +24,7 @@ before_inside f (x ∷ ops) (suc p) i o e lt = omega (arith, before_inside f ops
 leads_inside : (g : FunctionCode) (n m : ℕ) → Leads g n m → n < routine_words (function_routine g)
 leads_inside g n m leads =
     let f : Shape = shape_of g in
-    ⊎_elim (λ w. omega (arith, found_below (prologue f) n w.0.piece w.0.there))
+    ⊎_elim (λ w. omega (arith, found_below (function_front f g.parameters) n w.0.piece w.0.there))
     (λ w. omega (arith, w.0.is, before_inside f g.ops w.0.place w.0.index w.0.operation w.0.there (found_below (linear_code f w.0.operation) w.0.index w.0.piece w.0.word))) leads
 
 some_number : (a b : ℕ) → Some a ≡ Some b → a ≡ b

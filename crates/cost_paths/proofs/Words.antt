@@ -6,10 +6,12 @@ use Rattle.std.specs.Prelude.{slice_get}
 use Rattle.region_forms.specs.Form.{RegionFunction}
 use Rattle.linear_forms.specs.Linear.{LinearOp, plain, label, jump, jump_zero, pad, jump_filter, free, resume, unexpected, return, FunctionCode}
 use Rattle.linear_forms.specs.Unit.{function_code}
-use Rattle.machine_forms.specs.Shape.{Shape, prologue, epilogue}
+use Rattle.machine_forms.specs.KeptCode.{restores}
+use Rattle.machine_forms.specs.Registers.{saved_registers}
+use Rattle.machine_forms.specs.Shape.{Shape, epilogue}
 use Rattle.machine_forms.specs.LinearCode.{linear_code, result_set}
 use Rattle.machine_forms.specs.Routine.{block_words}
-use Rattle.machine_forms.specs.Emitted.{shape_of}
+use Rattle.machine_forms.specs.Emitted.{shape_of, function_front}
 use Rattle.cost_paths.specs.Control.{goes_on, label_of, place_of, CanGo, TurnsBack}
 use Rattle.cost_paths.specs.Ahead.{LeadsTo, GoesAhead}
 use Rattle.cost_paths.specs.Order.{weight, AreRanks}
@@ -37,7 +39,7 @@ empty_goes_on f (jump_filter s n l) e = refl
 empty_goes_on f (free s) e = refl
 empty_goes_on f (resume s) e = absurd (omega (arith, e))
 empty_goes_on f (unexpected o s) e = absurd (omega (arith, e))
-empty_goes_on f (return result) e = absurd (omega (arith, e, length-append (result_set f result) (epilogue f)))
+empty_goes_on f (return result) e = absurd (omega (arith, e, length-append (result_set f result ++ restores f saved_registers f.kept) (epilogue f)))
 
 -- what goes on is no jump
 stays : (o : LinearOp) (l : ℕ) → goes_on o ≡ true → o ≡ jump l → ⊥
@@ -51,7 +53,7 @@ module _ (g : FunctionCode) (rank : ℕ → ℕ) (h : AreRanks g (words_of (shap
   most = weight (words_of f) g.ops
 
   abbrev front : ℕ
-  front = length (prologue f)
+  front = length (function_front f g.parameters)
 
   -- the ranks of the words of operations from place k on
   abbrev ranks_from : ℕ → List LinearOp → List ℕ
@@ -201,8 +203,8 @@ module _ (g : FunctionCode) (rank : ℕ → ℕ) (h : AreRanks g (words_of (shap
 
   front_leads : (n m : ℕ) (w : InFront g n) → LeadsTo w.piece n m → word_rank n < word_rank m
   front_leads n m w leads =
-      let lt = found_below (prologue f) n w.piece w.there in
-      let ahead = piece_ahead None (prologue f) n w.piece (all_code_goes_ahead f).front w.there in
+      let lt = found_below (function_front f g.parameters) n w.piece w.there in
+      let ahead = piece_ahead None (function_front f g.parameters) n w.piece ((all_code_goes_ahead f).front g.parameters) w.there in
       let within = leads_ahead None ahead.0 n m w.piece ahead.1 ahead.3 leads in
       ⊎_elim
       (λ inside. omega (arith, front_ranked n lt, front_ranked m inside, within.0))

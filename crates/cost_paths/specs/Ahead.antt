@@ -3,7 +3,8 @@ use Rattle.std.specs.Prelude.{◌≡◌, ◌⊎◌, ℕ, ◌+◌, ◌*◌, ◌^�
 use Rattle.rv64_isa.specs.declared.instr.Instr.TheVariants.{Jal, Jalr, Beq, Bne, Blt, Bge, Bltu, Bgeu}
 use Rattle.linear_forms.specs.Linear.{LinearOp}
 use Rattle.machine_forms.specs.Piece.{Piece, instruction, jump_to}
-use Rattle.machine_forms.specs.Shape.{Shape, prologue}
+use Rattle.machine_forms.specs.Emitted.{function_front}
+use Rattle.machine_forms.specs.Shape.{Shape}
 use Rattle.machine_forms.specs.LinearCode.{linear_code}
 use Rattle.cost_paths.specs.Control.{label_of}
 
@@ -64,7 +65,7 @@ AllGoAhead target more (x ∷ xs) = GoesAhead target (length xs + 1 + more) x ×
 -- for the jump to the operation's label. So no word of it runs twice while the operation runs once.
 pub record CodeGoesAhead (f : Shape) : Type 0 where
   pub operations : (o : LinearOp) → AllGoAhead (label_of o) 0 (linear_code f o)
-  pub front : AllGoAhead None 0 (prologue f)
+  pub front : (parameters : ℕ) → AllGoAhead None 0 (function_front f parameters)
 
 abbrev pub AllCodeGoesAhead : Type 0
 AllCodeGoesAhead = (f : Shape) → CodeGoesAhead f

@@ -6,10 +6,9 @@ use Rattle.linear_forms.specs.Linear.{LinearOp, FunctionCode}
 use Rattle.linear_forms.specs.Tables.{padded, look_up}
 use Rattle.linear_forms.specs.Unit.{unit_of}
 use Rattle.machine_forms.specs.Piece.{Piece, jump_to}
-use Rattle.machine_forms.specs.Shape.{prologue}
 use Rattle.machine_forms.specs.LinearCode.{linear_code}
 use Rattle.machine_forms.specs.Routine.{routine_words, op_word}
-use Rattle.machine_forms.specs.Emitted.{shape_of, function_routine}
+use Rattle.machine_forms.specs.Emitted.{shape_of, function_front, function_routine}
 use Rattle.cost_paths.specs.Control.{goes_on, place_of, TurnsBack}
 use Rattle.cost_paths.specs.Ahead.{LeadsTo}
 
@@ -20,7 +19,7 @@ word_of g p = op_word (function_routine g) p
 -- a word of a function's beginning
 pub record InFront (g : FunctionCode) (n : ℕ) : Type 0 where
   pub piece : Piece
-  pub there : slice_get (prologue (shape_of g)) n ≡ Some piece
+  pub there : slice_get (function_front (shape_of g) g.parameters) n ≡ Some piece
 
 -- a word of the operation at a place
 pub record InOperation (g : FunctionCode) (n : ℕ) : Type 0 where

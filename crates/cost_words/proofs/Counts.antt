@@ -3,11 +3,13 @@ use Rattle.std.proofs.Common.{ℕ, ◌+◌, ◌≤◌, false, Option, length, ar
 use Rattle.region_forms.specs.Form.{Op, evaluate, store, bind, call, construct, destroy, make, throw, rethrow, enter, leave}
 use Rattle.linear_forms.specs.Linear.{LinearOp, plain, label, jump, jump_zero, pad, jump_filter, free, resume, unexpected, return}
 use Rattle.linear_forms.specs.Stub.{leave_newest, destroy_held, call_held, begin_unexpected, check_unexpected, construct_bad, terminate_for, abort, linear, runtime}
+use Rattle.machine_forms.specs.Emitted.{function_front}
 use Rattle.machine_forms.specs.Shape.{Shape}
 use Rattle.machine_forms.specs.LinearCode.{linear_code}
 use Rattle.source_bounds.specs.OperationWords.{linear_words}
 use Rattle.source_bounds.proofs.Counted.{counted_once}
 use Rattle.source_bounds.proofs.Operations.{operations_are_short}
+use Rattle.source_bounds.proofs.Regions.{front_short}
 use Rattle.cost_words.specs.Counts.{called_front, code_words, OperationsHaveWords, FunctionsBeginBriefly}
 use Rattle.cost_words.specs.Spends.{op_weight}
 
@@ -48,7 +50,12 @@ operations_have_words f (runtime (terminate_for o)) = omega arith
 operations_have_words f (runtime abort) = omega arith
 
 pub functions_begin_briefly : FunctionsBeginBriefly
-functions_begin_briefly f = record { function = omega arith; terminates = omega arith; leaves = omega arith; stopped = omega arith }
+functions_begin_briefly f = record {
+  function = λ parameters. omega (arith, counted_once (function_front f parameters), front_short f parameters);
+  terminates = omega arith;
+  leaves = omega arith;
+  stopped = omega arith;
+}
 
 -- an operation of a compiled function weighs no less than its words
 pub words_weigh : (f : Shape) (o : LinearOp) → length (linear_code f o) ≤ op_weight false (linear o)
@@ -74,5 +81,5 @@ words_weigh f (unexpected o s) = omega (arith, operations_have_words f (linear (
 words_weigh f (return r) = omega (arith, operations_have_words f (linear (return r)))
 
 -- a return has few
-pub return_words : (f : Shape) (r : Option ℕ) → length (linear_code f (return r)) ≤ 4
+pub return_words : (f : Shape) (r : Option ℕ) → length (linear_code f (return r)) ≤ 14
 return_words f r = any_linear f (return r)

@@ -58,17 +58,17 @@ whole_words (resume s) = omega arith
 whole_words (unexpected o s) = omega arith
 whole_words (return r) = omega arith
 
-placed_words : (code : List Placed) → weight (whole_linear words_of) (map (λ x. x.op) code) ≤ words 4 code
+placed_words : (code : List Placed) → weight (whole_linear words_of) (map (λ x. x.op) code) ≤ words 14 code
 placed_words [] = omega arith
 placed_words (x ∷ code) = omega (arith, whole_words x.op, placed_words code)
 
-function_words : (f : RegionFunction) → HasFewWays f.body → IsShort f → weight (whole_linear words_of) (function_code f).ops ≤ 262138
+function_words : (f : RegionFunction) → HasFewWays f.body → IsShort f → weight (whole_linear words_of) (function_code f).ops ≤ 262108
 function_words f few short =
     let body = region_code (emitting f) unpadded [] 0 0 f.body in
-    omega (arith, placed_words (placed_code f), words-append 4 body (quiet (return f.result) ∷ []), region_short 4 f.body (emitting f) unpadded [] 0 0 few, short)
+    omega (arith, placed_words (placed_code f), words-append 14 body (quiet (return f.result) ∷ []), region_short 14 f.body (emitting f) unpadded [] 0 0 few, short)
 
 all_words : (fs : List RegionFunction) → AllByRecursion (λ f. HasFewWays f.body) fs → AllByRecursion IsShort fs →
-    AllByRecursion (λ g. weight (whole_linear words_of) g.ops ≤ 262138) (map function_code fs)
+    AllByRecursion (λ g. weight (whole_linear words_of) g.ops ≤ 262108) (map function_code fs)
 all_words [] few short = tt
 all_words (f ∷ fs) few short = (function_words f few.0 short.0, all_words fs few.1 short.1)
 
@@ -78,6 +78,6 @@ checked_runs_are_short p h n input replies =
     let fs = (regions_of p l).functions in
     let code : Code = code_of (unit_for p) in
     let st : State = first_state (unit_for p) input replies in
-    let all : weighed code words_of n st ≤ 262138 * (counted code n st + 2) =
-    runs_weigh_by_calls (regions_of p l) words_of 262138 n input replies (λ k. refl) (all_words fs (checked_fine classes_fit p l h).few (checked_bodies_are_short p h)) (omega arith) in
+    let all : weighed code words_of n st ≤ 262108 * (counted code n st + 2) =
+    runs_weigh_by_calls (regions_of p l) words_of 262108 n input replies (λ k. refl) (all_words fs (checked_fine classes_fit p l h).few (checked_bodies_are_short p h)) (omega arith) in
     omega (arith, all)

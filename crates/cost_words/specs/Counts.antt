@@ -3,7 +3,8 @@ use Rattle.std.specs.Prelude.{◌≤◌, ◌+◌, ℕ, length}
 use Rattle.region_forms.specs.Form.{leave}
 use Rattle.linear_forms.specs.Linear.{plain, unexpected}
 use Rattle.linear_forms.specs.Stub.{end_catch, terminating, call_unexpected, StubOp, leave_newest, destroy_held, call_held, begin_unexpected, check_unexpected, construct_bad, terminate_for, abort, CodeOp, linear, runtime}
-use Rattle.machine_forms.specs.Shape.{Shape, prologue}
+use Rattle.machine_forms.specs.Emitted.{function_front}
+use Rattle.machine_forms.specs.Shape.{Shape}
 use Rattle.machine_forms.specs.StubCode.{code_op_code, stub_front}
 use Rattle.source_bounds.specs.OperationWords.{linear_words}
 
@@ -36,7 +37,7 @@ OperationsHaveWords = (f : Shape) (o : CodeOp) → length (code_op_code f o) + c
 
 -- the words with which functions begin
 pub record BeginsBriefly (f : Shape) : Type 0 where
-  pub function : length (prologue f) ≤ 6
+  pub function : (parameters : ℕ) → length (function_front f parameters) ≤ 36
   pub terminates : length (stub_front terminating f) ≤ 6
   pub leaves : length (stub_front end_catch f) ≤ 2
   pub stopped : length (stub_front call_unexpected f) ≤ 2

@@ -25,6 +25,7 @@ op_weight true (linear (plain leave)) = 24
 op_weight true (linear (free s)) = 18
 op_weight true (linear (jump_filter s n l)) = 44
 op_weight true (linear (resume s)) = 5
+op_weight true (linear (return r)) = 4
 op_weight true (linear o) = linear_words o
 op_weight true (runtime o) = 0
 

@@ -17,6 +17,8 @@ mod harts;
 #[cfg(test)]
 mod images;
 #[cfg(test)]
+mod kept;
+#[cfg(test)]
 mod limits;
 #[cfg(test)]
 mod mean_rows;

@@ -3,7 +3,7 @@ use Rattle.std.specs.Prelude.{⊤, ◌≡◌, ℕ, ◌<◌, ◌≤◌, true, len
 use Rattle.std.specs.List.{AllByRecursion}
 use Rattle.cxx_ast.specs.declared.name.Builtin.TheVariants.{SetTerminate, SetUnexpected}
 use Rattle.meaning_forms.specs.World.{Installed}
-use Rattle.region_forms.specs.Form.{Callee, builtin, Value, call_value, int_argument, address_argument, handler_argument, Arguments, no_arguments, argument_then, Op, evaluate, store, call, throw, Regions}
+use Rattle.region_forms.specs.Form.{Callee, builtin, Value, call_value, int_argument, address_argument, handler_argument, Arguments, no_arguments, argument_then, Op, evaluate, store, call, throw, Regions, function_at}
 use Rattle.region_forms.specs.WellFormed.{destructor_test, is_well_formed}
 use Rattle.region_forms.specs.Ending.{bad_row}
 use Rattle.region_forms.specs.World.{Exception, building, native, foreign, Live, World}
@@ -11,7 +11,7 @@ use Rattle.linear_forms.specs.Linear.{plain}
 use Rattle.linear_forms.specs.Activation.{Code, State, goes_to}
 use Rattle.linear_forms.specs.Machine.{step}
 use Rattle.linear_forms.specs.Unit.{unit_of}
-use Rattle.linear_forms.specs.UnitRun.{code_of}
+use Rattle.linear_forms.specs.UnitRun.{code_of, code_at}
 
 -- what is asked of types, destructors and handlers: that they are there, say
 pub record Known : Type 1 where
@@ -81,14 +81,18 @@ StepsKeepLives = (k : Known) (code : Code) (st next : State) → CodeKnown k cod
 abbrev pub anything : Known
 anything = record { types = λ t. ⊤; destructors = λ d. ⊤; handlers = λ n. ⊤ }
 
--- types and functions of a program, and functions that take an object alone
+-- types of a program, functions that take an object alone, and functions without parameters
 abbrev pub known_in : Regions → Known
-known_in r = record { types = λ t. t < length r.types; destructors = λ d. destructor_test r d ≡ true; handlers = λ n. n < length r.functions }
+known_in r = record { types = λ t. t < length r.types; destructors = λ d. destructor_test r d ≡ true; handlers = λ n. (n < length r.functions) × ((function_at r n).parameters ≡ 0) }
 
 -- what the operations of a well-formed program name is there
 abbrev pub CodeIsKnown : Type 0
 CodeIsKnown = (r : Regions) → is_well_formed r ≡ true → bad_row < length r.types → CodeKnown anything (code_of (unit_of r)) → CodeKnown (known_in r) (code_of (unit_of r))
 
--- so each step keeps that what live exceptions and handlers name is there
+-- so what is known as a handler is a function of the linear code that takes nothing
+abbrev pub HandlersTakeNothing : Type 0
+HandlersTakeNothing = (r : Regions) (h : Option ℕ) (m : ℕ) → HandlerKnown (known_in r) h → h ≡ Some m → (m < length (unit_of r).functions) × ((code_at (unit_of r) m).parameters ≡ 0)
+
+-- and each step keeps that what live exceptions and handlers name is there
 abbrev pub ProgramsKeepLives : Type 0
 ProgramsKeepLives = (r : Regions) (st next : State) → CodeKnown (known_in r) (code_of (unit_of r)) → WorldKnown (known_in r) st.world → step (code_of (unit_of r)) st ≡ goes_to next → WorldKnown (known_in r) next.world

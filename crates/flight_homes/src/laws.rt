@@ -5,7 +5,7 @@ ghost use Rattle.flight_homes.specs.First.{FirstStatesStand};
 ghost use Rattle.flight_homes.specs.Helps.{BindsFit, SlotsAreHelp};
 ghost use Rattle.flight_homes.specs.Laws.{HomesAreFound, ProgramsCarry};
 ghost use Rattle.flight_homes.specs.LetsOn.{AllPadsLetOn};
-ghost use Rattle.flight_homes.specs.Lives.{CodeIsKnown, ProgramsKeepLives};
+ghost use Rattle.flight_homes.specs.Lives.{CodeIsKnown, HandlersTakeNothing, ProgramsKeepLives};
 ghost use Rattle.flight_homes.specs.NewFrames.{NewFramesAreEmpty};
 ghost use Rattle.flight_homes.specs.OpenCalls.{StepsKeepCalls};
 ghost use Rattle.flight_homes.specs.WholeCalls.{StepsKeepWhole};
@@ -52,6 +52,11 @@ pub fn steps_keep_calls()
 /// given a function.
 pub fn code_is_known()
     ensures { CodeIsKnown }
+{}
+
+/// What is known as a handler of a well-formed program is a function of its linear code, and takes nothing.
+pub fn handlers_take_nothing()
+    ensures { HandlersTakeNothing }
 {}
 
 /// Each step keeps that the types, destructors and kept handlers of live exceptions and the handlers in effect are there, and that exceptions

@@ -33,7 +33,7 @@ use Rattle.function_lengths.proofs.Destructors.{destructors_are_short}
 
 -- a region so short that its function, with what stands around the body, is short
 abbrev pub IsShort : RegionFunction → Type 0
-IsShort f = region_words f.body + 10 < 262144
+IsShort f = region_words f.body + 50 < 262144
 
 specification_small : (o : Option Specification) → specification_words o ≤ 573
 specification_small None = omega arith
@@ -51,7 +51,7 @@ body_words l is_main k f kind = region_words (in_order (limited l f.specificatio
 
 short_by_kind : (l : Lowering) (is_main : Bool) (k : ℕ) (f : Function) (kind : FuncKind) → length (parts_of l.program k) ≤ 256 → function_tokens f ≤ 2000 →
     body_words l is_main k f kind ≤ 4 + (kind_words kind (length (parts_of l.program k)) f + 128 * statements_tokens (statements_in f.body) + specification_words f.specification) →
-    body_words l is_main k f kind + 10 < 262144
+    body_words l is_main k f kind + 50 < 262144
 short_by_kind l is_main k f Plain parts few h = omega (arith, h, few, body_counted f.body, specification_small f.specification)
 short_by_kind l is_main k f Method parts few h = omega (arith, h, few, body_counted f.body, specification_small f.specification)
 short_by_kind l is_main k f Constructor parts few h = omega (arith, h, few, parts, body_counted f.body, specification_small f.specification)

@@ -59,8 +59,8 @@ one_turn made image pick number w next behind calls asks effect j =
     ap (and_more (run image pick j)) (made.made image (pick (w.last_number + 1)) number w behind calls asks ∙ ap (called w.hart.pc) effect)
 
 pub called_overflows : CallsAreMade → TerminateRuns → FunctionsOverflow → (image : Image) (pick : ℕ → ℕ) (k : ℕ) (p : Plan) (n m : ℕ) (frame : Frame) (fs : List Activation) (v : World) (w : abi.World) (back taken : ℕ) (items : List Item) →
-    (c : Called image pick p n m frame fs v w back taken items) → 0x100_0000 < 32 + taken + (shape p m).size + 0x1000 → c.turns + 13 ≤ k → RunEnds image pick k w items Stack
-called_overflows made runs over image pick k p n m frame fs v w back taken items c lacks many =
+    (c : Called image pick p n m frame fs v w back taken items) → taken + 0x1000 ≤ 0x100_0000 → (shape p m).leaf ≡ false → 0x100_0000 < 32 + taken + (shape p m).size + 0x1000 → c.turns + 13 ≤ k → RunEnds image pick k w items Stack
+called_overflows made runs over image pick k p n m frame fs v w back taken items c free looks lacks many =
     let t : abi.World = c.to in
     let first : ℕ = address (setting p m).ground (first_word p m) in
     let begins : abi.World = sent image.places first t in
@@ -70,7 +70,7 @@ called_overflows made runs over image pick k p n m frame fs v w back taken items
     = c.effect ∙ ap (λ h. terminates image.places h t) c.known.0 ∙ ap (λ b. if b then abi.aborts t else abi.goes (next_of image first t)) c.quiet in
     let one = one_turn made image pick c.number c.at (next_of image first t) c.behind c.calls c.asks there left in
     let top = c.memory.top in
-    let rest = handler_overflows over runs image pick left p m t c.may c.memory.unit c.memory.may (omega (arith, top.above)) (omega (arith, top.below)) (omega (arith, top.saved.aligned)) c.known.1 (omega (arith, c.end, lacks)) (omega (arith, many)) in
+    let rest = handler_overflows over runs image pick left p m t c.may c.memory.unit c.memory.may (omega (arith, c.end, free)) (omega (arith, c.end)) (omega (arith, top.saved.aligned)) c.known.1 looks (omega (arith, c.end, lacks)) (omega (arith, many)) in
     let whole : run image pick (k - c.turns) c.at ≡ with_items t.shown (run image pick left begins) = ap (λ j. run image pick j c.at) (sym count) ∙ one in
     let ends : RunEnds image pick (k - c.turns) c.at items Stack = (
       ap (λ (r : Ran). r.items) whole ∙ ap (λ is. t.shown ++ is) rest.0 ∙ append-nil t.shown ∙ c.shown,
@@ -102,7 +102,7 @@ called_by image pick p n m frame fs below v w back hidden most items wished s pi
 
 pub sends_overflow : CallsAreMade → TerminateRuns → FunctionsOverflow → (image : Image) (pick : ℕ → ℕ) (k : ℕ) (p : Plan) (n m : ℕ) (frame : Frame) (fs below : List Activation) (v : World) (w : abi.World) (back hidden most : ℕ) (items : List Item)
     (wished : abi.World → ℕ → Type 0) (s : Sends image p n m frame fs below v w back hidden most items wished) → wished s.comes.at (pick (s.comes.at.last_number + 1)) →
-    0x100_0000 < 32 + hidden + frames_bytes p.unit hidden below + (shape p m).size + 0x1000 → most + 13 ≤ k → RunEnds image pick k w items Stack
-sends_overflow made runs over image pick k p n m frame fs below v w back hidden most items wished s picked lacks many =
-    called_overflows made runs over image pick k p n m frame fs v w back (hidden + frames_bytes p.unit hidden below) items (called_by image pick p n m frame fs below v w back hidden most items wished s picked) (omega (arith, lacks))
+    hidden + frames_bytes p.unit hidden below + 0x1000 ≤ 0x100_0000 → (shape p m).leaf ≡ false → 0x100_0000 < 32 + hidden + frames_bytes p.unit hidden below + (shape p m).size + 0x1000 → most + 13 ≤ k → RunEnds image pick k w items Stack
+sends_overflow made runs over image pick k p n m frame fs below v w back hidden most items wished s picked free looks lacks many =
+    called_overflows made runs over image pick k p n m frame fs v w back (hidden + frames_bytes p.unit hidden below) items (called_by image pick p n m frame fs below v w back hidden most items wished s picked) (omega (arith, free)) looks (omega (arith, lacks))
     (omega (arith, s.comes.few, many))

@@ -1,3 +1,4 @@
+pub mod Above
 pub mod Called
 pub mod Origins
 pub mod Raising

@@ -7,6 +7,8 @@ use Rattle.rv64_isa.specs.Step.{x}
 use Rattle.cxa_runtime.specs.World as abi
 use Rattle.cxa_runtime.specs.Raising.{Image}
 use Rattle.eh_run.specs.Program.{program_of}
+use Rattle.region_forms.specs.Form.{throw}
+use Rattle.linear_forms.specs.Linear.{plain}
 use Rattle.region_forms.specs.World.{World, Exception, building, native, exception_at}
 use Rattle.region_forms.specs.Effect.{kept}
 use Rattle.linear_forms.specs.Activation.{State as LinearState, finishes, by_program, terminated}
@@ -33,6 +35,7 @@ use Rattle.machine_raises.proofs.Replaced.{replaced_in}
 use Rattle.stack_bounds.specs.Overflow.{FunctionsOverflow}
 use Rattle.raise_ends.proofs.Steps.{handler_in_two}
 use Rattle.raise_ends.proofs.Throws.{step_dooms}
+use Rattle.handler_overflows.proofs.Above.{terminating_leaves, page_free}
 use Rattle.handler_overflows.specs.AtOnce.{TerminatesOverflow}
 use Rattle.handler_overflows.specs.Throws.{DoomsOverflow}
 use Rattle.handler_overflows.proofs.Called.{Called, called_overflows}
@@ -62,7 +65,8 @@ terminates_overflow turns made runs over image pick k p n m st w h at quiet inst
       shown = refl;
     } in (
       handler_in_two p m st st v.installed.terminate_handler [] (terminating_step image p n st at) quiet installed (sym (append-nil v.items)),
-      called_overflows made runs over image pick k p n m st.top.frame st.frames v w h.back (open_bytes p (st.top ∷ st.frames)) [] one (omega (arith, lacks, hidden)) (omega (arith, c.few, many)),
+      called_overflows made runs over image pick k p n m st.top.frame st.frames v w h.back (open_bytes p (st.top ∷ st.frames)) [] one
+          (page_free p n st w h.back at.operation stood at.there (terminating_leaves image p n st at)) lacks.looks (omega (arith, lacks.lacks, hidden)) (omega (arith, c.few, many)),
     )
 
 pub dooms_overflow : CallsAreTurns → CallsAreMade → TerminateRuns → RaisesAgree → FunctionsOverflow → DoomsOverflow
@@ -98,5 +102,6 @@ dooms_overflow turns made runs agree over i pick k p n m s e t d st w h running 
       shown = all.2;
     } in (
       handler_in_two p m st waiting v.installed.terminate_handler (Enter e ∷ []) steps quiet installed refl,
-      called_overflows made runs over image pick k p n m st.top.frame st.frames waiting.world w h.back (open_bytes p (st.top ∷ st.frames)) (Enter e ∷ []) one (omega (arith, lacks, hidden)) (omega (arith, all.1, many)),
+      called_overflows made runs over image pick k p n m st.top.frame st.frames waiting.world w h.back (open_bytes p (st.top ∷ st.frames)) (Enter e ∷ []) one
+          (page_free p n st w h.back (plain (throw s t d)) stood at.there refl) lacks.looks (omega (arith, lacks.lacks, hidden)) (omega (arith, all.1, many)),
     )

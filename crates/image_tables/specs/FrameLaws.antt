@@ -1,5 +1,5 @@
 -- What the frames of a linked image say.
-use Rattle.std.specs.Prelude.{◌≡◌, ◌≤◌, ◌<◌, ℕ, ◌+◌, ◌*◌, false, slice_index_or, Some}
+use Rattle.std.specs.Prelude.{◌≡◌, ◌≤◌, ◌<◌, ℕ, ◌+◌, ◌*◌, false, length, slice_index_or, Some}
 use Rattle.table_forms.specs.declared.found.Rule.TheVariants as rules
 use Rattle.table_forms.specs.Fde.{Fde, fde_for, row_at}
 use Rattle.elf_image.specs.Clean.{CleanImage}
@@ -9,18 +9,17 @@ use Rattle.machine_forms.specs.Routine.{routine_words}
 use Rattle.machine_forms.specs.StubCode.{start_routine}
 use Rattle.eh_run.specs.Program.{program_of}
 use Rattle.image_tables.specs.Read.{IsImageOf}
-use Rattle.image_tables.specs.Functions.{IsThere, routine_of, frame_of, records_end, first_byte}
+use Rattle.image_tables.specs.Functions.{IsThere, routine_of, frame_of, saved_places, records_end, first_byte}
 use Rattle.image_tables.specs.Rows.{call_row}
 
--- The frame of byte k of a function: its bytes, and behind the two words of the prologue that take the frame and save the return address its
--- row.
+-- The frame of byte k of a function: its bytes, and behind the function's beginning its row.
 pub record IsFramed (u : UnitCode) (i : CleanImage) (f : Function) (k : ℕ) : Type 0 where
   pub fde : Fde
   pub found : fde_for (program_of i).image.fdes (first_byte u f + k) ≡ Some fde
   pub region : fde.region ≡ record { start = first_byte u f; length = 4 * routine_words (routine_of u f) }
   pub returns : fde.cie.return_register ≡ 1
   pub plain : fde.cie.signal ≡ false
-  pub row : 8 ≤ k → row_at fde (first_byte u f + k) ≡ call_row (frame_of u f)
+  pub row : 4 * length (routine_of u f).front ≤ k → row_at fde (first_byte u f + k) ≡ call_row (frame_of u f) (saved_places u f)
 
 -- each function of an image has its frame in each of its bytes
 abbrev pub FramesSay : Type 0

@@ -3,8 +3,8 @@ ghost use Rattle.image_tables.specs.FrameLaws.{FramesSay, StartIsOutermost};
 ghost use Rattle.image_tables.specs.TableLaws.{StartPasses, TablesSay};
 ghost use Rattle.image_tables.specs.TypeLaws.{TypesAreRead};
 
-/// Behind the two words of its prologue that take the frame and save the return address, the frame of a function has its size, and nothing
-/// but the return address is saved.
+/// Behind its beginning the frame of a function has its size, and the return address and the registers of kept variables are saved in their
+/// places.
 pub fn frames_say()
     ensures { FramesSay }
 {}

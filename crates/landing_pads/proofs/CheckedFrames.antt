@@ -27,7 +27,7 @@ use Rattle.landing_pads.proofs.SourceFrames.{source_frames_fit}
 
 -- the functions of a program whose names are bound
 
-abbrev Numbered : List Function → Type 0
+abbrev pub Numbered : List Function → Type 0
 Numbered fs = AllByRecursion VariablesAreNumbered fs
 
 methods_numbered : (env : Environment) (c : Class) (i : ℕ) (fs : List Function) → Numbered (resolve_methods env c i fs)
@@ -38,7 +38,7 @@ methods_numbered env c i (f ∷ fs) =
       methods_numbered env c (i + 1) fs,
     )
 
-abbrev ClassesNumbered : List Class → Type 0
+abbrev pub ClassesNumbered : List Class → Type 0
 ClassesNumbered cs = AllByRecursion (λ c. Numbered c.functions) cs
 
 classes_numbered : (env : Environment) (ds : List Declaration) → ClassesNumbered (classes_of (resolve_declarations env ds))
@@ -63,9 +63,9 @@ functions_numbered env (function_declaration f ∷ ds) =
     (function_numbered env outermost env' sc (Func (function_number env f.name.text)) f (tt, tt) refl) (functions_numbered (declare_behind env (function_declaration f)) ds)
 
 -- all functions of a program
-record ProgramNumbered (p : Checked) : Type 0 where
-  functions : Numbered p.functions
-  classes : ClassesNumbered p.classes
+pub record ProgramNumbered (p : Checked) : Type 0 where
+  pub functions : Numbered p.functions
+  pub classes : ClassesNumbered p.classes
 
 -- so they are with the specifications that count
 numbered_settled : (own : Option Specification) (f : Function) → VariablesAreNumbered f → VariablesAreNumbered (settle_function own f)
@@ -81,7 +81,7 @@ program_numbered std p =
           (tt, classes_numbered (at_the_start p.declarations) p.declarations);
     }
 
-checked_numbered : (p : Checked) → IsChecked p → ProgramNumbered p
+pub checked_numbered : (p : Checked) → IsChecked p → ProgramNumbered p
 checked_numbered p h = subst ProgramNumbered (sym h.resolved) (program_numbered h.std h.program)
 
 -- frames

@@ -65,7 +65,7 @@ own_bytes : (m : Bool) → slot_bytes (own_slots m) ≤ 8
 own_bytes false = omega arith
 own_bytes true = omega arith
 
-source_bytes : (f : RegionFunction) (l : Layout) (m : Bool) (types : List Ty) → f.slots ≡ slots_for l m types f.body →
+pub source_bytes : (f : RegionFunction) (l : Layout) (m : Bool) (types : List Ty) → f.slots ≡ slots_for l m types f.body →
     slot_bytes f.slots ≤ 24 + (slot_bytes (map (slot_for l) types) + 8 * between_calls m types f.body)
 source_bytes f l m types e =
     let n = 2 + between_calls m types f.body in

@@ -102,7 +102,7 @@ module _ (r : Regions) (few : Few r) where
     argument_in : (a : Argument) → argument_test r slots a ≡ true → argument_has_fields a ≡ true
     argument_in (int_argument v) h = value_in v h
     argument_in (address_argument p) h = address_in p.root p.offset h
-    argument_in (handler_argument n) h = below_field n (length r.functions) h few.functions
+    argument_in (handler_argument n) h = below_field n (length r.functions) (and_parts (nat_lt n (length r.functions)) ((function_at r n).parameters == 0) h).0 few.functions
 
     arguments_in : (args : Arguments) → arguments_test r slots args ≡ true → arguments_have_fields args ≡ true
     arguments_in no_arguments h = refl

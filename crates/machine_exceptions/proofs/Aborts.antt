@@ -33,9 +33,9 @@ use Rattle.machine_simulation.specs.Steps.{StepAt}
 use Rattle.machine_simulation.specs.Returns.{ResultStands}
 use Rattle.machine_simulation.proofs.Words.{even_base}
 use Rattle.machine_simulation.proofs.Matching.{Stands, stands_by}
+use Rattle.machine_simulation.proofs.Returning.{comes_back}
 use Rattle.machine_exceptions.specs.Terminates.{AtTerminating, RunAborts, LinearAborts}
 use Rattle.machine_exceptions.proofs.DestructorsEnd.{CameBack, returns_value}
-use Rattle.machine_exceptions.proofs.GivingBack.{gives_back_frame}
 use Rattle.machine_exceptions.proofs.Terminating.{terminating_step}
 use Rattle.machine_exceptions.proofs.Terminates.{called}
 
@@ -115,7 +115,7 @@ return_to_terminate p n st middle waiting fs r at frames is place =
     c.step ∙ ap (λ f. answer f waiting.place) is ∙ ap (answer terminating) place
 
 pub aborts_behind : TerminateRuns → (image : Image) (pick : ℕ → ℕ) (k : ℕ) (p : Plan) (n : ℕ) (st middle : LinearState) (waiting : Activation) (fs : List Activation) (r : Option ℕ) (w : abi.World) → Matches p st w → StepAt p st middle n (return r) →
-    st.frames ≡ waiting ∷ fs → waiting.function ≡ terminating → ResultStands p n st.top.frame r → 6 ≤ k → LinearAborts p 2 st × RunAborts image pick k w
+    st.frames ≡ waiting ∷ fs → waiting.function ≡ terminating → ResultStands p n st.top.frame r → length (linear_code (shape p n) (return r)) + 2 ≤ k → LinearAborts p 2 st × RunAborts image pick k w
 aborts_behind laws image pick k p n st middle waiting fs r w h at frames is result many =
     let s : State = w.hart in
     let stood : Stands p n st w h.back = stands_by p n st w h at.runs in
@@ -123,7 +123,7 @@ aborts_behind laws image pick k p n st middle waiting fs r w h at frames is resu
     (subst (λ gs. CallsWait p gs st.world s.memory (x s sp + (shape p n).size) h.back st.top.frame.call) frames stood.memory.waiting) in
     let c : CameBack p n st waiting fs r = returns_value p n st middle waiting fs r at.runs at.there at.step frames in
     let even = even_base p s.memory stood.memory.unit in
-    let gave = gives_back_frame p n st w h.back r c.value stood at.there result c.value_is (omega (arith, tw.returns, even)) (omega (arith, tw.returns, stood.memory.unit.stubs.call_unexpected.0.word.below)) in
+    let gave = comes_back p n st w h.back r c.value stood at.there result c.value_is (omega (arith, tw.returns, even)) (omega (arith, tw.returns, stood.memory.unit.stubs.call_unexpected.0.word.below)) in
     let ran = executes_turns image gave.steps w s gave.after refl gave.runs in
     let w1 : abi.World = ran.after in
     let memory1 : w1.hart.memory ≡ s.memory = ap (λ (u : State). u.memory) ran.hart ∙ gave.memory in

@@ -23,17 +23,19 @@ use Rattle.machine_pieces.specs.Laws.{PlacesAreWritten, CallsAreTurns}
 use Rattle.machine_pieces.proofs.Fetching.{pieces_split}
 use Rattle.machine_pieces.proofs.Stepping.{no_steps}
 use Rattle.machine_pieces.proofs.Turning.{turns_then, executes_turns}
+use Rattle.machine_pieces.specs.Keeping.{saved_of}
 use Rattle.machine_simulation.specs.Plan.{Plan, function, shape, slot_kinds, routine, first_word, setting}
 use Rattle.machine_simulation.specs.Calls.{stored_in}
 use Rattle.machine_simulation.specs.Matches.{RuntimeMatches, MemoryMatches, Matches}
 use Rattle.machine_simulation.specs.Returns.{WantedStands}
 use Rattle.machine_simulation.specs.Operations.{Matched}
 use Rattle.machine_simulation.proofs.Words.{OperationAt, operation_at}
-use Rattle.machine_simulation.proofs.Matching.{Stands, Arrives, runtime_stays}
+use Rattle.machine_simulation.proofs.Matching.{Stands, Arrives, runtime_stays, kept_at}
 use Rattle.machine_simulation.proofs.Quiet.{moved}
-use Rattle.machine_simulation.proofs.Lines.{matches_alike}
+use Rattle.machine_simulation.proofs.Lines.{matches_alike, registers_alike}
 use Rattle.machine_simulation.proofs.Reading.{FinishedStep}
 use Rattle.machine_simulation.proofs.Returning.{Received, receives, runtime_finished}
+use Rattle.machine_simulation.specs.KeptCalls.{RegistersMatch}
 use Rattle.machine_exceptions.proofs.Ecalls.{AtEcall, ecall_reached}
 
 -- a world with the same memory and calls
@@ -51,6 +53,7 @@ pub record Answer (image : Image) (p : Plan) (fs : List Activation) (wants : Opt
   pub memory : after.hart.memory ≡ behind.memory
   pub registers : length after.hart.regs ≡ 32
   pub stack : x after.hart sp ≡ x behind sp
+  pub saved : saved_of after.hart ≡ saved_of behind
   pub value : (wants ≡ None) ⊎ (IsInt z × (x after.hart (register 0) ≡ extended z))
   pub runtime : RuntimeMatches p fs v after
 
@@ -77,11 +80,14 @@ answered places turns image p n number st next w back o wants front u z h there 
     let held = matches_alike p n st.top.frame st.frames st.world u s.memory (x s sp) back same.memory same.calls same.later h.memory in
     let held_t : MemoryMatches p n st.top.frame st.frames u t.memory (x t sp) back
     = subst (λ ps. MemoryMatches p n st.top.frame st.frames u ps (x t sp) back) (sym memory) (subst (λ k. MemoryMatches p n st.top.frame st.frames u s.memory k back) (sym stack) held) in
+    let at_u : LinearState = record { top = st.top; frames = st.frames; world = u } in
+    let kept_t : RegistersMatch p n st.top.frame st.frames u t.memory (x t sp) (saved_of t)
+    = kept_at p n at_u (x s sp) s.memory (saved_of s) t memory stack (a.saved ∙ ec.saved) (registers_alike p n st.top.frame st.frames st.world u s.memory (x s sp) back (saved_of s) same.memory h.memory h.kept) in
     let code_t : PiecesAt t.memory g (here + length front + 2) rear = subst (λ ps. PiecesAt ps g (here + length front + 2) rear) (sym memory) calls.1 in
-    let got = received a.value held_t a.registers (a.pc ∙ ec.pc) code_t in
+    let got = received a.value held_t kept_t a.registers (a.pc ∙ ec.pc) code_t in
     let last = executes_turns image got.steps a.after t got.after refl got.runs in
     let to : LinearState = moved st (st.top.place + 1) went.frame went.world in
-    let there_t : Arrives p n to back last.after.hart = subst (Arrives p n to back) (sym last.hart) (record { runs = h.runs; registers = got.registers; pc = got.pc ∙ omega (arith, own.next, sum); memory = got.memory }) in
+    let there_t : Arrives p n to back last.after.hart = subst (Arrives p n to back) (sym last.hart) (record { runs = h.runs; registers = got.registers; pc = got.pc ∙ omega (arith, own.next, sum); memory = got.memory; kept = got.kept }) in
     subst (λ (y : LinearState). Matched image (length (linear_code (shape p n) o)) w [] (λ v. Matches p y v)) went.next_is (record {
       turns = ec.turns + 1 + got.steps;
       few = omega (arith, ec.few, got.most, total);
@@ -95,16 +101,18 @@ answered places turns image p n number st next w back o wants front u z h there 
         registers = there_t.registers;
         pc = there_t.pc;
         memory = there_t.memory;
+        kept = there_t.kept;
         runtime = runtime_finished p st.frames (slot_kinds p n) wants z st.top.frame went.frame u went.world last.after went.stored (runtime_stays p st.frames u a.after last.after last.runtime a.runtime);
       };
     })
   where
-    received : {t : State} {here : ℕ} → (wants ≡ None) ⊎ (IsInt z × (x t (register 0) ≡ extended z)) → MemoryMatches p n st.top.frame st.frames u t.memory (x t sp) back → length t.regs ≡ 32 → t.pc ≡ address (setting p n).ground here →
-        PiecesAt t.memory (setting p n).ground here (stored_in (shape p n) wants) → Received p n here went.frame st.frames went.world back wants t
-    received {t} {here} (inr ok) m regs at code = receives places p n here st.top.frame went.frame st.frames u went.world back wants z t m regs at code ok.0 ok.1 stands went.stored
-    received {t} {here} (inl none) m regs at code = dropped wants none went.stored
+    received : {t : State} {here : ℕ} → (wants ≡ None) ⊎ (IsInt z × (x t (register 0) ≡ extended z)) → MemoryMatches p n st.top.frame st.frames u t.memory (x t sp) back →
+        RegistersMatch p n st.top.frame st.frames u t.memory (x t sp) (saved_of t) → length t.regs ≡ 32 → t.pc ≡ address (setting p n).ground here →
+        PiecesAt t.memory (setting p n).ground here (stored_in (shape p n) wants) → Received p n here (length (stored_in (shape p n) wants)) went.frame st.frames went.world back t
+    received {t} {here} (inr ok) m kept regs at code = receives places p n here st.top.frame went.frame st.frames u went.world back wants z t m kept regs at code ok.0 ok.1 stands went.stored
+    received {t} {here} (inl none) m kept regs at code = dropped wants none went.stored
       where
-        dropped : (q : Option Place) → q ≡ None → finished (slot_kinds p n) q z st.top.frame u ≡ goes_effect went.frame went.world → Received p n here went.frame st.frames went.world back q t
+        dropped : (q : Option Place) → q ≡ None → finished (slot_kinds p n) q z st.top.frame u ≡ goes_effect went.frame went.world → Received p n here (length (stored_in (shape p n) q)) went.frame st.frames went.world back t
         dropped (Some q) is e = absurd (cc is)
         dropped None is e =
             let same_frame : st.top.frame ≡ went.frame = cc e in
@@ -117,4 +125,5 @@ answered places turns image p n number st next w back o wants front u z h there 
               registers = regs;
               pc = at ∙ omega arith;
               memory = subst (λ f. MemoryMatches p n f st.frames went.world t.memory (x t sp) back) same_frame (subst (λ v. MemoryMatches p n st.top.frame st.frames v t.memory (x t sp) back) same_world m);
+              kept = subst (λ f. RegistersMatch p n f st.frames went.world t.memory (x t sp) (saved_of t)) same_frame (subst (λ v. RegistersMatch p n st.top.frame st.frames v t.memory (x t sp) (saved_of t)) same_world kept);
             }

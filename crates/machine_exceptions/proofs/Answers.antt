@@ -46,7 +46,7 @@ use Rattle.machine_simulation.proofs.Holding.{same_number}
 use Rattle.machine_simulation.proofs.Reading.{finished_step}
 use Rattle.machine_simulation.proofs.Entered.{entry_reached}
 use Rattle.machine_exceptions.specs.Answers.{CallsBuiltin, AnswersRun}
-use Rattle.machine_exceptions.proofs.Ecalls.{AtEcall}
+use Rattle.machine_exceptions.proofs.Ecalls.{AtEcall, given_in_first}
 use Rattle.machine_exceptions.proofs.Answering.{Answer, answered}
 use Rattle.machine_exceptions.proofs.Builtins.{builtin_op}
 use Rattle.machine_exceptions.proofs.Targets.{target_computes}
@@ -82,6 +82,7 @@ uncaught_answers made image p n st w wants g here m h ec =
       memory = refl;
       registers = set_length ec.behind.regs 10 value ∙ ec.registers;
       stack = read_other ec.behind.regs 10 sp value (λ d. absurd (omega (arith, d)));
+      saved = given_in_first ec.behind end.hart value refl;
       value = inr (truth_int (some_travel st.world.uncaught), read_same ec.behind.regs 10 value (λ d. absurd (omega (arith, d))) (omega (arith, ec.registers)) ∙ is);
       runtime = record { input = r.input; replies = r.replies; last_number = r.last_number; terminating = r.terminating; exceptions = r.exceptions; plan = r.plan };
     }
@@ -152,6 +153,7 @@ terminate_set_run places turns made image p n m st next w o h at calls known =
       memory = refl;
       registers = ec.registers;
       stack = refl;
+      saved = refl;
       value = inl refl;
       runtime = record {
         input = r.input;
@@ -199,6 +201,7 @@ unexpected_set_run places turns made image p n m st next w o h at calls known =
       memory = refl;
       registers = ec.registers;
       stack = refl;
+      saved = refl;
       value = inl refl;
       runtime = record {
         input = r.input;

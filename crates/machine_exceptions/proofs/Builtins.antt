@@ -15,8 +15,11 @@ use Rattle.machine_forms.specs.Piece.{Piece}
 use Rattle.machine_forms.specs.CallCode.{arguments_held}
 use Rattle.machine_forms.specs.RuntimeCall.{builtin_call, builtin_value}
 use Rattle.machine_forms.specs.LinearCode.{linear_code}
+use Rattle.machine_forms.specs.Shape.{Shape}
+use Rattle.machine_forms.specs.KeptCode.{root_register}
+use Rattle.machine_forms.specs.OperationCode.{whole_value, value_stored}
 use Rattle.machine_simulation.specs.Plan.{Plan, function, shape, slot_kinds}
-use Rattle.machine_simulation.specs.Calls.{stored_in}
+use Rattle.machine_simulation.specs.Calls.{stored_in, given_in}
 use Rattle.machine_simulation.proofs.Quiet.{step_is, plain_is}
 use Rattle.machine_exceptions.specs.Answers.{CallsBuiltin}
 
@@ -24,6 +27,11 @@ pub record BuiltinOp (p : Plan) (n : ℕ) (b : Builtin) (args : Arguments) (want
   pub pieces : linear_code (shape p n) o ≡ arguments_held (shape p n) 0 args ++ (builtin_call b ++ stored_in (shape p n) wants)
   pub steps : (next : State) → step (code_of p.unit) st ≡ goes_to next →
       performed (code_of p.unit) (if_some (words_in (slot_kinds p n) st.top.frame st.world args) (λ given. built_in (slot_kinds p n) b wants given st.top.frame st.world)) st.top st.frames st.world ≡ goes_to next
+
+-- where the call's value is stored
+stored_call : (f : Shape) (o : Option ℕ) (q : Place) (b : Builtin) (args : Arguments) → value_stored f o q (call_value (builtin b) args) ≡ whole_value f (call_value (builtin b) args) ++ given_in f o q
+stored_call f None q b args = refl
+stored_call f (Some rd) q b args = refl
 
 module _ (p : Plan) (n : ℕ) (b : Builtin) (args : Arguments) (st : State) (o : LinearOp) (runs : st.top.function ≡ compiled n) (there : slice_get (function p n).ops st.top.place ≡ Some o) where
   by_effect : (own wants : Option Place) (c : Op) → wants ≡ own → o ≡ plain c → linear_code (shape p n) (plain c) ≡ arguments_held (shape p n) 0 args ++ (builtin_call b ++ stored_in (shape p n) own) →
@@ -47,4 +55,4 @@ module _ (p : Plan) (n : ℕ) (b : Builtin) (args : Arguments) (st : State) (o :
       let front : List Piece = arguments_held (shape p n) 0 args in
       let stored : List Piece = stored_in (shape p n) (Some h.0) in
       by_effect (Some h.0) wants (store h.0 (call_value (builtin b) args)) h.1 h.2
-      (ap (λ v. ((front ++ builtin_call b) ++ v) ++ stored) own ∙ ap (λ ps. ps ++ stored) (append-nil (front ++ builtin_call b)) ∙ append_assoc front (builtin_call b) stored) refl
+      (stored_call (shape p n) (root_register (shape p n) h.0.root) h.0 b args ∙ ap (λ v. ((front ++ builtin_call b) ++ v) ++ stored) own ∙ ap (λ ps. ps ++ stored) (append-nil (front ++ builtin_call b)) ∙ append_assoc front (builtin_call b) stored) refl

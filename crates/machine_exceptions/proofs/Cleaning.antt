@@ -24,6 +24,7 @@ use Rattle.machine_pieces.specs.Turning.{Turns, Reaches}
 use Rattle.machine_pieces.proofs.Registers.{set_length, read_same, read_other}
 use Rattle.machine_pieces.proofs.Storing.{written_more}
 use Rattle.machine_pieces.proofs.Turning.{turns_then}
+use Rattle.machine_pieces.proofs.Keeping.{given_saved}
 use Rattle.machine_stubs.specs.Stretches.{Beside, Stands}
 use Rattle.machine_stubs.specs.Calls.{asked, CallsAreMade}
 use Rattle.machine_stubs.specs.EndCatch.{EndCatchRuns}
@@ -83,6 +84,7 @@ foreign_left catches made image u base o k token e w enough stands aligned small
         pc = three.holds.there;
         registers = three.holds.registers;
         pointer = three.holds.pointer ∙ omega (arith, pointer, enough);
+        variables = three.holds.variables ∙ given_saved h.behind s2 0 0 refl ∙ h.variables;
         value = three.holds.holds;
         beside = beside_then low 48 w.hart.memory s2.memory v3.hart.memory h.kept.beside (subst (λ a. Beside a 48 s2.memory v3.hart.memory) pointer three.holds.kept.beside);
         exceptions = r.exceptions;

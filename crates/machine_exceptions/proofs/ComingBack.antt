@@ -1,5 +1,5 @@
 -- What matches where end_catch has come back.
-use Rattle.std.proofs.Common.{◌≡◌, ◌∙◌, sym, ap, subst, arith, ℕ, ◌+◌, ◌-◌, List, length}
+use Rattle.std.proofs.Common.{◌≡◌, ◌∙◌, refl, sym, ap, subst, arith, ℕ, ◌+◌, ◌-◌, List, length}
 use Rattle.rv64_isa.specs.Step.{x}
 use Rattle.caught_stack.specs.Exceptions.{Exceptions}
 use Rattle.cxa_runtime.specs.World as abi
@@ -9,12 +9,14 @@ use Rattle.linear_forms.specs.Activation.{Activation, State as LinearState}
 use Rattle.machine_forms.specs.Registers.{ra, sp}
 use Rattle.machine_forms.specs.Routine.{op_word}
 use Rattle.machine_pieces.specs.Standing.{address}
+use Rattle.machine_pieces.specs.Keeping.{saved_of}
 use Rattle.machine_stubs.specs.ComesBack.{SameRest, CameBack}
 use Rattle.machine_simulation.specs.Plan.{Plan, routine, first_word, setting}
 use Rattle.machine_simulation.specs.Exceptions.{addresses_of, exceptions_in, kept_by, destroyed, ExceptionsMatch, PlanHas}
 use Rattle.machine_simulation.specs.Matches.{RuntimeMatches, MemoryMatches}
-use Rattle.machine_simulation.proofs.Matching.{Stands}
-use Rattle.machine_simulation.proofs.Freeing.{beside_matches}
+use Rattle.machine_simulation.proofs.Matching.{Stands, kept_at}
+use Rattle.machine_simulation.proofs.Freeing.{beside_matches, IsFree, registers_beside}
+use Rattle.machine_simulation.specs.KeptCalls.{RegistersMatch}
 use Rattle.machine_exceptions.proofs.EndCatching.{CatchCalled}
 
 -- what the runtime keeps but for the exceptions
@@ -42,6 +44,7 @@ pub record Returned (p : Plan) (n : ℕ) (st : LinearState) (back : ℕ) (t : ab
   pub registers : length t.hart.regs ≡ 32
   pub pc : t.hart.pc ≡ address (setting p n).ground (first_word p n + op_word (routine p n) (st.top.place + 1))
   pub memory : MemoryMatches p n st.top.frame st.frames st.world t.hart.memory (x t.hart sp) back
+  pub kept : RegistersMatch p n st.top.frame st.frames st.world t.hart.memory (x t.hart sp) (saved_of t.hart)
 
 pub returned : (image : Image) (p : Plan) (n : ℕ) (st : LinearState) (w : abi.World) (back : ℕ) (c : CatchCalled image p n st w) (t : abi.World) (e : Exceptions) → Stands p n st w back →
     CameBack (x c.after.hart ra) (x c.after.hart sp) (x c.after.hart sp - 48) 48 e c.after t → Returned p n st back t
@@ -50,5 +53,13 @@ returned image p n st w back c t e h came =
     let stack : x t.hart sp ≡ x w.hart sp = came.pointer ∙ c.stack in
     let at : MemoryMatches p n st.top.frame st.frames st.world c.after.hart.memory (x w.hart sp) back
     = subst (λ ps. MemoryMatches p n st.top.frame st.frames st.world ps (x w.hart sp) back) (sym c.memory) h.memory in
-    let behind = beside_matches p n st.top.frame st.frames st.world c.after.hart.memory t.hart.memory (x w.hart sp) back low 48 at (record { low = omega (arith, c.high); high = omega (arith, c.high, c.stack) }) came.beside in
-    record { registers = came.registers; pc = came.pc ∙ c.back; memory = subst (λ a. MemoryMatches p n st.top.frame st.frames st.world t.hart.memory a back) (sym stack) behind }
+    let free : IsFree (x w.hart sp) low 48 = record { low = omega (arith, c.high); high = omega (arith, c.high, c.stack) } in
+    let behind = beside_matches p n st.top.frame st.frames st.world c.after.hart.memory t.hart.memory (x w.hart sp) back low 48 at free came.beside in
+    let kept = registers_beside p n st.top.frame st.frames st.world c.after.hart.memory t.hart.memory (x w.hart sp) back low 48 (saved_of w.hart) at free came.beside
+    (subst (λ ps. RegistersMatch p n st.top.frame st.frames st.world ps (x w.hart sp) (saved_of w.hart)) (sym c.memory) h.kept) in
+    record {
+      registers = came.registers;
+      pc = came.pc ∙ c.back;
+      memory = subst (λ a. MemoryMatches p n st.top.frame st.frames st.world t.hart.memory a back) (sym stack) behind;
+      kept = kept_at p n st (x w.hart sp) t.hart.memory (saved_of w.hart) t.hart refl stack (came.variables ∙ c.saved) kept;
+    }

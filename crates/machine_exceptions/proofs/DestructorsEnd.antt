@@ -1,5 +1,5 @@
 -- The return of a destructor to end_catch is matched, up to behind `leave`.
-use Rattle.std.proofs.Common.{◌≡◌, ◌∙◌, refl, sym, ap, subst, arith, ℕ, ◌+◌, ◌*◌, ◌-◌, ◌^◌, ◌<◌, ◌==◌, ◌||◌, Bool, true, false, ℤ, pos, List, [], ◌∷◌, ◌++◌, length, length-append, Option, Some, None, inl, inr}
+use Rattle.std.proofs.Common.{◌≡◌, ◌∙◌, refl, sym, ap, subst, arith, ℕ, ◌+◌, ◌*◌, ◌-◌, ◌^◌, ◌<◌, ◌≤◌, ◌==◌, ◌||◌, Bool, true, false, ℤ, pos, List, [], ◌∷◌, ◌++◌, length, length-append, Option, Some, None, inl, inr}
 use Rattle.std.specs.Prelude.{◌⊎◌, slice_get}
 use Rattle.std.proofs.lemmas.Bool.Decides.{nat_tests}
 use Rattle.meaning_forms.specs.Class.{contains}
@@ -31,6 +31,7 @@ use Rattle.machine_forms.specs.LinearCode.{linear_code}
 use Rattle.machine_pieces.specs.Frames.{AddressAt}
 use Rattle.machine_pieces.specs.Turning.{Turns, Reaches}
 use Rattle.machine_pieces.proofs.Turning.{turns_then, executes_turns}
+use Rattle.machine_pieces.specs.Keeping.{saved_of}
 use Rattle.machine_stubs.specs.Stretches.{StubAt, stub_word, frame_size, Room, Stands as StubStands, Beside}
 use Rattle.machine_stubs.specs.EndCatch.{object_slot}
 use Rattle.machine_stubs.specs.Destroys.{EndCatchDestroys}
@@ -41,22 +42,25 @@ use Rattle.machine_simulation.specs.Exceptions.{Addresses, KeptExceptions, addre
 use Rattle.machine_simulation.specs.Matches.{UnitStands, MemoryMatches, Matches}
 use Rattle.machine_simulation.specs.Returns.{closed}
 use Rattle.machine_simulation.proofs.Words.{operation_at, even_base, word_below}
-use Rattle.machine_simulation.proofs.Matching.{Stands, stands_by, runtime_stays}
+use Rattle.machine_simulation.proofs.Matching.{Stands, stands_by, runtime_stays, kept_at}
 use Rattle.machine_simulation.proofs.Quiet.{step_is}
 use Rattle.machine_simulation.proofs.Holding.{same_number}
-use Rattle.machine_simulation.proofs.Lines.{matches_alike}
+use Rattle.machine_simulation.proofs.Lines.{matches_alike, registers_alike}
 use Rattle.machine_simulation.proofs.Closing.{popped_to, plan_popped, destroyed_nothing}
-use Rattle.machine_simulation.proofs.Freeing.{beside_matches}
-use Rattle.machine_simulation.proofs.Returning.{result_value, result_is, call_waits}
+use Rattle.machine_simulation.proofs.Freeing.{beside_matches, IsFree, registers_beside}
+use Rattle.machine_simulation.proofs.Returning.{result_value, result_is, call_waits, comes_back}
 use Rattle.machine_simulation.specs.Objects.{without_object}
+use Rattle.machine_simulation.specs.KeptCalls.{KeptCalls, RegistersMatch}
+use Rattle.machine_simulation.proofs.Floors.{call_floor}
+use Rattle.machine_simulation.proofs.KeptCalls.{behind_call, behind_stub}
+use Rattle.machine_simulation.proofs.KeptClosed.{before_small, registers_popped}
 use Rattle.machine_exceptions.specs.Destroys.{AtReturn, DestructorsEnd}
 use Rattle.machine_exceptions.proofs.Enters.{live_is}
 use Rattle.machine_exceptions.proofs.Finding.{live_header, object_found}
 use Rattle.machine_exceptions.proofs.Freed.{freed_match, building_out}
-use Rattle.machine_exceptions.proofs.Frees.{plan_without, memory_without}
+use Rattle.machine_exceptions.proofs.Frees.{plan_without, memory_without, registers_without}
 use Rattle.machine_exceptions.proofs.EndCatching.{room_below}
 use Rattle.machine_exceptions.proofs.ComingBack.{runtime_then}
-use Rattle.machine_exceptions.proofs.GivingBack.{gives_back_frame}
 
 -- ---- end_catch waits
 
@@ -147,9 +151,12 @@ counts_left : (t : Addresses) (b : Bool) (x : Exception) (h : Header) → b ≡ 
 counts_left t true x h e is = is
 counts_left t false x h e is = absurd (cc e)
 
+few_both : (a b c d : ℕ) → a ≤ c → b ≤ d → a + b ≤ c + d
+few_both a b c d h i = omega (arith, h, i)
+
 destructor_ends : EndCatchDestroys → (image : Image) (p : Plan) (n m e : ℕ) (st middle : LinearState) (waiting a : Activation) (fs : List Activation) (r : Option ℕ) (w : abi.World) (back : ℕ) (z : ℤ) → Stands p n st w back →
     AtReturn p n m e st middle waiting a fs r → CatchWaits p waiting (a ∷ fs) st.world w.hart.memory (x w.hart sp + (shape p n).size) back st.top.frame.call → value_in (slot_kinds p n) st.top.frame st.world (result_value r) ≡ Some z →
-    Reaches image 11 w (Free e ∷ []) (λ u. Matches (without_object (closed p a.frame.call) e) (record { top = record { function = a.function; place = a.place + 1; frame = a.frame }; frames = fs; world = freed e st.world }) u)
+    Reaches image (length (linear_code (shape p n) (return r)) + 7) w (Free e ∷ []) (λ u. Matches (without_object (closed p a.frame.call) e) (record { top = record { function = a.function; place = a.place + 1; frame = a.frame }; frames = fs; world = freed e st.world }) u)
 destructor_ends destroys image p n m e st middle waiting a fs r w back z h at cw value_is =
     let v : World = st.world in
     let s : State = w.hart in
@@ -157,7 +164,8 @@ destructor_ends destroys image p n m e st middle waiting a fs r w back z h at cw
     let even = even_base p s.memory h.memory.unit in
     let back_is : back ≡ stub_word p.base end_catch 13 = cw.waits.returns in
     let code13 : stub_word p.base end_catch 13 < 2 ^ 64 = omega (arith, h.memory.unit.stubs.end_catch.0.word.below, h.memory.unit.few, h.memory.unit.stubs.start.0.word.below, code_room p s.memory h.memory.unit) in
-    let gave = gives_back_frame p n st w back r z h at.at.there at.result value_is (omega (arith, back_is, even)) (omega (arith, back_is, code13)) in
+    let gave = comes_back p n st w back r z h at.at.there at.result value_is (omega (arith, back_is, even)) (omega (arith, back_is, code13)) in
+    let floor : 0x7000_0000 ≤ x s sp = call_floor p n st.top.frame v s.memory (x s sp) back h.memory.top in
     let ran = executes_turns image gave.steps w s gave.after refl gave.runs in
     let w1 : abi.World = ran.after in
     let memory1 : w1.hart.memory ≡ s.memory = ap (λ (u : State). u.memory) ran.hart ∙ gave.memory in
@@ -190,7 +198,7 @@ destructor_ends destroys image p n m e st middle waiting a fs r w back z h at cw
       registers = ap (λ (u : State). length u.regs) ran.hart ∙ gave.registers;
       code = subst (StubAt p.unit p.base end_catch) (sym memory1) h.memory.unit.stubs.end_catch;
       room = subst (λ k. Room k 48 w1.hart.memory) (omega (arith, stack1))
-          (subst (Room (mid + 48 - 48) 48) (sym memory1) (room_below s.memory (mid + 48) 48 h.memory.may (omega (arith, h.memory.top.above)) (omega (arith, leaving.stands.below)) (omega (arith, cw.stands.saved.aligned)) refl));
+          (subst (Room (mid + 48 - 48) 48) (sym memory1) (room_below s.memory (mid + 48) 48 h.memory.may (omega (arith, floor)) (omega (arith, leaving.stands.below)) (omega (arith, cw.stands.saved.aligned)) refl));
     } in
     let here : (k b : ℕ) → AddressAt s.memory (mid + k) b → AddressAt w1.hart.memory (x w1.hart sp + k) b = λ k b there.
     subst (λ ps. AddressAt ps (x w1.hart sp + k) b) (sym memory1) (subst (λ q. AddressAt s.memory (q + k) b) (sym stack1) there) in
@@ -204,14 +212,27 @@ destructor_ends destroys image p n m e st middle waiting a fs r w back z h at cw
     let held1 = popped_to p n m st.top.frame st.frames a fs v s.memory (x s sp) back (mid + 48) c.outer h.memory c.less leaving.stands c.rest in
     let held2 : MemoryMatches p1 m a.frame fs v w1.hart.memory (mid + 48) c.outer = subst (λ ps. MemoryMatches p1 m a.frame fs v ps (mid + 48) c.outer) (sym memory1) held1 in
     let beside : Beside mid 48 w1.hart.memory t.hart.memory = subst (λ k. Beside k 48 w1.hart.memory t.hart.memory) stack1 b.beside in
-    let held3 = beside_matches p1 m a.frame fs v w1.hart.memory t.hart.memory (mid + 48) c.outer mid 48 held2 (record { low = omega (arith, h.memory.top.above); high = omega arith }) beside in
-    let held4 = memory_without p1 m a.frame fs u t.hart.memory (mid + 48) c.outer e (matches_alike p1 m a.frame fs v u t.hart.memory (mid + 48) c.outer refl refl (same_number v) held3) in
+    let free : IsFree (mid + 48) mid 48 = record { low = omega (arith, floor); high = omega arith } in
+    let held3 = beside_matches p1 m a.frame fs v w1.hart.memory t.hart.memory (mid + 48) c.outer mid 48 held2 free beside in
+    let alike = matches_alike p1 m a.frame fs v u t.hart.memory (mid + 48) c.outer refl refl (same_number v) held3 in
+    let held4 = memory_without p1 m a.frame fs u t.hart.memory (mid + 48) c.outer e alike in
+    let before : List ℕ = h.kept.before in
+    let calls : KeptCalls p (waiting ∷ a ∷ fs) v s.memory mid before = subst (λ gs. KeptCalls p gs v s.memory mid before) at.frames h.kept.waiting in
+    let inner = behind_stub p waiting.frame v s.memory mid before (λ next others. KeptCalls p (a ∷ fs) v s.memory next others) waiting.function (inl at.catch) calls in
+    let above_catch : KeptCalls p (a ∷ fs) v s.memory (mid + frame_size end_catch) before = subst (λ f. KeptCalls p (a ∷ fs) v s.memory (mid + frame_size f) before) at.catch inner in
+    let call = behind_call p a.frame v s.memory (mid + 48) before (λ next others. KeptCalls p fs v s.memory next others) a.function m at.caller above_catch in
+    let small = before_small p n st.top.frame v s.memory (x s sp) (saved_of s) before h.kept.top h.kept.small refl in
+    let regs1 = registers_popped p m a.frame fs v s.memory (mid + 48) c.outer before call.0 small.0 call.1 c.rest call.2 in
+    let regs3 = registers_beside p1 m a.frame fs v w1.hart.memory t.hart.memory (mid + 48) c.outer mid 48 before held2 free beside
+    (subst (λ ps. RegistersMatch p1 m a.frame fs v ps (mid + 48) before) (sym memory1) regs1) in
+    let regs4 = registers_without p1 m a.frame fs u t.hart.memory (mid + 48) c.outer e before alike (registers_alike p1 m a.frame fs v u t.hart.memory (mid + 48) c.outer before refl held3 regs3) in
+    let to : LinearState = record { top = record { function = a.function; place = a.place + 1; frame = a.frame }; frames = fs; world = u } in
     let stack_t : x t.hart sp ≡ mid + 48 = b.pointer ∙ ap (λ k. k + 48) stack1 in
     let m3 = freed_match places (e ∷ gone) gone (exceptions_in v) kept e slot y mm live.has (building_out places (e ∷ gone) (exceptions_in v) kept slot header mm live.has.there kind) left.live mm.distinct.1 mm.distinct.0
     (λ k other. sym (ap (λ d. d || contains gone k) other)) in
     record {
       turns = gave.steps + come.turns;
-      few = omega (arith, gave.most, come.few);
+      few = few_both gave.steps come.turns (length (linear_code (shape p n) (return r))) 7 gave.most come.few;
       after = t;
       runs = subst (λ i. Turns image (gave.steps + come.turns) w t (Free i ∷ [])) live.has.number (turns_then image gave.steps come.turns w w1 t [] (Free header.number ∷ []) ran.turns come.runs);
       holds = record {
@@ -221,6 +242,7 @@ destructor_ends destroys image p n m e st middle waiting a fs r w back z h at cw
         registers = b.registers;
         pc = b.pc ∙ leaving.returns ∙ omega (arith, own.next, two);
         memory = subst (λ k. MemoryMatches q m a.frame fs u t.hart.memory k c.outer) (sym stack_t) held4;
+        kept = kept_at q m to (mid + 48) t.hart.memory before t.hart refl stack_t (b.variables ∙ ap saved_of ran.hart ∙ gave.saved) regs4;
         runtime = runtime_then p q st.frames fs v u w1 t (slot_freed slot w1.exceptions) r1 b.rest b.exceptions refl refl refl refl m3 (plan_without p1 e v.live (plan_popped p a.frame.call v.live r1.plan));
       };
     }

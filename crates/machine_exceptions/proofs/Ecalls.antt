@@ -1,14 +1,14 @@
 -- Words in front of a runtime call, and the call's ECALL.
 use Rattle.std.proofs.Common.{◌≡◌, ◌≢◌, ◌∙◌, refl, ap, arith, ℕ, ◌+◌, ◌^◌, ◌<◌, ◌≤◌, [], length}
 use Rattle.rv64_isa.specs.declared.step.Step.TheVariants.{Ecall}
-use Rattle.rv64_isa.specs.State.{State}
+use Rattle.rv64_isa.specs.State.{State, reg_of, with_reg}
 use Rattle.rv64_isa.specs.Step.{step_of, x}
 use Rattle.cxa_runtime.specs.World as abi
 use Rattle.cxa_runtime.specs.Raising.{Image}
 use Rattle.cxa_runtime.specs.Call.{call_effect}
 use Rattle.cxa_runtime.specs.Run.{counted}
 use Rattle.region_forms.specs.World.{object_address}
-use Rattle.machine_forms.specs.Registers.{sp, a0, a7}
+use Rattle.machine_forms.specs.Registers.{sp, a0, a7, register}
 use Rattle.machine_forms.specs.PlaceCode.{slot_loaded}
 use Rattle.machine_forms.specs.RuntimeCall.{runtime_call}
 use Rattle.machine_pieces.specs.Standing.{Ground, address, PieceAt, PiecesAt}
@@ -20,11 +20,15 @@ use Rattle.machine_pieces.proofs.Going.{kept_low}
 use Rattle.machine_pieces.proofs.Places.{through_address}
 use Rattle.machine_pieces.proofs.Values.{code_after}
 use Rattle.machine_pieces.proofs.Turning.{as_forced, forced_then, turns_then, executes_turns}
+use Rattle.machine_pieces.specs.Keeping.{saved_of}
+use Rattle.machine_pieces.proofs.Keeping.{kept_saved, same_saved}
+use Rattle.machine_pieces.proofs.Registers.{read_other}
 use Rattle.machine_stubs.specs.Calls.{asked, CallsAreMade}
 use Rattle.linear_forms.specs.Activation.{State as LinearState}
 use Rattle.machine_simulation.specs.Plan.{Plan, shape, slot_kinds, setting}
 use Rattle.machine_simulation.proofs.Matching.{Stands, ready_here}
 use Rattle.machine_simulation.specs.Objects.{HoldsObject}
+use Rattle.machine_simulation.proofs.Lines.{call_saved}
 
 -- Turns lead over so many words and then to the ECALL of a runtime call; the registers are as behind the words, and what the runtime keeps
 -- is as before.
@@ -42,6 +46,7 @@ pub record AtEcall (image : Image) (g : Ground) (here words number : ℕ) (w : a
   pub registers : length behind.regs ≡ 32
   pub kept : (r : ℕ) → r ≢ a7 → x behind r ≡ x m r
   pub stack : x behind sp ≡ x w.hart sp
+  pub saved : saved_of behind ≡ saved_of w.hart
   pub runtime : SameRuntime w at
 
 pub ecall_reached : CallsAreTurns → (image : Image) (g : Ground) (here words k number : ℕ) (w : abi.World) (goes : Goes g here words k w.hart) → number < 2 ^ 11 → PiecesAt w.hart.memory g (here + words) (runtime_call number) →
@@ -64,8 +69,13 @@ ecall_reached turns image g here words k number w goes small code =
       registers = call.registers;
       kept = call.kept;
       stack = call.kept sp (λ e. absurd (omega (arith, e))) ∙ goes.kept sp (kept_low k sp (omega arith));
+      saved = call_saved g (here + words) number m call ∙ same_saved w.hart m (λ r h. goes.kept r (kept_saved k r h));
       runtime = ran.runtime;
     }
+
+-- a value in a0 leaves the registers of kept variables
+pub given_in_first : (s t : State) (a : ℕ) → t.regs ≡ with_reg s.regs (register 0) a → saved_of t ≡ saved_of s
+given_in_first s t a is = same_saved s t (λ r h. ap (λ regs. reg_of regs r) is ∙ read_other s.regs (register 0) r a (kept_saved 0 r h 0 (omega arith) (omega arith)))
 
 -- a slot's address of an exception's object comes into a0
 pub object_loaded : (p : Plan) (n : ℕ) (st : LinearState) (w : abi.World) (back here s e : ℕ) → Stands p n st w back → HoldsObject p n st.top.frame s e → PieceAt w.hart.memory (setting p n).ground here (slot_loaded (shape p n) a0 s) →

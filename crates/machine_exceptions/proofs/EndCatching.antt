@@ -17,11 +17,14 @@ use Rattle.machine_pieces.specs.Frames.{Reached}
 use Rattle.machine_pieces.specs.Turning.{Turns, SameRuntime}
 use Rattle.machine_pieces.proofs.Framing.{function_calls}
 use Rattle.machine_pieces.proofs.Turning.{executes_turns}
+use Rattle.machine_pieces.specs.Keeping.{saved_of}
+use Rattle.machine_pieces.proofs.Keeping.{same_saved}
 use Rattle.machine_stubs.specs.Stretches.{StubAt, stub_word, Room}
 use Rattle.machine_simulation.specs.Plan.{Plan, function, routine, first_word, setting}
 use Rattle.machine_simulation.specs.Matches.{UnitStands, StackMay}
 use Rattle.machine_simulation.proofs.Words.{operation_at, even_base, word_below}
 use Rattle.machine_simulation.proofs.Matching.{Stands}
+use Rattle.machine_simulation.proofs.Floors.{caller_above}
 
 -- end_catch is near to every word of the unit
 catch_reached : (p : Plan) (n : ℕ) (memory : List Part) → UnitStands p memory → Reached (setting p n).ground (entry end_catch) (stub_word p.base end_catch 0)
@@ -44,6 +47,7 @@ pub record CatchCalled (image : Image) (p : Plan) (n : ℕ) (st : LinearState) (
   pub registers : length after.hart.regs ≡ 32
   pub memory : after.hart.memory ≡ w.hart.memory
   pub stack : x after.hart sp ≡ x w.hart sp
+  pub saved : saved_of after.hart ≡ saved_of w.hart
   pub back : x after.hart ra ≡ address (setting p n).ground (first_word p n + op_word (routine p n) (st.top.place + 1))
   pub back_aligned : x after.hart ra % 4 ≡ 0
   pub back_below : x after.hart ra < 2 ^ 64
@@ -78,11 +82,12 @@ catch_called image p n st w back h there =
       registers = ap (λ (u : State). length u.regs) ran.hart ∙ called.registers;
       memory = memory;
       stack = same sp ∙ stack;
+      saved = ap saved_of ran.hart ∙ same_saved s t (λ r k. called.kept r (λ e. absurd (omega (arith, k.above, e))));
       back = same ra ∙ back_is;
       back_aligned = omega (arith, same ra, back_is, even);
       back_below = omega (arith, same ra, back_is, below, own.next);
       code = subst (StubAt p.unit p.base end_catch) (sym memory) h.memory.unit.stubs.end_catch;
-      high = omega (arith, same sp, stack, h.memory.top.above);
+      high = omega (arith, same sp, stack, caller_above p n st.top.place st.top.frame st.world s.memory (x s sp) back (plain leave) there refl h.memory.top);
       low = omega (arith, same sp, stack, h.memory.top.below);
       even = omega (arith, same sp, stack, h.memory.top.saved.aligned);
       may = subst StackMay (sym memory) h.memory.may;

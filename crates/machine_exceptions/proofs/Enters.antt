@@ -34,6 +34,7 @@ use Rattle.machine_pieces.specs.Standing.{Ground}
 use Rattle.machine_pieces.specs.Turning.{Turns}
 use Rattle.machine_pieces.specs.Laws.{CallsAreTurns}
 use Rattle.machine_pieces.proofs.Registers.{set_length, read_other}
+use Rattle.machine_pieces.specs.Keeping.{saved_of}
 use Rattle.machine_stubs.specs.Calls.{asked, CallsAreMade}
 use Rattle.machine_simulation.specs.Plan.{Plan, shape, routine, first_word, setting}
 use Rattle.machine_simulation.specs.Exceptions.{Addresses, LinearExceptions, KeptExceptions, addresses_of, exceptions_in, kept_by, destroyed, live_in, HasHeader, HeaderIs, ExceptionsMatch}
@@ -41,17 +42,17 @@ use Rattle.machine_simulation.specs.Matches.{MemoryMatches, Matches}
 use Rattle.machine_simulation.specs.Operations.{Matched}
 use Rattle.machine_simulation.specs.Steps.{StepAt}
 use Rattle.machine_simulation.proofs.Words.{operation_at}
-use Rattle.machine_simulation.proofs.Matching.{Stands, stands_by, runtime_stays}
+use Rattle.machine_simulation.proofs.Matching.{Stands, stands_by, runtime_stays, kept_at}
 use Rattle.machine_simulation.proofs.Quiet.{moved, step_is, plain_is}
 use Rattle.machine_simulation.proofs.Holding.{same_number}
-use Rattle.machine_simulation.proofs.Lines.{matches_alike}
+use Rattle.machine_simulation.proofs.Lines.{matches_alike, registers_alike}
 use Rattle.machine_simulation.specs.Objects.{HoldsObject}
 use Rattle.machine_exceptions.specs.Enters.{IsThrown, is_crowded as is_crowded_in, EntersRun}
 use Rattle.machine_exceptions.proofs.Travels.{CanEnter, can_enter}
 use Rattle.machine_exceptions.proofs.Finding.{live_header, object_found}
 use Rattle.machine_exceptions.proofs.Freed.{slots_alike}
 use Rattle.machine_exceptions.proofs.CaughtLists.{others_alike, front_alike, counts_small, entered_alike, begun_live, begun_once, begun_counted}
-use Rattle.machine_exceptions.proofs.Ecalls.{ecall_reached, object_loaded, call_made}
+use Rattle.machine_exceptions.proofs.Ecalls.{ecall_reached, object_loaded, call_made, given_in_first}
 use Rattle.machine_simulation.proofs.Stored.{next_where}
 use Rattle.region_forms.specs.Lives.{may_enter}
 
@@ -248,6 +249,8 @@ enter_runs turns made image p n s e st next w back h at holds ok alone_here =
         pc = ec.pc ∙ omega (arith, own.next);
         memory = subst (λ ps. MemoryMatches p n st.top.frame st.frames (entered e v) ps (x end.hart sp) back) (sym ec.memory)
             (subst (λ a. MemoryMatches p n st.top.frame st.frames (entered e v) w.hart.memory a back) (sym stack) held);
+        kept = kept_at p n to (x w.hart sp) w.hart.memory (saved_of w.hart) end.hart ec.memory stack (given_in_first ec.behind end.hart (object_of slot) refl ∙ ec.saved)
+            (registers_alike p n st.top.frame st.frames v (entered e v) w.hart.memory (x w.hart sp) back (saved_of w.hart) refl h.memory h.kept);
         runtime = record {
           input = r.input;
           replies = r.replies;

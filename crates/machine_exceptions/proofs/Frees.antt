@@ -25,6 +25,7 @@ use Rattle.machine_forms.specs.LinearCode.{linear_code}
 use Rattle.machine_forms.specs.Routine.{op_word}
 use Rattle.machine_pieces.specs.Standing.{Ground}
 use Rattle.machine_pieces.specs.Laws.{CallsAreTurns}
+use Rattle.machine_pieces.specs.Keeping.{saved_of}
 use Rattle.machine_stubs.specs.Calls.{asked, CallsAreMade}
 use Rattle.machine_simulation.specs.Plan.{Plan, shape, routine, first_word, setting}
 use Rattle.machine_simulation.specs.Exceptions.{Addresses, LinearExceptions, KeptExceptions, addresses_of, exceptions_in, kept_by, destroyed, live_in, HeaderIs, ExceptionsMatch, PlanHas}
@@ -32,10 +33,10 @@ use Rattle.machine_simulation.specs.Matches.{MemoryMatches, Matches}
 use Rattle.machine_simulation.specs.Operations.{Matched}
 use Rattle.machine_simulation.specs.Steps.{StepAt}
 use Rattle.machine_simulation.proofs.Words.{operation_at}
-use Rattle.machine_simulation.proofs.Matching.{Stands, stands_by, runtime_stays}
+use Rattle.machine_simulation.proofs.Matching.{Stands, stands_by, runtime_stays, kept_at}
 use Rattle.machine_simulation.proofs.Quiet.{moved, step_is}
 use Rattle.machine_simulation.proofs.Holding.{same_number}
-use Rattle.machine_simulation.proofs.Lines.{matches_alike}
+use Rattle.machine_simulation.proofs.Lines.{matches_alike, registers_alike}
 use Rattle.machine_simulation.proofs.Closing.{live_before, matches_narrowed}
 use Rattle.machine_simulation.specs.Objects.{is_object, without_object, HoldsObject}
 use Rattle.machine_exceptions.specs.Frees.{FreesRun}
@@ -45,6 +46,8 @@ use Rattle.machine_exceptions.proofs.Finding.{live_header, object_found}
 use Rattle.machine_exceptions.proofs.Freed.{freed_match, building_out}
 use Rattle.machine_exceptions.proofs.Ecalls.{ecall_reached, object_loaded, call_made}
 use Rattle.machine_simulation.proofs.Stored.{next_there}
+use Rattle.machine_simulation.specs.KeptCalls.{RegistersMatch}
+use Rattle.machine_simulation.proofs.KeptClosed.{registers_narrowed}
 use Rattle.region_forms.specs.Lives.{is_being_built}
 use Rattle.linear_forms.specs.Operation.{may_free}
 
@@ -95,6 +98,10 @@ plan_without p e lives h = record {
 pub memory_without : (p : Plan) (n : ℕ) (frame : Frame) (fs : List Activation) (v : World) (memory : List Part) (stack back e : ℕ) → MemoryMatches p n frame fs v memory stack back →
     MemoryMatches (without_object p e) n frame fs v memory stack back
 memory_without p n frame fs v memory stack back e h = matches_narrowed p (is_object e) n frame fs v memory stack back (record { globals = λ g. refl; older = λ d s le. refl }) h
+
+pub registers_without : (p : Plan) (n : ℕ) (frame : Frame) (fs : List Activation) (v : World) (memory : List Part) (stack back e : ℕ) (regs : List ℕ) → MemoryMatches p n frame fs v memory stack back →
+    RegistersMatch p n frame fs v memory stack regs → RegistersMatch (without_object p e) n frame fs v memory stack regs
+registers_without p n frame fs v memory stack back e regs h r = registers_narrowed p (is_object e) n frame fs v memory stack back regs h r
 
 -- ---- the step
 
@@ -149,6 +156,9 @@ free_runs turns made image p n s e st next w back h at holds there =
         pc = ec.pc ∙ omega (arith, own.next);
         memory = subst (λ ps. MemoryMatches (without_object p e) n st.top.frame st.frames (freed e v) ps (x ec.behind sp) back) (sym ec.memory)
             (subst (λ a. MemoryMatches (without_object p e) n st.top.frame st.frames (freed e v) w.hart.memory a back) (sym ec.stack) held);
+        kept = kept_at (without_object p e) n to (x w.hart sp) w.hart.memory (saved_of w.hart) ec.behind ec.memory ec.stack ec.saved
+            (registers_without p n st.top.frame st.frames (freed e v) w.hart.memory (x w.hart sp) back e (saved_of w.hart) alike
+            (registers_alike p n st.top.frame st.frames v (freed e v) w.hart.memory (x w.hart sp) back (saved_of w.hart) refl h.memory h.kept));
         runtime = record {
           input = r.input;
           replies = r.replies;

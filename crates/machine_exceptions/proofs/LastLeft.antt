@@ -30,6 +30,7 @@ use Rattle.linear_forms.specs.UnitRun.{code_of}
 use Rattle.machine_forms.specs.Registers.{sp}
 use Rattle.machine_pieces.specs.Turning.{Turns, Reaches}
 use Rattle.machine_pieces.proofs.Turning.{turns_then}
+use Rattle.machine_pieces.specs.Keeping.{saved_of}
 use Rattle.machine_stubs.specs.Calls.{CallsAreMade}
 use Rattle.machine_stubs.specs.EndCatch.{EndCatchRuns}
 use Rattle.machine_stubs.specs.ComesBack.{EndCatchComesBack}
@@ -39,13 +40,13 @@ use Rattle.machine_simulation.specs.Exceptions.{Addresses, LinearExceptions, Kep
 use Rattle.machine_simulation.specs.Matches.{Matches}
 use Rattle.machine_simulation.proofs.Matching.{stands_by, runtime_stays}
 use Rattle.machine_simulation.proofs.Holding.{same_number}
-use Rattle.machine_simulation.proofs.Lines.{matches_alike}
+use Rattle.machine_simulation.proofs.Lines.{matches_alike, registers_alike}
 use Rattle.machine_simulation.specs.Objects.{without_object, Shows}
 use Rattle.machine_exceptions.specs.Leaves.{StepsTo, behind, AtLeave, destroying, destroyed_world, LeavesRun}
 use Rattle.machine_exceptions.proofs.LiveLists.{without}
 use Rattle.machine_exceptions.proofs.Headers.{slot_below, thrown_or}
 use Rattle.machine_exceptions.proofs.Freed.{freed_match}
-use Rattle.machine_exceptions.proofs.Frees.{plan_without, memory_without}
+use Rattle.machine_exceptions.proofs.Frees.{plan_without, memory_without, registers_without}
 use Rattle.machine_exceptions.proofs.Enters.{exception_is, live_is}
 use Rattle.machine_exceptions.proofs.Left.{left_match, ended_last, last_out, let_go_match}
 use Rattle.machine_exceptions.proofs.EndCatching.{catch_called}
@@ -123,6 +124,8 @@ foreign_cleaned catches made image p n st middle y ys k token w h at last there 
         registers = back.registers;
         pc = back.pc;
         memory = memory_without p n st.top.frame st.frames u t.hart.memory (x t.hart sp) h.back e alike;
+        kept = registers_without p n st.top.frame st.frames u t.hart.memory (x t.hart sp) h.back e (saved_of t.hart) alike
+            (registers_alike p n st.top.frame st.frames v u t.hart.memory (x t.hart sp) h.back (saved_of t.hart) refl back.memory back.kept);
         runtime = runtime_then p (without_object p e) st.frames st.frames v u w1 t (slot_freed slot es) r come.holds.rest come.holds.exceptions refl refl refl refl m2 (plan_without p e v.live r.plan);
       };
     }
@@ -193,6 +196,8 @@ freed_by_then frees image p n st middle y ys type kept w d h at last there alike
         registers = back.registers;
         pc = back.pc;
         memory = memory_without p n st.top.frame st.frames u t.hart.memory (x t.hart sp) h.back e held;
+        kept = registers_without p n st.top.frame st.frames u t.hart.memory (x t.hart sp) h.back e (saved_of t.hart) held
+            (registers_alike p n st.top.frame st.frames v u t.hart.memory (x t.hart sp) h.back (saved_of t.hart) alike.memory back.memory back.kept);
         runtime = runtime_then p (without_object p e) st.frames st.frames v u w1 t (slot_freed slot again) r come.holds.rest come.holds.exceptions alike.input alike.replies numbers alike.ending m4
             (plan_without p e d.live (subst (PlanHas p) (sym lives) r.plan));
       };

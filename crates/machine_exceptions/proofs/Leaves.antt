@@ -16,6 +16,7 @@ use Rattle.linear_forms.specs.Activation.{State as LinearState}
 use Rattle.machine_forms.specs.Registers.{sp}
 use Rattle.machine_pieces.specs.Turning.{Turns, Reaches}
 use Rattle.machine_pieces.proofs.Turning.{turns_then}
+use Rattle.machine_pieces.specs.Keeping.{saved_of}
 use Rattle.machine_stubs.specs.Stretches.{Stands as StubStands}
 use Rattle.linear_forms.specs.Stub.{end_catch}
 use Rattle.machine_stubs.specs.ComesBack.{TellsNothing, EndCatchComesBack}
@@ -24,7 +25,7 @@ use Rattle.machine_simulation.specs.Exceptions.{addresses_of, exceptions_in, kep
 use Rattle.machine_simulation.specs.Matches.{Matches}
 use Rattle.machine_simulation.proofs.Matching.{stands_by, runtime_stays}
 use Rattle.machine_simulation.proofs.Holding.{same_number}
-use Rattle.machine_simulation.proofs.Lines.{matches_alike}
+use Rattle.machine_simulation.proofs.Lines.{matches_alike, registers_alike}
 use Rattle.machine_exceptions.specs.Leaves.{behind, AtLeave}
 use Rattle.machine_exceptions.proofs.Left.{Newest, newest_caught, newest_is, left_match, ended_still}
 use Rattle.machine_exceptions.proofs.EndCatching.{CatchCalled, room_below, catch_called}
@@ -96,6 +97,7 @@ still_handled comes image p n st middle y ys w h at last =
         registers = back.registers;
         pc = back.pc;
         memory = matches_alike p n st.top.frame st.frames v u t.hart.memory (x t.hart sp) h.back refl refl (same_number v) back.memory;
+        kept = registers_alike p n st.top.frame st.frames v u t.hart.memory (x t.hart sp) h.back (saved_of t.hart) refl back.memory back.kept;
         runtime = runtime_then p p st.frames st.frames v u w1 t e r come.holds.rest come.holds.exceptions refl refl refl refl m r.plan;
       };
     }

@@ -3,6 +3,7 @@ pub mod Headers
 pub mod Finding
 pub mod Freed
 pub mod Ecalls
+pub mod Forced
 pub mod Frees
 pub mod Travels
 pub mod CaughtLists
@@ -19,9 +20,9 @@ pub mod ComingBack
 pub mod Leaves
 pub mod Cleaning
 pub mod LastLeft
+pub mod Saving
 pub mod Destroying
 pub mod DestructorsBegin
-pub mod GivingBack
 pub mod DestructorsEnd
 pub mod Filters
 pub mod Answering

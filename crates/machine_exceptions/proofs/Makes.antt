@@ -1,9 +1,9 @@
 -- Making an exception is matched.
-use Rattle.std.proofs.Common.{◌≡◌, ◌∙◌, refl, sym, ap, subst, arith, ℕ, ◌+◌, ◌<◌, ◌≤◌, ◌==◌, Bool, true, false, List, [], ◌∷◌, length, Option, Some, None, is_some}
+use Rattle.std.proofs.Common.{◌≡◌, ◌∙◌, refl, sym, ap, subst, arith, ℕ, ◌+◌, ◌^◌, ◌<◌, ◌≤◌, ◌==◌, Bool, true, false, List, [], ◌∷◌, length, Option, Some, None, is_some}
 use Rattle.std.specs.Prelude.{if◌then◌else◌}
 use Rattle.std.proofs.lemmas.Bool.Decides.{nat_tests}
 use Rattle.run_items.specs.declared.item.Item.TheVariants.{Make}
-use Rattle.rv64_isa.specs.State.{State, reg_of, with_value}
+use Rattle.rv64_isa.specs.State.{State, reg_of, with_value, Part}
 use Rattle.rv64_isa.specs.Step.{x}
 use Rattle.caught_stack.specs.declared.header.HeaderKind.TheVariants.{Building}
 use Rattle.caught_stack.specs.Allocate.{with_header}
@@ -17,43 +17,46 @@ use Rattle.cxa_runtime.specs.Allocate.{allocate, made_in, new_header, with_new a
 use Rattle.cxa_runtime.specs.Call.{call_effect, numbered}
 use Rattle.cxa_runtime.specs.Run.{counted}
 use Rattle.region_forms.specs.Form.{make}
-use Rattle.region_forms.specs.World.{of_exception, World, Frame, Exception, Live, building, address_word, object_address, with_slot, with_item}
+use Rattle.region_forms.specs.World.{of_exception, World, Frame, Exception, Live, building, address_word, object_address, with_slot, with_item, Word}
 use Rattle.region_forms.specs.Effect.{goes, terminates, is_full, with_new}
 use Rattle.linear_forms.specs.Linear.{plain}
 use Rattle.linear_forms.specs.Activation.{State as LinearState, goes_to}
 use Rattle.linear_forms.specs.Operation.{performed}
 use Rattle.linear_forms.specs.UnitRun.{code_of}
+use Rattle.linear_forms.specs.Stub.{compiled}
 use Rattle.machine_forms.specs.Registers.{sp, a0}
 use Rattle.machine_forms.specs.Shape.{slot_offset}
 use Rattle.machine_forms.specs.PlaceCode.{slot_stored}
 use Rattle.machine_forms.specs.RuntimeCall.{runtime_call}
 use Rattle.machine_forms.specs.LinearCode.{linear_code}
 use Rattle.machine_forms.specs.Routine.{op_word}
-use Rattle.machine_pieces.specs.Standing.{Ground, PiecesAt, PieceAt}
+use Rattle.machine_pieces.specs.Standing.{Ground, PiecesAt, PieceAt, address}
 use Rattle.machine_pieces.specs.Frames.{byte_of}
 use Rattle.machine_pieces.specs.Laws.{CallsAreTurns}
 use Rattle.machine_pieces.proofs.Fetching.{pieces_split}
 use Rattle.machine_pieces.proofs.Going.{goes_none}
 use Rattle.machine_pieces.proofs.Registers.{set_length, read_same, read_other}
 use Rattle.machine_pieces.proofs.Turning.{executes_turns}
+use Rattle.machine_pieces.specs.Keeping.{saved_of}
 use Rattle.machine_stubs.specs.Calls.{asked, CallsAreMade}
 use Rattle.machine_simulation.specs.Plan.{Plan, shape, routine, first_word, setting}
 use Rattle.machine_simulation.specs.Exceptions.{Addresses, addresses_of, exceptions_in, kept_by, destroyed, live_in, ExceptionsMatch, PlanHas}
 use Rattle.machine_simulation.specs.Matches.{RuntimeMatches, MemoryMatches, Matches}
 use Rattle.machine_simulation.specs.Steps.{StepAt}
 use Rattle.machine_simulation.proofs.Words.{operation_at}
-use Rattle.machine_simulation.proofs.Matching.{Stands, stands_by, Arrives, memory_at, runtime_stays}
+use Rattle.machine_simulation.proofs.Matching.{Stands, stands_by, Arrives, memory_at, runtime_stays, kept_at}
 use Rattle.machine_simulation.proofs.Quiet.{moved, step_is, plain_is}
 use Rattle.machine_simulation.proofs.Holding.{address_matches}
 use Rattle.machine_simulation.specs.Objects.{with_object}
+use Rattle.machine_simulation.specs.KeptCalls.{RegistersMatch}
 use Rattle.machine_exceptions.specs.Picks.{TurnsFor, MatchedFor}
 use Rattle.machine_exceptions.specs.Makes.{IsWordSlot, MakesRun}
 use Rattle.machine_exceptions.proofs.LiveLists.{with_one, new_in, other_in}
 use Rattle.machine_exceptions.proofs.Made.{slot_given, made_match, slots_apart}
-use Rattle.machine_exceptions.proofs.Making.{Making, new_at, old_at, matches_made}
-use Rattle.machine_exceptions.proofs.Ecalls.{ecall_reached}
+use Rattle.machine_exceptions.proofs.Making.{Making, new_at, old_at, matches_made, registers_made}
+use Rattle.machine_exceptions.proofs.Ecalls.{ecall_reached, given_in_first}
 use Rattle.machine_exceptions.proofs.Picking.{turns_for, then_for, call_for}
-use Rattle.machine_exceptions.proofs.Putting.{slot_put}
+use Rattle.machine_exceptions.proofs.Putting.{slot_put, registers_put, Puts}
 
 allocate_is : (image : Image) (wish : ℕ) (t : abi.World) → call_effect 3 image wish t ≡ allocate image.places wish t
 unfolding call_effect numbered
@@ -117,6 +120,30 @@ record MadeIn (image : Image) (pick : ℕ → ℕ) (p : Plan) (n s : ℕ) (st : 
   runs : MatchedFor image pick (length (linear_code (shape p n) (plain (make s)))) w (Make (st.world.last_number + 1) ∷ [])
       (λ v. Matches (with_object p (st.world.last_number + 1) slot) (moved st (st.top.place + 1) (made_frame st.world s st.top.frame) (made_world st.world)) v)
 
+-- the object's address is in the slot
+object_put : (q : Plan) (n s e object : ℕ) (st : LinearState) (u : World) (back here : ℕ) (t : State) → st.top.function ≡ compiled n → MemoryMatches q n st.top.frame st.frames u t.memory (x t sp) back →
+    RegistersMatch q n st.top.frame st.frames u t.memory (x t sp) (saved_of t) → IsWordSlot q n s → length t.regs ≡ 32 → byte_of (setting q n) (object_address e) ≡ object → object < 2 ^ 64 → e ≤ u.last_number →
+    (put : Puts q n here s object t) → here + 1 ≡ first_word q n + op_word (routine q n) (st.top.place + 1) →
+    Arrives q n (moved st (st.top.place + 1) (with_slot s (address_word (object_address e)) st.top.frame) u) back put.after
+object_put q n s e object st u back here t callee held kept ok many value small made put next =
+    let word : Word = address_word (object_address e) in
+    let bits : ℕ = byte_of (setting q n) (object_address e) in
+    let new : List Part = with_value t.memory (x t sp + slot_offset (shape q n) s) 8 bits in
+    let to : LinearState = moved st (st.top.place + 1) (with_slot s word st.top.frame) u in
+    let memory : put.after.memory ≡ new = put.memory ∙ ap (with_value t.memory (x t sp + slot_offset (shape q n) s) 8) (sym value) in
+    let stored = address_matches q n st.top.frame st.frames u t.memory (x t sp) back s (object_address e) held ok.inside ok.plain (omega (arith, value, small)) (omega (arith, made)) in
+    record {
+      runs = callee;
+      registers = ap length put.regs ∙ many;
+      pc = put.pc ∙ ap (address (setting q n).ground) next;
+      memory = memory_at q n to back (x t sp) new put.after memory (ap (λ rs. reg_of rs sp) put.regs) stored;
+      kept = registers_put q n st.top.frame st.frames u back s bits word t put.after held ok kept put.regs memory;
+    }
+
+-- a state that is the same
+arrives_too : (q : Plan) (n : ℕ) (to : LinearState) (back : ℕ) (s t : State) → t ≡ s → Arrives q n to back s → Arrives q n to back t
+arrives_too q n to back s t same there = subst (Arrives q n to back) (sym same) there
+
 make_runs : CallsAreTurns → CallsAreMade → (image : Image) (pick : ℕ → ℕ) (p : Plan) (n s : ℕ) (st next : LinearState) (w : abi.World) (back : ℕ) → Stands p n st w back → StepAt p st next n (plain (make s)) → IsWordSlot p n s →
     is_full st.world ≡ false → MadeIn image pick p n s st w
 make_runs turns made image pick p n s st next w back h at ok free =
@@ -165,22 +192,20 @@ make_runs turns made image pick p n s st next w back h at ok free =
     let stack : x s2 sp ≡ x w.hart sp = read_other ec.behind.regs 10 sp object (λ d. absurd (omega (arith, d))) ∙ ec.stack in
     let held2 : MemoryMatches q n st.top.frame st.frames u s2.memory (x s2 sp) back
     = subst (λ ps. MemoryMatches q n st.top.frame st.frames u ps (x s2 sp) back) (sym ec.memory) (subst (λ a. MemoryMatches q n st.top.frame st.frames u w.hart.memory a back) (sym stack) held) in
+    let at_u : LinearState = record { top = st.top; frames = st.frames; world = u } in
+    let kept2 : RegistersMatch q n st.top.frame st.frames u s2.memory (x s2 sp) (saved_of s2)
+    = kept_at q n at_u (x w.hart sp) w.hart.memory (saved_of w.hart) s2 ec.memory stack (given_in_first ec.behind s2 object refl ∙ ec.saved)
+    (registers_made p e slot v u making n st.top.frame st.frames w.hart.memory (x w.hart sp) back (saved_of w.hart) h.memory h.kept) in
     let code2 : PieceAt s2.memory g (here + 2) (slot_stored (shape p n) a0 s) = subst (λ ps. PieceAt ps g (here + 2) (slot_stored (shape p n) a0 s)) (sym ec.memory) parts.1.0 in
     let given_a0 : x s2 a0 ≡ object = read_same ec.behind.regs 10 object (λ d. absurd (omega (arith, d))) (omega (arith, ec.registers)) in
     let put = slot_put q n st.top.frame st.frames u back (here + 2) a0 s object s2 held2 (record { inside = ok.inside; plain = ok.plain; near = ok.near }) code2 (ec.pc ∙ omega arith) given_a0 in
     let last = executes_turns image 1 w2 s2 put.after refl put.runs in
     let value : byte_of (setting q n) (object_address e) ≡ object = omega (arith, object_there) in
-    let stored = address_matches q n st.top.frame st.frames u s2.memory (x s2 sp) back s (object_address e) held2 ok.inside ok.plain (omega (arith, value, small)) (omega (arith, making.number)) in
     let to : LinearState = moved st (st.top.place + 1) (made_frame v s st.top.frame) u in
-    let memory : put.after.memory ≡ with_value s2.memory (x s2 sp + slot_offset (shape p n) s) 8 (byte_of (setting q n) (object_address e))
-    = put.memory ∙ ap (with_value s2.memory (x s2 sp + slot_offset (shape p n) s) 8) (sym value) in
-    let there : Arrives q n to back put.after = record {
-      runs = h.runs;
-      registers = ap length put.regs ∙ set_length ec.behind.regs 10 object ∙ ec.registers;
-      pc = put.pc ∙ omega (arith, own.next);
-      memory = memory_at q n to back (x s2 sp) (with_value s2.memory (x s2 sp + slot_offset (shape p n) s) 8 (byte_of (setting q n) (object_address e))) put.after memory (ap (λ rs. reg_of rs sp) put.regs) stored;
-    } in
-    let end_at : Arrives q n to back last.after.hart = subst (Arrives q n to back) (sym last.hart) there in
+    let there : Arrives q n to back put.after
+    = object_put q n s e object st u back (here + 2) s2 h.runs held2 kept2 (record { inside = ok.inside; plain = ok.plain; near = ok.near }) (set_length ec.behind.regs 10 object ∙ ec.registers) value (omega (arith, small))
+    (omega (arith, making.number)) put (omega (arith, own.next)) in
+    let end_at : Arrives q n to back last.after.hart = arrives_too q n to back put.after last.after.hart last.hart there in
     let not_live = none_there v.live e v.last_number m.numbers refl in
     let runtime2 : RuntimeMatches q st.frames u w2 = record {
       input = r.input;
@@ -212,6 +237,7 @@ make_runs turns made image pick p n s st next w back h at ok free =
           registers = end_at.registers;
           pc = end_at.pc;
           memory = end_at.memory;
+          kept = end_at.kept;
           runtime = runtime_stays q st.frames u w2 last.after last.runtime runtime2;
         };
       };

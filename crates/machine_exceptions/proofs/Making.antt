@@ -10,13 +10,18 @@ use Rattle.machine_forms.specs.Shape.{slot_offset, return_offset}
 use Rattle.machine_pieces.specs.Memory.{MayWrite, Apart}
 use Rattle.machine_pieces.specs.Frames.{IntAt, AddressAt, WordHolds}
 use Rattle.machine_stubs.specs.Stretches.{frame_size}
-use Rattle.machine_simulation.specs.Plan.{Plan, shape, setting}
+use Rattle.machine_simulation.specs.Plan.{Plan, shape, setting, function}
 use Rattle.machine_simulation.specs.Extents.{newer, StandApart, IntsInside}
 use Rattle.machine_simulation.specs.Calls.{HeldBy, CallStands, CallsWait}
 use Rattle.machine_simulation.specs.Matches.{IsAway, is_exception, ObjectsStand, MemoryMatches}
 use Rattle.machine_simulation.proofs.StubKeeping.{stub_same, stub_stays}
 use Rattle.machine_simulation.proofs.Keeping.{IntsHold}
 use Rattle.machine_simulation.specs.Objects.{is_object, with_object}
+use Rattle.machine_simulation.specs.KeptCalls.{RegistersMatch}
+use Rattle.machine_simulation.proofs.KeptSlots.{kept_slot}
+use Rattle.machine_simulation.proofs.KeptCalls.{kept_alone}
+use Rattle.machine_simulation.proofs.KeptStores.{registers_still}
+use Rattle.machine_simulation.proofs.Floors.{call_floor, stub_floor}
 
 -- what is asked of the exception, its slot and the worlds before and behind
 pub record Making (p : Plan) (e slot : ℕ) (v u : World) : Type 0 where
@@ -127,7 +132,7 @@ module _ (p : Plan) (e slot : ℕ) (v u : World) (h : Making p e slot v u) where
     slots = record { variables = st.slots.variables; whole = st.slots.whole; aligned = st.slots.aligned; ints = st.slots.ints };
     held = λ s b inside is. held_still frame.call b.base (st.held s b inside is);
     saved = st.saved;
-    alone = λ b live. stack_apart b (stack + return_offset) 8 (omega (arith, st.above)) live st.alone (one_or_not e b);
+    alone = λ b live. stack_apart b (stack + return_offset) 8 (omega (arith, call_floor p n frame v memory stack back st)) live st.alone (one_or_not e b);
     clear = λ b live older. clear_at b live older (one_or_not e b);
   }
     where
@@ -152,7 +157,7 @@ module _ (p : Plan) (e slot : ℕ) (v u : World) (h : Making p e slot v u) where
   waits_made (a ∷ fs) memory stack back limit ints (inr (inl w)) = inr (inl (
     w.0,
     stub_stays p (with_object p e slot) v u memory memory a stack back (record { base = refl; tables = λ n. refl; object = λ d le. (old_at p e slot (of_exception d) (grind (arith, nat_tests, le, h.next))).at }) later (stub_same a.function stack memory) w.0
-        (λ b live. stack_apart b stack (frame_size a.function) w.1.stands.above live w.1.stands.alone (one_or_not e b)) w.1,
+        (λ b live. stack_apart b stack (frame_size a.function) (omega (arith, stub_floor a.function stack w.1.stands.above)) live w.1.stands.alone (one_or_not e b)) w.1,
     waits_made fs memory (stack + frame_size a.function) w.0 limit ints w.2,
   ))
   waits_made (a ∷ fs) memory stack back limit ints (inr (inr w)) = inr (inr w)
@@ -277,3 +282,26 @@ module _ (p : Plan) (e slot : ℕ) (v u : World) (h : Making p e slot v u) where
       last_at : (b : Base) → (with_object p e slot).live b ≡ true → OneOrNot e b → newer frame.call b ≡ false
       last_at b live (inl x) = ap (newer frame.call) x
       last_at b live (inr x) = let old = old_at p e slot b x in m.last b (sym old.live ∙ live)
+
+  -- ---- registers
+
+  -- a slot of the stack is apart from what is live, also in the other order
+  slot_alone : (a : ℕ) (b : Base) → 0x7000_0000 ≤ a → (with_object p e slot).live b ≡ true → (p.live b ≡ true → Apart a 8 (p.at b) (p.size b)) → OneOrNot e b → Apart a 8 ((with_object p e slot).at b) ((with_object p e slot).size b)
+  slot_alone a b high live alone (inl is) i j hi hj same = let new = new_at p e slot b is in omega (arith, new.at, new.size, h.below, high, hj, same)
+  slot_alone a b high live alone (inr not_one) i j hi hj same =
+      let old = old_at p e slot b not_one in
+      alone (sym old.live ∙ live) i j hi (omega (arith, hj, old.size)) (omega (arith, same, old.at))
+
+  pub registers_made : (n : ℕ) (frame : Frame) (fs : List Activation) (memory : List Part) (stack back : ℕ) (regs : List ℕ) → MemoryMatches p n frame fs v memory stack back → RegistersMatch p n frame fs v memory stack regs →
+      RegistersMatch (with_object p e slot) n frame fs u memory stack regs
+  registers_made n frame fs memory stack back regs m r =
+      let q : Plan = with_object p e slot in
+      registers_still p q.at q.size q.live q.ints n frame frame fs v u memory memory stack back regs refl m
+      (λ k f place home rs before above less st one. record {
+        ints = λ s i is. ap (λ w. w (record { base = of_variable f.call s; offset = 0 })) h.memory;
+        saved = λ s i b is held. held;
+        dead = λ s i is. one.dead s i is;
+        alone = λ b s i live is.
+            let y = kept_slot (function p k) s i is in
+            slot_alone (place + slot_offset (shape p k) s) b (omega (arith, call_floor p k f v memory place home st)) live (λ was. kept_alone p k f v memory place rs before b s i one was is y.place y.slot_is) (one_or_not e b);
+      }) r

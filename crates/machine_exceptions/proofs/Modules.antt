@@ -36,6 +36,7 @@ use Rattle.machine_simulation.proofs.Reading.{finished_step}
 use Rattle.machine_exceptions.specs.Answers.{CallsModule, answer_in, answer_of}
 use Rattle.machine_exceptions.proofs.Answering.{answered}
 use Rattle.machine_exceptions.proofs.ModuleCalls.{module_begins}
+use Rattle.machine_exceptions.proofs.Ecalls.{given_in_first}
 
 module_is : (image : Image) (wish : ℕ) (t : abi.World) → call_effect 14 image wish t ≡ module_call image wish t
 unfolding call_effect numbered
@@ -161,6 +162,7 @@ module_run places turns made image p n st next w o wants k z replies h at calls 
       memory = refl;
       registers = set_length ec.behind.regs 10 (extended z) ∙ ec.registers;
       stack = read_other ec.behind.regs 10 sp (extended z) (λ d. absurd (omega (arith, d)));
+      saved = given_in_first ec.behind end.hart (extended z) refl;
       value = inr (int, read_same ec.behind.regs 10 (extended z) (λ d. absurd (omega (arith, d))) (omega (arith, ec.registers)));
       runtime = record { input = r.input; replies = refl; last_number = r.last_number; terminating = r.terminating; exceptions = r.exceptions; plan = r.plan };
     })

@@ -1,12 +1,12 @@
 -- A register is written to a slot of the frame.
-use Rattle.std.proofs.Common.{◌≡◌, ◌∙◌, refl, ap, arith, ℕ, ◌+◌, ◌%◌, List}
+use Rattle.std.proofs.Common.{◌≡◌, ◌∙◌, refl, sym, ap, subst, arith, ℕ, ◌+◌, ◌%◌, List}
 use Rattle.std.proofs.lemmas.Bool.{eq-eqb}
 use Rattle.rv64_isa.specs.declared.step.Step.TheVariants.{Done}
 use Rattle.rv64_isa.specs.declared.instr.Instr.TheVariants.{Sd}
 use Rattle.rv64_isa.specs.Arithmetic.{add}
-use Rattle.rv64_isa.specs.State.{State, state, with_value}
+use Rattle.rv64_isa.specs.State.{State, Part, state, reg_of, with_value}
 use Rattle.rv64_isa.specs.Step.{step_of, next, stores, x, imm12, done}
-use Rattle.region_forms.specs.World.{Frame, World}
+use Rattle.region_forms.specs.World.{Word, Frame, World, with_slot}
 use Rattle.linear_forms.specs.Activation.{Activation}
 use Rattle.machine_forms.specs.Registers.{sp}
 use Rattle.machine_forms.specs.Shape.{slot_offset}
@@ -18,9 +18,13 @@ use Rattle.machine_pieces.proofs.Fetching.{piece_done}
 use Rattle.machine_pieces.proofs.Stepping.{one_step}
 use Rattle.machine_pieces.proofs.Going.{next_is}
 use Rattle.machine_pieces.proofs.Places.{near_address}
+use Rattle.machine_pieces.specs.Keeping.{saved_of}
+use Rattle.machine_pieces.proofs.Keeping.{same_saved}
 use Rattle.machine_simulation.specs.Plan.{Plan, shape, setting}
 use Rattle.machine_simulation.specs.Matches.{MemoryMatches}
 use Rattle.machine_simulation.proofs.Holding.{slot_may, slot_place}
+use Rattle.machine_simulation.specs.KeptCalls.{RegistersMatch}
+use Rattle.machine_simulation.proofs.KeptStores.{slot_kept}
 use Rattle.machine_exceptions.specs.Makes.{IsWordSlot}
 
 pub sd_done : (base value imm : ℕ) (s : State) → done (Sd base value imm) s ≡ stores s 8 (add (x s base) (imm12 imm)) (x s value)
@@ -49,3 +53,15 @@ slot_put p n frame fs v back here r slot value m h ok code at is =
     = piece_done (setting p n).ground here (slot_stored (shape p n) r slot) m code at ∙ sd_done sp r (within (shape p n) slot 0) m ∙ ap (λ a. stores m 8 a (x m r)) target ∙ ap (stores m 8 place) is
     ∙ stores_done m 8 place value (eq-eqb (place % 8) 0 even) may in
     record { after = u; runs = one_step m u step; pc = next_is (setting p n).ground here (slot_stored (shape p n) r slot) m code at; regs = refl; memory = refl }
+
+-- and the registers of kept variables are as they were
+pub registers_put : (p : Plan) (n : ℕ) (frame : Frame) (fs : List Activation) (v : World) (back slot value : ℕ) (word : Word) (s t : State) → MemoryMatches p n frame fs v s.memory (x s sp) back → IsWordSlot p n slot →
+    RegistersMatch p n frame fs v s.memory (x s sp) (saved_of s) → t.regs ≡ s.regs → t.memory ≡ with_value s.memory (x s sp + slot_offset (shape p n) slot) 8 value →
+    RegistersMatch p n (with_slot slot word frame) fs v t.memory (x t sp) (saved_of t)
+registers_put p n frame fs v back slot value word s t h ok r regs memory =
+    let new : List Part = with_value s.memory (x s sp + slot_offset (shape p n) slot) 8 value in
+    let stack : x t sp ≡ x s sp = ap (λ l. reg_of l sp) regs in
+    let saved : saved_of t ≡ saved_of s = same_saved s t (λ i k. ap (λ l. reg_of l i) regs) in
+    let put : RegistersMatch p n (with_slot slot word frame) fs v new (x s sp) (saved_of s) = slot_kept p n frame fs v s.memory (x s sp) back slot 8 value word (saved_of s) h ok.inside ok.plain (omega arith) r in
+    subst (λ ps. RegistersMatch p n (with_slot slot word frame) fs v ps (x t sp) (saved_of t)) (sym memory)
+    (subst (λ a. RegistersMatch p n (with_slot slot word frame) fs v new a (saved_of t)) (sym stack) (subst (λ l. RegistersMatch p n (with_slot slot word frame) fs v new (x s sp) l) (sym saved) put))

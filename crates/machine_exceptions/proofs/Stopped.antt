@@ -30,6 +30,8 @@ use Rattle.machine_simulation.specs.Matches.{MemoryMatches}
 use Rattle.machine_simulation.proofs.Freeing.{free_matches}
 use Rattle.machine_simulation.proofs.Passing.{Passes, four_of_eight}
 use Rattle.machine_simulation.proofs.Slots.{slot_place_of, plain_room}
+use Rattle.machine_simulation.proofs.Floors.{call_floor}
+use Rattle.machine_simulation.proofs.Matching.{values_saved}
 use Rattle.machine_exceptions.specs.Makes.{IsWordSlot}
 use Rattle.machine_exceptions.proofs.Putting.{sd_done}
 use Rattle.machine_exceptions.proofs.Selectors.{lower_four}
@@ -56,7 +58,7 @@ eight_held p n frame fs v back slot z s h holds is =
     let there : IntAt s.memory a z = subst (WordHolds (setting p n) s.memory a) is (h.top.holds.slots slot holds.inside) in
     let place = slot_place_of (function p n) slot (h.unit.frames n h.top.known) holds.inside in
     let eight_room = plain_room (function p n) slot (h.unit.frames n h.top.known) holds.inside holds.plain in
-    let may : MayWrite s.memory a 8 = h.may a 8 (omega (arith, h.top.above)) (omega (arith, h.top.below, place.high, eight_room)) in
+    let may : MayWrite s.memory a 8 = h.may a 8 (omega (arith, call_floor p n frame v s.memory (x s sp) back h.top)) (omega (arith, h.top.below, place.high, eight_room)) in
     let eight : Holds s.memory a 8 (value_of may.bytes) = record { bytes = may.bytes; there = may.there; is = refl } in
     record {
       value = value_of may.bytes;
@@ -71,8 +73,8 @@ pub record SelectorPassed (p : Plan) (n : ℕ) (frame : Frame) (fs : List Activa
   pub selector : IntAt passes.after.memory (x s sp - 16) z
 
 pub selector_passed : (p : Plan) (n : ℕ) (frame : Frame) (fs : List Activation) (v : World) (back here slot : ℕ) (z : ℤ) (s : State) → MemoryMatches p n frame fs v s.memory (x s sp) back → IsWordSlot p n slot → frame.slots slot ≡ number_word z →
-    length s.regs ≡ 32 → s.pc ≡ address (setting p n).ground here → PiecesAt s.memory (setting p n).ground here (slot_loaded (shape p n) a0 slot ∷ passed a0 1 ∷ []) → SelectorPassed p n frame fs v back here z s
-selector_passed p n frame fs v back here slot z s h holds is regs at code =
+    0x7000_1000 ≤ x s sp → length s.regs ≡ 32 → s.pc ≡ address (setting p n).ground here → PiecesAt s.memory (setting p n).ground here (slot_loaded (shape p n) a0 slot ∷ passed a0 1 ∷ []) → SelectorPassed p n frame fs v back here z s
+selector_passed p n frame fs v back here slot z s h holds is high regs at code =
     let g : Ground = (setting p n).ground in
     let e = eight_held p n frame fs v back slot z s h holds is in
     let near : add (x s sp) (imm12 (within (shape p n) slot 0)) ≡ x s sp + slot_offset (shape p n) slot =
@@ -87,11 +89,11 @@ selector_passed p n frame fs v back here slot z s h holds is regs at code =
     let code_m : PieceAt m.memory g (here + 1) y = subst (λ ps. PieceAt ps g (here + 1) y) (sym goes.memory) code.1.0 in
     let stack : x m sp ≡ x s sp = goes.kept sp (kept_low 0 sp (omega arith)) in
     let target : add (x m sp) (imm12 (immediate (negsuc (8 * 1 + 7)))) ≡ a
-    = ap (λ b. add b (imm12 (immediate (negsuc (8 * 1 + 7))))) stack ∙ second_place (x s sp) (omega (arith, h.top.above)) (omega (arith, h.top.below)) in
-    let even : a % 8 ≡ 0 = omega (arith, h.top.saved.aligned, h.top.above) in
-    let low : 0x7000_0000 ≤ a = omega (arith, h.top.above) in
-    let may8 : MayWrite s.memory a 8 = h.may a 8 low (omega (arith, h.top.below, h.top.above)) in
-    let may4 : MayWrite s.memory a 4 = h.may a 4 low (omega (arith, h.top.below, h.top.above)) in
+    = ap (λ b. add b (imm12 (immediate (negsuc (8 * 1 + 7))))) stack ∙ second_place (x s sp) (omega (arith, high)) (omega (arith, h.top.below)) in
+    let even : a % 8 ≡ 0 = omega (arith, h.top.saved.aligned, high) in
+    let low : 0x7000_0000 ≤ a = omega (arith, high) in
+    let may8 : MayWrite s.memory a 8 = h.may a 8 low (omega (arith, h.top.below, high)) in
+    let may4 : MayWrite s.memory a 4 = h.may a 4 low (omega (arith, h.top.below, high)) in
     let may_m : MayWrite m.memory a 8 = subst (λ ps. MayWrite ps a 8) (sym goes.memory) may8 in
     let u : State = state (next m) m.regs (with_value m.memory a 8 e.value) in
     let step : step_of m ≡ (Done, u)
@@ -108,12 +110,13 @@ selector_passed p n frame fs v back here slot z s h holds is regs at code =
         pc = next_is g (here + 1) y m code_m goes.pc ∙ omega arith;
         registers = goes.registers;
         stack = stack;
+        saved = values_saved s m goes.kept;
         written = subst (Written s.memory) (sym memory) (value_written s.memory a 8 e.value may8);
         memory = subst (λ ps. MemoryMatches p n frame fs v ps (x s sp) back) (sym memory)
-            (free_matches p n frame fs v s.memory (x s sp) back a 8 e.value h (record { low = low; high = omega (arith, h.top.above) }));
+            (free_matches p n frame fs v s.memory (x s sp) back a 8 e.value h (record { low = low; high = omega (arith, high) }));
         passed = tt;
-        above = λ b k c high there. subst (λ ps. Holds ps b k c) (sym memory)
-            (holds_apart s.memory a 8 e.value b k c (λ i1 j1 hi hj same. omega (arith, high, hi, same, h.top.above)) there);
+        above = λ b k c from there. subst (λ ps. Holds ps b k c) (sym memory)
+            (holds_apart s.memory a 8 e.value b k c (λ i1 j1 hi hj same. omega (arith, from, hi, same, high)) there);
         held = λ j other b got named. absurd (cc got);
       };
       selector = subst (λ ps. IntAt ps a z) (sym memory) held;

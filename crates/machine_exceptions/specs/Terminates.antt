@@ -23,7 +23,7 @@ use Rattle.machine_simulation.specs.Plan.{Plan, function, shape, slot_kinds}
 use Rattle.machine_simulation.specs.Calls.{open_bytes}
 use Rattle.machine_simulation.specs.Matches.{Matches}
 use Rattle.machine_simulation.specs.Steps.{StepAt}
-use Rattle.machine_simulation.specs.Entering.{opened, frame_for}
+use Rattle.machine_simulation.specs.Entering.{opened, frame_for, begin_room, entry_turns}
 use Rattle.machine_simulation.specs.Returns.{ResultStands}
 use Rattle.machine_exceptions.specs.Answers.{CallsBuiltin}
 use Rattle.machine_simulation.specs.Objects.{HoldsObject}
@@ -70,6 +70,11 @@ in_handler p m st =
     let v = ending_world st.world in
     record { top = record { function = compiled m; place = 0; frame = new_frame (slot_kinds p m) [] v }; frames = active; world = new_world (slot_kinds p m) [] (depth_of active + 1) v }
 
+-- A handler has no parameter, and the stack has room for it below the calls that wait.
+pub record HandlerFits (p : Plan) (m : ℕ) (active : List Activation) : Type 0 where
+  pub taken : 0 ≡ (function p m).parameters
+  pub room : open_bytes p active + begin_room (shape p m).leaf (shape p m).size ≤ 0x100_0000
+
 -- the run aborts, and shows nothing more
 abbrev pub RunAborts : Image → (pick : ℕ → ℕ) → ℕ → abi.World → Type 0
 RunAborts image pick k w = ((run image pick k w).items ≡ []) × ((run image pick k w).end ≡ Aborted)
@@ -79,13 +84,13 @@ abbrev pub LinearAborts : Plan → ℕ → State → Type 0
 LinearAborts p k st = (v : World) × (exec (code_of p.unit) k st ≡ over (by_program aborted) v) × (v.items ≡ st.world.items)
 
 -- Where a handler is in effect and terminate does not run yet, two steps lead to the handler's first operation, and are matched by at most
--- thirteen turns beside those of the operation's words; nothing is hidden below the frame of terminate. Without a handler, or where terminate
+-- nine turns and those of its beginning beside those of the operation's words; nothing is hidden below the frame of terminate. Without a handler, or where terminate
 -- runs already, both machines abort. And so they do where the handler comes back.
 pub record TerminatesRun : Type 0 where
   pub calls_the_handler : (image : Image) (p : Plan) (n m : ℕ) (st : State) (w : abi.World) → Matches p st w → (at : AtTerminating image p n st) → st.world.ending ≡ false → st.world.installed.terminate_handler ≡ Some m → p.hidden ≡ 0 →
-      let active = waiting_terminate m ∷ st.top ∷ st.frames in open_bytes p active + (shape p m).size + 0x1000 ≤ 0x100_0000 → let next = in_handler p m st in
-      StepsTo (code_of p.unit) 2 st next × (next.world.items ≡ st.world.items) × Reaches image (length (linear_code (shape p n) at.operation) + 13) w [] (λ u. Matches (opened p m st.world.calls (frame_for p m active)) next u)
+      let active = waiting_terminate m ∷ st.top ∷ st.frames in HandlerFits p m active → let next = in_handler p m st in
+      StepsTo (code_of p.unit) 2 st next × (next.world.items ≡ st.world.items) × Reaches image (length (linear_code (shape p n) at.operation) + 9 + entry_turns p m) w [] (λ u. Matches (opened p m st.world.calls (frame_for p m active)) next u)
   pub aborts : (image : Image) (pick : ℕ → ℕ) (k : ℕ) (p : Plan) (n : ℕ) (st : State) (w : abi.World) → Matches p st w → (at : AtTerminating image p n st) → (st.world.ending ≡ true) ⊎ (st.world.installed.terminate_handler ≡ None) →
       length (linear_code (shape p n) at.operation) + 10 ≤ k → LinearAborts p 3 st × RunAborts image pick k w
   pub aborts_behind : (image : Image) (pick : ℕ → ℕ) (k : ℕ) (p : Plan) (n : ℕ) (st middle : State) (waiting : Activation) (fs : List Activation) (r : Option ℕ) (w : abi.World) → Matches p st w → StepAt p st middle n (return r) →
-      st.frames ≡ waiting ∷ fs → waiting.function ≡ terminating → ResultStands p n st.top.frame r → 6 ≤ k → LinearAborts p 2 st × RunAborts image pick k w
+      st.frames ≡ waiting ∷ fs → waiting.function ≡ terminating → ResultStands p n st.top.frame r → length (linear_code (shape p n) (return r)) + 2 ≤ k → LinearAborts p 2 st × RunAborts image pick k w

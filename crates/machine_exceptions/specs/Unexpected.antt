@@ -15,12 +15,14 @@ use Rattle.machine_forms.specs.Routine.{op_word}
 use Rattle.machine_pieces.specs.Standing.{address}
 use Rattle.machine_pieces.specs.Frames.{IntAt, AddressAt}
 use Rattle.machine_pieces.specs.Turning.{Reaches}
+use Rattle.machine_pieces.specs.Keeping.{saved_of}
 use Rattle.machine_stubs.specs.Stretches.{stub_word}
 use Rattle.machine_stubs.specs.CallUnexpected.{frame, stopped_slot, list_slot}
 use Rattle.machine_simulation.specs.Plan.{Plan, function, shape, routine, first_word, setting}
 use Rattle.machine_simulation.specs.Exceptions.{live_in}
 use Rattle.machine_simulation.specs.Matches.{MemoryMatches, RuntimeMatches, Matches}
 use Rattle.machine_simulation.specs.Objects.{HoldsObject}
+use Rattle.machine_simulation.specs.KeptCalls.{RegistersMatch}
 use Rattle.machine_exceptions.specs.Makes.{IsWordSlot}
 
 -- a call of a compiled function is at the operation, and the slots hold a live exception and the selector of the list that stops it
@@ -42,13 +44,15 @@ in_unexpected n o s st = record {
 }
 
 -- The hart is at the first word of call_unexpected, and the slots of its frame, which will be below sp, hold the object's address and the selector;
--- the frames of the calls, and what the runtime keeps, are those that they were. It returns to the word behind the operation.
+-- the frames of the calls, the registers of kept variables, and what the runtime keeps, are
+-- those that they were. It returns to the word behind the operation.
 pub record CallsUnexpected (p : Plan) (n o s e back : ℕ) (z : ℤ) (st : State) (v : abi.World) : Type 0 where
   pub pc : v.hart.pc ≡ stub_word p.base call_unexpected 0
   pub registers : length v.hart.regs ≡ 32
   pub returns : x v.hart ra < 2 ^ 64
   pub returns_to : x v.hart ra ≡ address (setting p n).ground (first_word p n + op_word (routine p n) st.top.place + length (linear_code (shape p n) (unexpected o s)))
   pub memory : MemoryMatches p n st.top.frame st.frames st.world v.hart.memory (x v.hart sp) back
+  pub kept : RegistersMatch p n st.top.frame st.frames st.world v.hart.memory (x v.hart sp) (saved_of v.hart)
   pub runtime : RuntimeMatches p st.frames st.world v
   pub stopped : AddressAt v.hart.memory (x v.hart sp - frame + stopped_slot) (p.at (of_exception e))
   pub list : IntAt v.hart.memory (x v.hart sp - frame + list_slot) z

@@ -1,13 +1,14 @@
 -- How many words the operations that pay for turns have at least.
-use Rattle.std.proofs.Common.{◌≡◌, ℕ, ◌<◌, true, List, [], ◌∷◌, ◌++◌, length, length-append, arith}
+use Rattle.std.proofs.Common.{◌≡◌, ℕ, ◌<◌, true, Option, None, Some, List, [], ◌∷◌, ◌++◌, length, length-append, arith}
 use Rattle.region_forms.specs.Form.{Arguments, defined, builtin, no_arguments, Place, number, load, unary, binary, call_value, Op, evaluate, store, bind, call, construct, destroy, make, throw, rethrow, enter, leave}
 use Rattle.linear_forms.specs.Linear.{LinearOp, plain, label, jump, jump_zero, pad, jump_filter, free, resume, unexpected, return}
 use Rattle.linear_forms.specs.Stub.{compiled, StubOp, leave_newest, destroy_held, call_held, begin_unexpected, check_unexpected, construct_bad, terminate_for, abort, linear, runtime}
 use Rattle.linear_forms.specs.Pace.{op_pays, linear_pays, stub_pays}
 use Rattle.machine_forms.specs.CallCode.{arguments_passed, call_code, function_called, passed, value_given}
 use Rattle.machine_forms.specs.LinearCode.{linear_code}
-use Rattle.machine_forms.specs.OperationCode.{called_at, op_code}
-use Rattle.machine_forms.specs.Piece.{Piece, jump_to}
+use Rattle.machine_forms.specs.OperationCode.{called_at, op_code, value_stored}
+use Rattle.machine_forms.specs.KeptCode.{copied, root_register}
+use Rattle.machine_forms.specs.Piece.{Piece, instruction, jump_to}
 use Rattle.machine_forms.specs.PlaceCode.{place_address, place_stored}
 use Rattle.machine_forms.specs.Registers.{a0, register}
 use Rattle.machine_forms.specs.Shape.{Shape}
@@ -28,6 +29,12 @@ module _ (f : Shape) where
   called_words : (p : Place) (n : ℕ) (args : Arguments) → 0 < length (called_at f p n args)
   called_words p n args = with_last (place_address f a0 p ++ passed a0 0 ∷ arguments_passed f 1 args) (function_called (compiled n)) (omega arith)
 
+  stored_words : (p : Place) (n : ℕ) (args : Arguments) (r : Option ℕ) → 0 < length (value_stored f r p (call_value (defined n) args))
+  stored_words p n args None =
+      with_first (call_code f (defined n) args ++ value_given (defined n)) (place_stored f (register 0) (register 1) p)
+      (with_first (call_code f (defined n) args) (value_given (defined n)) (call_words n args))
+  stored_words p n args (Some rd) = with_last (call_code f (defined n) args ++ value_given (defined n)) (instruction (copied rd (register 0)) ∷ []) (omega arith)
+
   op_words : (o : Op) → op_pays o ≡ true → 0 < length (op_code f o)
   op_words (evaluate (call_value (defined n) args)) h = call_words n args
   op_words (evaluate (call_value (builtin b) args)) h = absurd (cc h)
@@ -35,9 +42,7 @@ module _ (f : Shape) where
   op_words (evaluate (load p)) h = absurd (cc h)
   op_words (evaluate (unary o v)) h = absurd (cc h)
   op_words (evaluate (binary o v w)) h = absurd (cc h)
-  op_words (store p (call_value (defined n) args)) h =
-      with_first (call_code f (defined n) args ++ value_given (defined n)) (place_stored f (register 0) (register 1) p)
-      (with_first (call_code f (defined n) args) (value_given (defined n)) (call_words n args))
+  op_words (store p (call_value (defined n) args)) h = stored_words p n args (root_register f p.root)
   op_words (store p (call_value (builtin b) args)) h = absurd (cc h)
   op_words (store p (number z)) h = absurd (cc h)
   op_words (store p (load q)) h = absurd (cc h)

@@ -9,6 +9,8 @@ use Rattle.meaning_forms.proofs.Trees.{nm, fn, cl, ck}
 use Rattle.region_forms.specs.Layout.{layout_of}
 use Rattle.region_forms.specs.LowerProgram.{regions_of}
 use Rattle.linear_forms.specs.Unit.{unit_of}
+use Rattle.machine_forms.specs.Kept.{kept_slots}
+use Rattle.machine_forms.specs.Leaf.{is_leaf}
 use Rattle.machine_forms.specs.Emitted.{emitted_of, emitted_stubs}
 
 -- start has 4 words, terminate 8, end_catch 28, call_unexpected 60
@@ -39,5 +41,5 @@ words : take 20 (emitted_of (unit_of (regions_of first (layout_of first)))).code
     0x00000297 ∷ 0x00828067 ∷ 0xfe010113 ∷ 0x00113423 ∷ 0x700012b7 ∷ 0x00517663 ∷ 0x01100893 ∷ 0x00000073 ∷ 0x00500513 ∷
     0x00100893 ∷ 0x00000073 ∷ 0x00300513 ∷ 0x00a12c23 ∷ 0x00c0006f ∷ 0x00000513 ∷ 0x00a12c23 ∷ 0x01812503 ∷ 0x00813083 ∷
     0x02010113 ∷ 0x00008067 ∷ []
-unfolding first
+unfolding first kept_slots is_leaf
 words = refl

@@ -9,12 +9,12 @@ use Rattle.machine_forms.specs.Registers.{ra, sp, register}
 use Rattle.machine_forms.specs.Piece.{entry, Piece, instruction, upper_part, jump_rest}
 use Rattle.machine_forms.specs.Shape.{Shape}
 use Rattle.machine_forms.specs.PlaceCode.{place_address, target_address}
-use Rattle.machine_forms.specs.ValueCode.{value_code}
+use Rattle.machine_forms.specs.ValueCode.{read_in, brought, value_code, operand}
 use Rattle.machine_forms.specs.RuntimeCall.{builtin_call, builtin_value}
 
 -- an argument in the k-th register
 abbrev pub argument_code : Shape → ℕ → Argument → List Piece
-argument_code f k (int_argument v) = value_code f k v
+argument_code f k (int_argument v) = value_code f (register k) k v
 argument_code f k (address_argument p) = place_address f (register k) p
 argument_code f k (handler_argument n) = target_address (register k) (entry (compiled n))
 
@@ -22,10 +22,15 @@ argument_code f k (handler_argument n) = target_address (register k) (entry (com
 abbrev pub passed : (value i : ℕ) → Piece
 passed value i = instruction (Sd sp value (immediate (negsuc (8 * i + 7))))
 
+-- the i-th argument is passed: an int from where it is read, anything else from the first register
+abbrev pub argument_passed : Shape → ℕ → Argument → List Piece
+argument_passed f i (int_argument v) = brought (operand f v) 0 ++ passed (read_in (operand f v) 0) i ∷ []
+argument_passed f i a = argument_code f 0 a ++ passed (register 0) i ∷ []
+
 -- arguments are passed, from the i-th on
 abbrev pub arguments_passed : Shape → ℕ → Arguments → List Piece
 arguments_passed f i no_arguments = []
-arguments_passed f i (argument_then a args) = argument_code f 0 a ++ passed (register 0) i ∷ arguments_passed f (i + 1) args
+arguments_passed f i (argument_then a args) = argument_passed f i a ++ arguments_passed f (i + 1) args
 
 -- arguments in registers, from the k-th on
 abbrev pub arguments_held : Shape → ℕ → Arguments → List Piece

@@ -7,34 +7,46 @@
 -- So every distance is known before any address is, and does not depend on how long the unit's code is. Whoever links a unit writes records
 -- and globals there.
 use Rattle.std.specs.Prelude.{ℕ, ℤ, pos, ◌+◌, ◌*◌, ◌-ℤ◌, List, [], ◌∷◌, ◌++◌, map, take, length}
+use Rattle.eh_bytes.specs.declared.frames.FrameMove.{FrameMove}
 use Rattle.eh_bytes.specs.declared.unit.TypeRow.{TypeRow as ListedType}
 use Rattle.eh_bytes.specs.Listed.{ListedUnit}
 use Rattle.region_forms.specs.Form.{TypeRow}
 use Rattle.linear_forms.specs.Linear.{FunctionCode, UnitCode}
 use Rattle.linear_forms.specs.Tables.{label_place}
 use Rattle.linear_forms.specs.Stub.{Function, compiled}
-use Rattle.machine_forms.specs.Registers.{zero_register, t0}
+use Rattle.machine_forms.specs.Registers.{zero_register, t0, saved_registers}
 use Rattle.machine_forms.specs.Piece.{Target, entry, unit_entry, type_record, global_at, Piece, upper_part, jump_rest, words_from}
 use Rattle.machine_forms.specs.Shape.{Shape, prologue, frame_moves}
+use Rattle.machine_forms.specs.Kept.{kept_slots}
+use Rattle.machine_forms.specs.Leaf.{is_leaf}
+use Rattle.machine_forms.specs.KeptCode.{saves, save_moves}
 use Rattle.machine_forms.specs.LinearCode.{linear_code}
 use Rattle.machine_forms.specs.Routine.{Routine, all_words, routines_code, listed_routines}
 use Rattle.machine_forms.specs.StubCode.{stub_first, stub_words, stub_routines}
 
 -- the frame of a function
 abbrev pub shape_of : FunctionCode → Shape
-shape_of g = record { slots = g.slots; size = g.frame }
+shape_of g = record { slots = g.slots; size = g.frame; kept = kept_slots g; leaf = is_leaf g }
+
+-- the beginning of a function: its prologue, then its kept variables
+abbrev pub function_front : Shape → (parameters : ℕ) → List Piece
+function_front f parameters = prologue f ++ saves f parameters saved_registers f.kept
+
+-- the changes of its frame
+abbrev pub function_moves : Shape → (parameters : ℕ) → List FrameMove
+function_moves f parameters = frame_moves f ++ save_moves f parameters (length (prologue f)) saved_registers f.kept
 
 -- a function as code
 abbrev pub function_routine : FunctionCode → Routine
 function_routine g = record {
   name = g.name;
-  front = prologue (shape_of g);
+  front = function_front (shape_of g) g.parameters;
   blocks = map (linear_code (shape_of g)) g.ops;
   label_at = λ l. label_place g.ops l 0;
   sites = g.sites;
   types = g.types;
   lists = g.lists;
-  moves = frame_moves (shape_of g);
+  moves = function_moves (shape_of g) g.parameters;
 }
 
 -- the functions of a unit as code

@@ -3,6 +3,9 @@ pub mod Registers
 pub mod Piece
 pub mod RuntimeCall
 pub mod Shape
+pub mod Kept
+pub mod Leaf
+pub mod KeptCode
 pub mod PlaceCode
 pub mod ValueCode
 pub mod CallCode
@@ -13,4 +16,5 @@ pub mod StubCode
 pub mod Emitted
 pub mod Bounds
 pub mod Laws
+pub mod KeptLaws
 pub mod Paying

@@ -4,9 +4,10 @@ use Rattle.std.specs.Prelude.{ℕ, List, [], ◌∷◌, ◌++◌, Option, Some, 
 use Rattle.rv64_isa.specs.declared.instr.Instr.TheVariants.{Bne}
 use Rattle.linear_forms.specs.Linear.{LinearOp, plain, label, jump, jump_zero, pad, jump_filter, free, resume, unexpected, return}
 use Rattle.linear_forms.specs.Stub.{call_unexpected}
-use Rattle.machine_forms.specs.Registers.{a0, a1}
+use Rattle.machine_forms.specs.Registers.{a0, a1, saved_registers}
 use Rattle.machine_forms.specs.Piece.{Piece, instruction, jump_to}
 use Rattle.machine_forms.specs.Shape.{Shape, epilogue}
+use Rattle.machine_forms.specs.KeptCode.{restores}
 use Rattle.machine_forms.specs.PlaceCode.{slot_loaded, slot_stored, int_loaded, number_set}
 use Rattle.machine_forms.specs.ValueCode.{test_code}
 use Rattle.machine_forms.specs.CallCode.{passed, function_called}
@@ -34,4 +35,4 @@ linear_code f (free s) = slot_loaded f a0 s ∷ runtime_call free_call
 linear_code f (resume s) = slot_loaded f a0 s ∷ runtime_call resume_call
 linear_code f (unexpected o s) =
     slot_loaded f a0 o ∷ passed a0 0 ∷ slot_loaded f a0 s ∷ passed a0 1 ∷ function_called call_unexpected
-linear_code f (return result) = result_set f result ++ epilogue f
+linear_code f (return result) = result_set f result ++ restores f saved_registers f.kept ++ epilogue f

@@ -7,6 +7,7 @@ use Rattle.machine_forms.specs.Immediate.{immediate, is_small, upper, lower}
 use Rattle.machine_forms.specs.Registers.{zero_register, sp}
 use Rattle.machine_forms.specs.Piece.{Target, global_at, Piece, instruction, upper_part, add_rest, load_rest, store_rest}
 use Rattle.machine_forms.specs.Shape.{Shape, slot_offset}
+use Rattle.machine_forms.specs.KeptCode.{register_of, int_read}
 
 -- an offset from sp into a slot
 abbrev pub within : Shape → ℕ → ℕ → ℕ
@@ -21,7 +22,7 @@ slot_stored f value s = instruction (Sd sp value (within f s 0))
 
 -- a register gets the int of a slot
 abbrev pub int_loaded : Shape → (rd s : ℕ) → Piece
-int_loaded f rd s = instruction (Lw rd sp (within f s 0))
+int_loaded f rd s = instruction (int_read (register_of f.kept s) rd (within f s 0))
 
 -- a register gets the address of a target
 abbrev pub target_address : ℕ → Target → List Piece
@@ -31,7 +32,7 @@ target_address rd t = upper_part rd t ∷ add_rest rd t ∷ []
 abbrev pub added : ℕ → ℕ → List Piece
 added rd n = if n == 0 then [] else instruction (Addi rd rd (immediate (pos n))) ∷ []
 
--- a register gets the address so many bytes behind where a root is
+-- a register gets the address so many bytes behind where a root is, which is no kept variable
 abbrev pub root_address : Shape → ℕ → Root → ℕ → List Piece
 root_address f rd (in_slot s) n = instruction (Addi rd sp (within f s n)) ∷ []
 root_address f rd (through s) n = slot_loaded f rd s ∷ added rd n
@@ -39,11 +40,11 @@ root_address f rd (in_global g) n = target_address rd (global_at g n)
 
 -- a register gets the int there
 abbrev pub root_loaded : Shape → ℕ → Root → ℕ → List Piece
-root_loaded f rd (in_slot s) n = instruction (Lw rd sp (within f s n)) ∷ []
+root_loaded f rd (in_slot s) n = instruction (int_read (register_of f.kept s) rd (within f s n)) ∷ []
 root_loaded f rd (through s) n = slot_loaded f rd s ∷ instruction (Lw rd rd (immediate (pos n))) ∷ []
 root_loaded f rd (in_global g) n = upper_part rd (global_at g n) ∷ load_rest rd (global_at g n) ∷ []
 
--- the int in a register is written there, by means of another register
+-- the int in a register is written there, by means of another register; what is kept is never written so
 abbrev pub root_stored : Shape → (value base : ℕ) → Root → ℕ → List Piece
 root_stored f value base (in_slot s) n = instruction (Sw sp value (within f s n)) ∷ []
 root_stored f value base (through s) n = slot_loaded f base s ∷ instruction (Sw base value (immediate (pos n))) ∷ []

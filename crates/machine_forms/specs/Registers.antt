@@ -1,4 +1,4 @@
--- The registers that code uses, by the names of the RISC-V calling convention. None of those that a call keeps is used but sp and ra.
+-- The registers that code uses, by the names of the RISC-V calling convention.
 use Rattle.std.specs.Prelude.{ℕ, List, [], ◌∷◌, slice_get, unwrap_or}
 
 abbrev pub zero_register : ℕ
@@ -30,6 +30,10 @@ a7 = 17
 abbrev pub value_registers : List ℕ
 value_registers = 10 ∷ 11 ∷ 12 ∷ 13 ∷ 14 ∷ 15 ∷ 16 ∷ 17 ∷ 5 ∷ 6 ∷ 7 ∷ 28 ∷ 29 ∷ 30 ∷ 31 ∷ []
 
--- the k-th of them
+-- the registers of kept variables, which a call keeps, in the order in which they are taken: s1 to s10
+abbrev pub saved_registers : List ℕ
+saved_registers = 9 ∷ 18 ∷ 19 ∷ 20 ∷ 21 ∷ 22 ∷ 23 ∷ 24 ∷ 25 ∷ 26 ∷ []
+
+-- the k-th register for values
 abbrev pub register : ℕ → ℕ
 register k = unwrap_or (slice_get value_registers k) zero_register

@@ -1,5 +1,5 @@
 -- A frame is taken and given back, and jumps and calls go where they say.
-use Rattle.std.proofs.Common.{◌≡◌, ◌≢◌, ◌∙◌, refl, ap, subst, arith, ℕ, zero, suc, ◌+◌, ◌-◌, ◌*◌, ◌/◌, ◌%◌, ◌^◌, ◌<◌, ◌≤◌, ◌==◌, ℤ, pos, negsuc, true, false, List, [], ◌∷◌, length}
+use Rattle.std.proofs.Common.{◌≡◌, ◌≢◌, ◌∙◌, refl, sym, ap, subst, arith, ℕ, zero, suc, ◌+◌, ◌-◌, ◌*◌, ◌/◌, ◌%◌, ◌^◌, ◌<◌, ◌≤◌, ◌==◌, ℤ, pos, negsuc, Bool, true, false, List, [], ◌∷◌, length}
 use Rattle.std.specs.Prelude.{◌+ℤ◌, ◌-ℤ◌, not, nat_lt}
 use Rattle.std.proofs.lemmas.Bool.{eq-eqb, le-ltb, lt-ltb}
 use Rattle.std.proofs.lemmas.Bool.Decides.{nat_tests}
@@ -18,7 +18,7 @@ use Rattle.machine_pieces.specs.Standing.{Ground, address, PieceAt, PiecesAt}
 use Rattle.machine_pieces.specs.Memory.{MayWrite}
 use Rattle.machine_pieces.specs.Executes.{Executes}
 use Rattle.machine_pieces.specs.Frames.{Reached}
-use Rattle.machine_pieces.specs.Transfers.{HasRoom, LacksRoom, Overflows, HasFrame, Enters, Leaves, Jumps, Calls}
+use Rattle.machine_pieces.specs.Transfers.{lowest_sp, entry_steps, HasRoom, LacksRoom, Overflows, HasFrame, Enters, Leaves, Jumps, Calls}
 use Rattle.machine_pieces.specs.Laws.{ControlGoes}
 use Rattle.machine_pieces.proofs.Routines.{op_stands}
 use Rattle.machine_pieces.proofs.Storing.{stores_done, value_written}
@@ -136,17 +136,16 @@ branch_far g here s at aligned below =
 branch_passed : (g : Ground) (here : ℕ) (s : State) (y : Piece) → PieceAt s.memory g here y → s.pc ≡ address g here → branches s false 6 ≡ (Done, state (address g (here + 1)) s.regs s.memory)
 branch_passed g here s y h at = ap (λ pc. (Done, state pc s.regs s.memory)) (next_is g here y s h at)
 
--- the frame is taken, and the end of the lowest 4 KiB is in t0
+-- the frame is taken
 record Taken (g : Ground) (here : ℕ) (f : Shape) (s : State) : Type 0 where
   after : State
-  runs : Executes 3 s after
-  pc : after.pc ≡ address g (here + 3)
-  rest : PiecesAt after.memory g (here + 3) (instruction (Bgeu sp t0 6) ∷ runtime_call stack_call)
-  limit : x after t0 ≡ 0x70001000
+  runs : Executes 2 s after
+  pc : after.pc ≡ address g (here + 2)
+  rest : PiecesAt after.memory g (here + 2) (stack_tested f.leaf)
   stack : x after sp ≡ x s sp - f.size
   memory : after.memory ≡ with_value s.memory (x s sp - f.size + return_offset) 8 (x s ra)
   registers : length after.regs ≡ 32
-  kept : (r : ℕ) → r ≢ sp → r ≢ t0 → x after r ≡ x s r
+  kept : (r : ℕ) → r ≢ sp → x after r ≡ x s r
 
 frame_takes : (g : Ground) (here : ℕ) (f : Shape) (s : State) → PiecesAt s.memory g here (prologue f) → s.pc ≡ address g here → length s.regs ≡ 32 → (f.size < 2 ^ 11) × (f.size % 8 ≡ 0) × (return_offset + 8 ≤ f.size) →
     x s sp % 8 ≡ 0 → f.size ≤ x s sp → x s sp < 2 ^ 63 → MayWrite s.memory (x s sp - f.size + return_offset) 8 → Taken g here f s
@@ -170,43 +169,96 @@ frame_takes g here f s code at regs size aligned above below may =
     = piece_done g (here + 1) (instruction (Sd sp ra return_offset)) one code.1.0 refl ∙ sd_done sp ra return_offset one ∙ ap (λ a. stores one 8 a (x one ra)) there ∙ ap (stores one 8 place) ra1
     ∙ stores_done one 8 place back (eq-eqb (place % 8) 0 (omega (arith, aligned, even, above))) may
     ∙ ap (λ pc. (Done, state pc one.regs memory)) (next_is g (here + 1) (instruction (Sd sp ra return_offset)) one code.1.0 refl) in
-    let rest = pieces_still s.memory memory g (here + 1 + 1) (stack_tested) (value_written s.memory place 8 back may) code.1.1 in
-    let three : State = set_state g (here + 1 + 1) two t0 0x70001000 in
-    let step3 : step_of two ≡ (Done, three) = sets_at g (here + 1 + 1) t0 0x70001000 (instruction (Lui t0 lowest_page)) two rest.0 refl (lui_done t0 lowest_page two) in
-    let same : here + 1 + 1 + 1 ≡ here + 3 = omega arith in
+    let rest = pieces_still s.memory memory g (here + 1 + 1) (stack_tested f.leaf) (value_written s.memory place 8 back may) code.1.1 in
+    let same : here + 1 + 1 ≡ here + 2 = omega arith in
+    record {
+      after = two;
+      runs = step_then 1 s one two step1 (one_step one two step2);
+      pc = ap (address g) same;
+      rest = subst (λ k. PiecesAt memory g k (stack_tested f.leaf)) same rest;
+      stack = sp1;
+      memory = refl;
+      registers = set_length s.regs sp low ∙ regs;
+      kept = λ r not_sp. read_other s.regs sp r low not_sp;
+    }
+
+-- then the end of the lowest 4 KiB is in t0
+record Looks (g : Ground) (here : ℕ) (f : Shape) (s : State) : Type 0 where
+  after : State
+  runs : Executes 3 s after
+  pc : after.pc ≡ address g (here + 3)
+  rest : PiecesAt after.memory g (here + 3) (instruction (Bgeu sp t0 6) ∷ runtime_call stack_call)
+  limit : x after t0 ≡ 0x70001000
+  stack : x after sp ≡ x s sp - f.size
+  memory : after.memory ≡ with_value s.memory (x s sp - f.size + return_offset) 8 (x s ra)
+  registers : length after.regs ≡ 32
+  kept : (r : ℕ) → r ≢ sp → r ≢ t0 → x after r ≡ x s r
+
+frame_looks : (g : Ground) (here : ℕ) (f : Shape) (s : State) → f.leaf ≡ false → Taken g here f s → Looks g here f s
+frame_looks g here f s e h =
+    let u : State = h.after in
+    let rest : PiecesAt u.memory g (here + 2) (stack_tested false) = subst (λ b. PiecesAt u.memory g (here + 2) (stack_tested b)) e h.rest in
+    let three : State = set_state g (here + 2) u t0 0x70001000 in
+    let step : step_of u ≡ (Done, three) = sets_at g (here + 2) t0 0x70001000 (instruction (Lui t0 lowest_page)) u rest.0 h.pc (lui_done t0 lowest_page u) in
+    let same : here + 2 + 1 ≡ here + 3 = omega arith in
     record {
       after = three;
-      runs = step_then 2 s one three step1 (step_then 1 one two three step2 (one_step two three step3));
+      runs = steps_then 2 1 s u three h.runs (one_step u three step);
       pc = ap (address g) same;
-      rest = subst (λ k. PiecesAt memory g k (instruction (Bgeu sp t0 6) ∷ runtime_call stack_call)) same rest.1;
-      limit = read_same one.regs t0 0x70001000 (not_zero t0 (omega arith)) (omega (arith, regs, set_length s.regs sp low));
-      stack = read_other one.regs t0 sp 0x70001000 (λ e. absurd (omega (arith, e))) ∙ sp1;
-      memory = refl;
-      registers = set_length one.regs t0 0x70001000 ∙ set_length s.regs sp low ∙ regs;
-      kept = λ r not_sp not_t0. kept_twice s.regs sp low t0 0x70001000 r not_sp not_t0;
+      rest = subst (λ k. PiecesAt u.memory g k (instruction (Bgeu sp t0 6) ∷ runtime_call stack_call)) same rest.1;
+      limit = read_same u.regs t0 0x70001000 (not_zero t0 (omega arith)) (omega (arith, h.registers));
+      stack = read_other u.regs t0 sp 0x70001000 (λ e. absurd (omega (arith, e))) ∙ h.stack;
+      memory = h.memory;
+      registers = set_length u.regs t0 0x70001000 ∙ h.registers;
+      kept = λ r not_sp not_t0. read_other u.regs t0 r 0x70001000 not_t0 ∙ h.kept r not_sp;
     }
 
 steps_behind : (s u t : State) → Executes 3 s u → step_of u ≡ (Done, t) → Executes 4 s t
 steps_behind s u t first last = steps_then 3 1 s u t first (one_step u t last)
 
+-- how far up sp is
+lowest_by : (leaf : Bool) (size stack : ℕ) → size < 2 ^ 11 → lowest_sp leaf size ≤ stack → size ≤ stack
+lowest_by true size stack small h = omega (arith, small, h)
+lowest_by false size stack small h = omega (arith, h)
+
 pub prologue_enters : (g : Ground) (here : ℕ) (f : Shape) (s : State) → PiecesAt s.memory g here (prologue f) → s.pc ≡ address g here → HasRoom f s → Enters g here f s
-prologue_enters g here f s code at room =
-    let taken = frame_takes g here f s code at room.registers room.size room.aligned (omega (arith, room.above)) room.below room.may in
-    let u : State = taken.after in
-    let test : not (nat_lt (x u sp) (x u t0)) ≡ true = enough (x u sp) (x u t0) (omega (arith, taken.limit, taken.stack, room.above)) in
-    let last : State = state (address g (here + 3 + 3)) u.regs u.memory in
-    let step : step_of u ≡ (Done, last)
-    = piece_done g (here + 3) (instruction (Bgeu sp t0 6)) u taken.rest.0 taken.pc ∙ bgeu_done sp t0 6 u ∙ ap (λ c. branches u c 6) test
-    ∙ branch_far g (here + 3) u taken.pc (taken.rest.0.word.aligned) (omega (arith, taken.rest.1.1.0.word.below)) in
-    record {
-      after = last;
-      runs = steps_behind s u last taken.runs step;
-      pc = omega arith;
-      memory = taken.memory;
-      registers = taken.registers;
-      stack = taken.stack;
-      kept = taken.kept;
-    }
+prologue_enters g here f s code at room = by f.leaf refl
+  where
+    by : (b : Bool) → f.leaf ≡ b → Enters g here f s
+    by true e =
+        let taken = frame_takes g here f s code at room.registers room.size room.aligned (lowest_by f.leaf f.size (x s sp) room.size.0 room.above) room.below room.may in
+        let words : length (stack_tested f.leaf) ≡ 0 = ap (λ b. length (stack_tested b)) e in
+        let count : here + 2 ≡ here + length (prologue f) = omega (arith, words) in
+        record {
+          after = taken.after;
+          runs = subst (λ b. Executes (entry_steps b) s taken.after) (sym e) taken.runs;
+          pc = taken.pc ∙ ap (address g) count;
+          memory = taken.memory;
+          registers = taken.registers;
+          stack = taken.stack;
+          kept = λ r not_sp not_t0. taken.kept r not_sp;
+        }
+    by false e =
+        let first = frame_takes g here f s code at room.registers room.size room.aligned (lowest_by f.leaf f.size (x s sp) room.size.0 room.above) room.below room.may in
+        let taken = frame_looks g here f s e first in
+        let u : State = taken.after in
+        let above : lowest_sp false f.size ≤ x s sp = subst (λ b. lowest_sp b f.size ≤ x s sp) e room.above in
+        let test : not (nat_lt (x u sp) (x u t0)) ≡ true = enough (x u sp) (x u t0) (omega (arith, taken.limit, taken.stack, above)) in
+        let last : State = state (address g (here + 3 + 3)) u.regs u.memory in
+        let step : step_of u ≡ (Done, last)
+        = piece_done g (here + 3) (instruction (Bgeu sp t0 6)) u taken.rest.0 taken.pc ∙ bgeu_done sp t0 6 u ∙ ap (λ c. branches u c 6) test
+        ∙ branch_far g (here + 3) u taken.pc (taken.rest.0.word.aligned) (omega (arith, taken.rest.1.1.0.word.below)) in
+        let words : length (stack_tested f.leaf) ≡ 4 = ap (λ b. length (stack_tested b)) e in
+        let count : here + 3 + 3 ≡ here + length (prologue f) = omega (arith, words) in
+        record {
+          after = last;
+          runs = subst (λ b. Executes (entry_steps b) s last) (sym e) (steps_behind s u last taken.runs step);
+          pc = ap (address g) count;
+          memory = taken.memory;
+          registers = taken.registers;
+          stack = taken.stack;
+          kept = taken.kept;
+        }
 
 -- the stack test does not pass where too little is left
 too_little : (a b : ℕ) → a < b → not (nat_lt a b) ≡ false
@@ -214,7 +266,8 @@ too_little a b less = ap not (lt-ltb a b less)
 
 pub prologue_overflows : (g : Ground) (here : ℕ) (f : Shape) (s : State) → PiecesAt s.memory g here (prologue f) → s.pc ≡ address g here → LacksRoom f s → Overflows g here f s
 prologue_overflows g here f s code at room =
-    let taken = frame_takes g here f s code at room.registers room.size room.aligned (omega (arith, room.above)) (omega (arith, room.short, room.size.0)) room.may in
+    let first = frame_takes g here f s code at room.registers room.size room.aligned (omega (arith, room.above)) (omega (arith, room.short, room.size.0)) room.may in
+    let taken = frame_looks g here f s room.looks first in
     let u : State = taken.after in
     let test : not (nat_lt (x u sp) (x u t0)) ≡ false = too_little (x u sp) (x u t0) (omega (arith, taken.limit, taken.stack, room.above, room.short)) in
     let last : State = state (address g (here + 3 + 1)) u.regs u.memory in

@@ -5,6 +5,7 @@ pub mod Stepping
 pub mod Numbers
 pub mod Registers
 pub mod Going
+pub mod Keeping
 pub mod Places
 pub mod Branching
 pub mod Operators
@@ -15,4 +16,8 @@ pub mod Routines
 pub mod Turning
 mod Calling
 mod Writing
+pub mod Restoring
+pub mod Saving
+pub mod Written
+pub mod Outward
 mod Addressing

@@ -48,6 +48,15 @@ pub set_large : (z : ℤ) → IsInt z → addw (sign_extended 32 (2 ^ 12 * upper
 set_large (pos n) h = let small = small_pos n h in grind (arith, nat_tests)
 set_large (negsuc n) h = let small = small_neg n h in grind (arith, nat_tests)
 
+-- a small number is an int, and so it is in an instruction
+pub small_int : (z : ℤ) → is_small z ≡ true → IsInt z
+small_int (pos n) h = grind (arith, nat_tests, h)
+small_int (negsuc n) h = grind (arith, nat_tests, h)
+
+pub small_field : (z : ℤ) → is_small z ≡ true → sign_extended 12 (immediate z) ≡ extended z
+small_field (pos n) h = grind (arith, nat_tests, h)
+small_field (negsuc n) h = grind (arith, nat_tests, h)
+
 -- ---- order
 
 pub signed_extended : (z : ℤ) → IsInt z → signed (extended z) ≡ z

@@ -18,20 +18,20 @@ read_set regs n m v ne = rw (get_or-set_other regs n m v 0 ne) refl
 pub read_other : (regs : List ℕ) (n m v : ℕ) → m ≢ n → reg_of (with_reg regs n v) m ≡ reg_of regs m
 read_other regs n m v ne = cond_both (n == 0) regs (slice_set regs n v) (λ r. reg_of r m ≡ reg_of regs m) (λ e. refl) (λ e. read_set regs n m v ne)
 
--- the place of a register among those for values
-places : List ℕ
+-- the place of a register among those for values, or 15
+unfoldable pub places : List ℕ
 places = 15 ∷ 15 ∷ 15 ∷ 15 ∷ 15 ∷ 8 ∷ 9 ∷ 10 ∷ 15 ∷ 15 ∷ 0 ∷ 1 ∷ 2 ∷ 3 ∷ 4 ∷ 5 ∷ 6 ∷ 7 ∷ 15 ∷ 15 ∷ 15 ∷ 15 ∷ 15 ∷ 15 ∷ 15 ∷ 15 ∷ 15 ∷ 15 ∷ 11 ∷ 12 ∷ 13 ∷ 14 ∷ []
 
-place_of : ℕ → ℕ
-place_of r = slice_index places r
+unfoldable pub value_place : ℕ → ℕ
+value_place r = slice_index places r
 
-found : (k : ℕ) → k < 15 → place_of (register k) ≡ k
-unfolding places place_of
-found k small = eqb-true (place_of (register k)) k (agree_below_at (λ i. place_of (register i) == i) (λ i. true) 15 k refl small)
+pub value_found : (k : ℕ) → k < 15 → value_place (register k) ≡ k
+unfolding places value_place
+value_found k small = eqb-true (value_place (register k)) k (agree_below_at (λ i. value_place (register i) == i) (λ i. true) 15 k refl small)
 
 -- they are 15 different ones, none of which is x0, ra or sp
 pub register_distinct : (i j : ℕ) → i < 15 → j < 15 → i ≢ j → register i ≢ register j
-register_distinct i j hi hj ne e = ne (sym (found i hi) ∙ ap place_of e ∙ found j hj)
+register_distinct i j hi hj ne e = ne (sym (value_found i hi) ∙ ap value_place e ∙ value_found j hj)
 
 pub register_below : (k : ℕ) → k < 15 → register k < 32
 register_below k small = ltb-true (register k) 32 (agree_below_at (λ i. nat_lt (register i) 32) (λ i. true) 15 k refl small)

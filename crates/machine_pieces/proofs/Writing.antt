@@ -17,13 +17,13 @@ use Rattle.machine_forms.specs.PlaceCode.{within, root_stored}
 use Rattle.machine_pieces.specs.Memory.{MayWrite}
 use Rattle.machine_pieces.specs.Numbers.{extended}
 use Rattle.machine_pieces.specs.Standing.{Ground, address, PieceAt, PiecesAt}
-use Rattle.machine_pieces.specs.Going.{Goes, Stores}
+use Rattle.machine_pieces.specs.Going.{IsKept, Goes, Stores}
 use Rattle.machine_pieces.specs.Frames.{Setting, byte_of, Reached, RootFits, SlotFits, FrameHolds, Ready, location_byte}
 use Rattle.machine_pieces.specs.Laws.{PlacesAreWritten}
 use Rattle.machine_pieces.proofs.Storing.{stores_done}
 use Rattle.machine_pieces.proofs.Fetching.{piece_done}
 use Rattle.machine_pieces.proofs.Stepping.{one_step, steps_then}
-use Rattle.machine_pieces.proofs.Going.{next_is, goes_none, sets_value, kept_register}
+use Rattle.machine_pieces.proofs.Going.{next_is, goes_none, sets_value}
 use Rattle.machine_pieces.proofs.Places.{near_address, far_address, reached_from, through_address}
 
 sw_done : (base value imm : ℕ) (s : State) → done (Sw base value imm) s ≡ stores s 4 (add (x s base) (imm12 imm)) (x s value)
@@ -62,25 +62,25 @@ slot_byte t f kinds frame w memory stack address_slot s n h inside fits = omega 
 slot_byte t f kinds frame w memory stack object_slot s n h inside fits = omega (arith, h.variables s inside)
 slot_byte t f kinds frame w memory stack help_slot s n h inside fits = omega (arith, fits)
 
-slot_stores : (t : Setting) (f : Shape) (kinds : Kinds) (frame : Frame) (w : World) (j k here slot n : ℕ) (s : State) (z : ℤ) → Ready t f kinds frame w s → RootFits t f kinds frame (in_slot slot) n →
-    PiecesAt s.memory t.ground here (root_stored f (register j) (register k) (in_slot slot) n) → s.pc ≡ address t.ground here → x s (register j) ≡ extended z →
+slot_stores : (t : Setting) (f : Shape) (kinds : Kinds) (frame : Frame) (w : World) (r k here slot n : ℕ) (s : State) (z : ℤ) → Ready t f kinds frame w s → RootFits t f kinds frame (in_slot slot) n →
+    PiecesAt s.memory t.ground here (root_stored f r (register k) (in_slot slot) n) → s.pc ≡ address t.ground here → x s r ≡ extended z →
     let place = location_byte t f (x s sp) (slot_location (kinds slot) frame.call slot n) in
     place % 4 ≡ 0 → place < 2 ^ 64 → MayWrite s.memory place 4 → Stores t.ground here 1 k s place z
-slot_stores t f kinds frame w j k here slot n s z h fits code at value aligned below may =
+slot_stores t f kinds frame w r k here slot n s z h fits code at value aligned below may =
     let g : Ground = t.ground in
     let place : ℕ = location_byte t f (x s sp) (slot_location (kinds slot) frame.call slot n) in
     let is : place ≡ x s sp + (slot_offset f slot + n) = slot_byte t f kinds frame w s.memory (x s sp) (kinds slot) slot n h.holds fits.0 fits.2 in
-    let y : Piece = instruction (Sw sp (register j) (within f slot n)) in
+    let y : Piece = instruction (Sw sp r (within f slot n)) in
     let first = goes_none g here k s at h.registers in
     let target : add (x s sp) (imm12 (within f slot n)) ≡ place = near_address (x s sp) (slot_offset f slot + n) fits.1 (omega (arith, is, below)) ∙ sym is in
     let stored = then_stores g here 0 k y s place z first (subst (λ i. PieceAt s.memory g i y) (omega arith) code.0) aligned may
-    (sw_done sp (register j) (within f slot n) s ∙ ap (λ a. stores s 4 a (x s (register j))) target ∙ ap (stores s 4 place) value) in
+    (sw_done sp r (within f slot n) s ∙ ap (λ a. stores s 4 a (x s r)) target ∙ ap (stores s 4 place) value) in
     stored
 
-through_stores : (t : Setting) (f : Shape) (kinds : Kinds) (frame : Frame) (w : World) (j k here slot n : ℕ) (s : State) (z : ℤ) (b : Address) → Ready t f kinds frame w s → j < k → k < 15 →
-    RootFits t f kinds frame (through slot) n → PiecesAt s.memory t.ground here (root_stored f (register j) (register k) (through slot) n) → s.pc ≡ address t.ground here → x s (register j) ≡ extended z →
+through_stores : (t : Setting) (f : Shape) (kinds : Kinds) (frame : Frame) (w : World) (r k here slot n : ℕ) (s : State) (z : ℤ) (b : Address) → Ready t f kinds frame w s → IsKept k r → k < 15 →
+    RootFits t f kinds frame (through slot) n → PiecesAt s.memory t.ground here (root_stored f r (register k) (through slot) n) → s.pc ≡ address t.ground here → x s r ≡ extended z →
     address_in (frame.slots slot) ≡ Some b → let place = byte_of t (behind b n) in place % 4 ≡ 0 → place < 2 ^ 64 → MayWrite s.memory place 4 → Stores t.ground here 2 k s place z
-through_stores t f kinds frame w j k here slot n s z b h less inside fits code at value o aligned below may =
+through_stores t f kinds frame w r k here slot n s z b h aside inside fits code at value o aligned below may =
     let g : Ground = t.ground in
     let place : ℕ = byte_of t (behind b n) in
     let first = through_address t f kinds frame w k here slot s b h inside fits.0 fits.1 code.0 at o in
@@ -88,14 +88,14 @@ through_stores t f kinds frame w j k here slot n s z b h less inside fits code a
     let sum : byte_of t b + n ≡ place = omega arith in
     let target : add (x m (register k)) (imm12 (immediate (pos n))) ≡ place
     = ap (λ a. add a (imm12 (immediate (pos n)))) first.is ∙ near_address (byte_of t b) n fits.2 (omega (arith, sum, below)) ∙ sum in
-    let kept : x m (register j) ≡ extended z = first.goes.kept (register j) (kept_register j k less (omega (arith, less, inside))) ∙ value in
-    then_stores g here 1 k (instruction (Sw (register k) (register j) (immediate (pos n)))) s place z first.goes code.1.0 aligned may
-    (sw_done (register k) (register j) (immediate (pos n)) m ∙ ap (λ a. stores m 4 a (x m (register j))) target ∙ ap (stores m 4 place) kept)
+    let kept : x m r ≡ extended z = first.goes.kept r aside ∙ value in
+    then_stores g here 1 k (instruction (Sw (register k) r (immediate (pos n)))) s place z first.goes code.1.0 aligned may
+    (sw_done (register k) r (immediate (pos n)) m ∙ ap (λ a. stores m 4 a (x m r)) target ∙ ap (stores m 4 place) kept)
 
-global_stores : (t : Setting) (f : Shape) (kinds : Kinds) (frame : Frame) (w : World) (j k here n o : ℕ) (s : State) (z : ℤ) → Ready t f kinds frame w s → j < k → k < 15 →
-    RootFits t f kinds frame (in_global n) o → PiecesAt s.memory t.ground here (root_stored f (register j) (register k) (in_global n) o) → s.pc ≡ address t.ground here → x s (register j) ≡ extended z →
+global_stores : (t : Setting) (f : Shape) (kinds : Kinds) (frame : Frame) (w : World) (r k here n o : ℕ) (s : State) (z : ℤ) → Ready t f kinds frame w s → IsKept k r → k < 15 →
+    RootFits t f kinds frame (in_global n) o → PiecesAt s.memory t.ground here (root_stored f r (register k) (in_global n) o) → s.pc ≡ address t.ground here → x s r ≡ extended z →
     let place = t.at (of_global n) + o in place % 4 ≡ 0 → place < 2 ^ 64 → MayWrite s.memory place 4 → Stores t.ground here 2 k s place z
-global_stores t f kinds frame w j k here n o s z h less inside fits code at value aligned below may =
+global_stores t f kinds frame w r k here n o s z h aside inside fits code at value aligned below may =
     let g : Ground = t.ground in
     let rd : ℕ = register k in
     let u : Target = global_at n o in
@@ -114,37 +114,37 @@ global_stores t f kinds frame w j k here n o s z h less inside fits code at valu
     ap (λ a. add a (imm12 (lower (distance g.places (here + 1 - 1) u)))) first.is ∙ ap (λ i. add high (imm12 i)) low
     ∙ ap (λ p. add (add p (imm20 (upper d))) (imm12 (lower d))) at
     ∙ far_address (address g here) b d (omega (arith, code.0.word.below)) (omega (arith, place, below)) near.0 near.1 (reached_from g here u b reached) ∙ place in
-    let kept : x m (register j) ≡ extended z = first.goes.kept (register j) (kept_register j k less (omega (arith, less, inside))) ∙ value in
-    then_stores g here 1 k (store_rest (register j) rd u) s (b + o) z first.goes code.1.0 aligned may
-    (sw_done rd (register j) (lower (distance g.places (here + 1 - 1) u)) m ∙ ap (λ a. stores m 4 a (x m (register j))) target ∙ ap (stores m 4 (b + o)) kept)
+    let kept : x m r ≡ extended z = first.goes.kept r aside ∙ value in
+    then_stores g here 1 k (store_rest r rd u) s (b + o) z first.goes code.1.0 aligned may
+    (sw_done rd r (lower (distance g.places (here + 1 - 1) u)) m ∙ ap (λ a. stores m 4 a (x m r)) target ∙ ap (stores m 4 (b + o)) kept)
 
 -- an int in a register is written to a place, by means of a register behind it
-pub place_stores : (t : Setting) (f : Shape) (kinds : Kinds) (frame : Frame) (w : World) (j k here : ℕ) (s : State) (z : ℤ) (root : Root) (n : ℕ) (l : Location) → Ready t f kinds frame w s → j < k → k < 15 →
-    RootFits t f kinds frame root n → PiecesAt s.memory t.ground here (root_stored f (register j) (register k) root n) → s.pc ≡ address t.ground here → x s (register j) ≡ extended z →
+pub place_stores : (t : Setting) (f : Shape) (kinds : Kinds) (frame : Frame) (w : World) (r k here : ℕ) (s : State) (z : ℤ) (root : Root) (n : ℕ) (l : Location) → Ready t f kinds frame w s → IsKept k r → k < 15 →
+    RootFits t f kinds frame root n → PiecesAt s.memory t.ground here (root_stored f r (register k) root n) → s.pc ≡ address t.ground here → x s r ≡ extended z →
     root_location kinds frame root n ≡ Some l → location_byte t f (x s sp) l % 4 ≡ 0 → location_byte t f (x s sp) l < 2 ^ 64 → MayWrite s.memory (location_byte t f (x s sp) l) 4 →
-    Stores t.ground here (length (root_stored f (register j) (register k) root n)) k s (location_byte t f (x s sp) l) z
-place_stores t f kinds frame w j k here s z (in_slot slot) n l h less inside fits code at value e aligned below may =
+    Stores t.ground here (length (root_stored f r (register k) root n)) k s (location_byte t f (x s sp) l) z
+place_stores t f kinds frame w r k here s z (in_slot slot) n l h aside inside fits code at value e aligned below may =
     let same : l ≡ slot_location (kinds slot) frame.call slot n = sym (cc e) in
     subst (λ q. Stores t.ground here 1 k s (location_byte t f (x s sp) q) z) (sym same)
-    (slot_stores t f kinds frame w j k here slot n s z h fits code at value (ap (λ q. location_byte t f (x s sp) q % 4) (sym same) ∙ aligned)
+    (slot_stores t f kinds frame w r k here slot n s z h fits code at value (ap (λ q. location_byte t f (x s sp) q % 4) (sym same) ∙ aligned)
     (subst (λ q. location_byte t f (x s sp) q < 2 ^ 64) same below) (subst (λ q. MayWrite s.memory (location_byte t f (x s sp) q) 4) same may))
-place_stores t f kinds frame w j k here s z (through slot) n l h less inside fits code at value e aligned below may = by (address_in (frame.slots slot)) refl e
+place_stores t f kinds frame w r k here s z (through slot) n l h aside inside fits code at value e aligned below may = by (address_in (frame.slots slot)) refl e
   where
     by : (o : Option Address) → address_in (frame.slots slot) ≡ o → location_behind n o ≡ Some l → Stores t.ground here 2 k s (location_byte t f (x s sp) l) z
     by None o none = absurd (cc none)
     by (Some b) o some =
         let same : in_memory (behind b n) ≡ l = cc some in
         subst (λ q. Stores t.ground here 2 k s (location_byte t f (x s sp) q) z) same
-        (through_stores t f kinds frame w j k here slot n s z b h less inside fits code at value o (ap (λ q. location_byte t f (x s sp) q % 4) same ∙ aligned)
+        (through_stores t f kinds frame w r k here slot n s z b h aside inside fits code at value o (ap (λ q. location_byte t f (x s sp) q % 4) same ∙ aligned)
         (subst (λ q. location_byte t f (x s sp) q < 2 ^ 64) (sym same) below) (subst (λ q. MayWrite s.memory (location_byte t f (x s sp) q) 4) (sym same) may))
-place_stores t f kinds frame w j k here s z (in_global n) o l h less inside fits code at value e aligned below may =
+place_stores t f kinds frame w r k here s z (in_global n) o l h aside inside fits code at value e aligned below may =
     let same : in_memory (record { base = of_global n; offset = o }) ≡ l = cc e in
     subst (λ q. Stores t.ground here 2 k s (location_byte t f (x s sp) q) z) same
-    (global_stores t f kinds frame w j k here n o s z h less inside fits code at value (ap (λ q. location_byte t f (x s sp) q % 4) same ∙ aligned)
+    (global_stores t f kinds frame w r k here n o s z h aside inside fits code at value (ap (λ q. location_byte t f (x s sp) q % 4) same ∙ aligned)
     (subst (λ q. location_byte t f (x s sp) q < 2 ^ 64) (sym same) below) (subst (λ q. MayWrite s.memory (location_byte t f (x s sp) q) 4) (sym same) may))
 
 pub places_are_written : PlacesAreWritten
 places_are_written = record {
-  place = λ t f kinds frame w j k here s z p l h less inside fits code at value e aligned below may.
-      place_stores t f kinds frame w j k here s z p.root p.offset l h less inside fits code at value e aligned below may;
+  place = λ t f kinds frame w r k here s z p l h aside inside fits code at value e aligned below may.
+      place_stores t f kinds frame w r k here s z p.root p.offset l h aside inside fits code at value e aligned below may;
 }

@@ -9,9 +9,11 @@ use Rattle.region_forms.specs.Evaluation.{Location, in_memory, in_frame, value_i
 use Rattle.machine_forms.specs.Registers.{sp}
 use Rattle.machine_forms.specs.Piece.{Target, global_at}
 use Rattle.machine_forms.specs.Shape.{Shape, slot_offset}
+use Rattle.machine_forms.specs.KeptCode.{register_of}
 use Rattle.machine_pieces.specs.Memory.{Holds}
 use Rattle.machine_pieces.specs.Numbers.{IsInt, int_bits}
 use Rattle.machine_pieces.specs.Standing.{Ground, address}
+use Rattle.machine_pieces.specs.Keeping.{saved_of, KeptHolds}
 
 -- Where code and data stand: the code, the first byte of what an address begins at, and how many globals there are. What an address
 -- begins at is live while it has bytes of its own: a global always, a variable while its call is open, an exception until it is freed.
@@ -58,9 +60,10 @@ SlotFits address_slot n = n ≡ 0
 SlotFits object_slot n = ⊤
 SlotFits help_slot n = n ≡ 0
 
--- offsets into a frame and behind an address fit 12 bits, and a global is an int
+-- offsets into a frame and behind an address fit 12 bits, a kept variable is used as a whole, and a global is an int
 abbrev pub RootFits : Setting → Shape → Kinds → Frame → Root → ℕ → Type 0
-RootFits t f kinds frame (in_slot s) n = (s < length f.slots) × (slot_offset f s + n < 2 ^ 11) × SlotFits (kinds s) n
+RootFits t f kinds frame (in_slot s) n =
+    (s < length f.slots) × (slot_offset f s + n < 2 ^ 11) × SlotFits (kinds s) n × ((r : ℕ) → register_of f.kept s ≡ Some r → n ≡ 0)
 RootFits t f kinds frame (through s) n = (s < length f.slots) × (slot_offset f s < 2 ^ 11) × (n < 2 ^ 11)
 RootFits t f kinds frame (in_global g) n = (g < t.globals) × (n ≡ 0)
 
@@ -80,21 +83,23 @@ ValueStands t f kinds frame w (binary o a b) =
     ValueStands t f kinds frame w a × ((x : ℤ) → value_in kinds frame w a ≡ Some x → decided o x ≡ None → ValueStands t f kinds frame w b)
 ValueStands t f kinds frame w (call_value c args) = ⊤
 
--- A call's frame from sp on, and the world's ints: what each slot holds; where its variables are; what each live address in memory holds;
--- and where the globals are.
+-- A call's frame from sp on, and the world's ints: what each slot holds; where its variables are, which are live but for those in registers; what
+-- each live address in memory holds; and where the globals are.
 pub record FrameHolds (t : Setting) (f : Shape) (kinds : Kinds) (frame : Frame) (w : World) (memory : List Part) (stack : ℕ) : Type 0 where
   pub room : stack + f.size < 2 ^ 64
   pub slots : (s : ℕ) → s < length f.slots → WordHolds t memory (stack + slot_offset f s) (frame.slots s)
   pub variables : (s : ℕ) → s < length f.slots → t.at (of_variable frame.call s) ≡ stack + slot_offset f s
-  pub own : (s : ℕ) → s < length f.slots → t.live (of_variable frame.call s) ≡ true
+  pub own : (s : ℕ) → s < length f.slots → register_of f.kept s ≡ None → t.live (of_variable frame.call s) ≡ true
   pub ints : (a : Address) (z : ℤ) → t.live a.base ≡ true → w.memory a ≡ Some z → IntAt memory (byte_of t a) z
   pub reached : (n : ℕ) → n < t.globals → Reached t.ground (global_at n 0) (t.at (of_global n))
   pub all_globals : (n : ℕ) → n < t.globals → t.live (of_global n) ≡ true
 
--- a state in which a call's frame stands
+-- a state in which a call's frame stands, with the ints of its kept variables in their registers
 pub record Ready (t : Setting) (f : Shape) (kinds : Kinds) (frame : Frame) (w : World) (s : State) : Type 0 where
   pub registers : length s.regs ≡ 32
   pub holds : FrameHolds t f kinds frame w s.memory (x s sp)
+  pub ints : (v r : ℕ) → register_of f.kept v ≡ Some r → kinds v ≡ int_slot
+  pub keeps : KeptHolds f.kept frame w (saved_of s)
 
 -- the byte where a place is: at an address, or at the beginning of a slot
 abbrev pub location_byte : Setting → Shape → (stack : ℕ) → Location → ℕ

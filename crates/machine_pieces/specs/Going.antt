@@ -34,6 +34,33 @@ pub record Gives (g : Ground) (here words k : ℕ) (s : State) (z : ℤ) : Type 
   pub int : IsInt z
   pub computes : Computes g here words k s (extended z)
 
+-- a register has a number, which is an int
+pub record Reads (g : Ground) (here words k : ℕ) (s : State) (r : ℕ) (z : ℤ) : Type 0 where
+  pub int : IsInt z
+  pub goes : Goes g here words k s
+  pub is : x goes.after r ≡ extended z
+
+-- a register that can be set
+abbrev pub MaySet : ℕ → Type 0
+MaySet r = (r ≢ 0) × (r < 32)
+
+-- as `Goes`, where one more register is changed, and gets a number
+pub record Puts (g : Ground) (here words k rd : ℕ) (s : State) (value : ℕ) : Type 0 where
+  pub steps : ℕ
+  pub most : steps ≤ words
+  pub after : State
+  pub runs : Executes steps s after
+  pub pc : after.pc ≡ address g (here + words)
+  pub memory : after.memory ≡ s.memory
+  pub registers : length after.regs ≡ 32
+  pub is : x after rd ≡ value
+  pub kept : (r : ℕ) → IsKept k r → r ≢ rd → x after r ≡ x s r
+
+-- and that number is an int
+pub record Sets (g : Ground) (here words k rd : ℕ) (s : State) (z : ℤ) : Type 0 where
+  pub int : IsInt z
+  pub puts : Puts g here words k rd s (extended z)
+
 -- how many words a test passes over: the one behind it where the value is not 0
 abbrev pub passed_over : ℤ → ℕ
 passed_over z = if is_zero z then 0 else 1

@@ -1,5 +1,5 @@
 -- What the calls of laws state.
-use Rattle.std.specs.Prelude.{◌≡◌, ℕ, ◌+◌, ◌%◌, ◌^◌, ◌<◌, ◌≤◌, ℤ, List, [], ◌∷◌, ◌++◌, map, length, slice_get, Some, suc, negsuc}
+use Rattle.std.specs.Prelude.{◌≡◌, ◌≢◌, ℕ, ◌+◌, ◌%◌, ◌^◌, ◌<◌, ◌≤◌, ℤ, List, [], ◌∷◌, ◌++◌, map, length, slice_get, slice_set, Some, suc, negsuc}
 use Rattle.std.specs.List.{flat_map}
 use Rattle.run_items.specs.declared.item.Item.TheVariants.{Line}
 use Rattle.cxa_runtime.specs.declared.effect.End.TheVariants.{Exit}
@@ -12,11 +12,13 @@ use Rattle.rv64_isa.specs.Listing.{form_of}
 use Rattle.rv64_isa.specs.State.{State, Part, with_value}
 use Rattle.rv64_isa.specs.Step.{step_of, done, x}
 use Rattle.region_forms.specs.Form.{Kinds, Place, Value}
-use Rattle.region_forms.specs.World.{Address, Frame, World}
+use Rattle.region_forms.specs.World.{Address, of_variable, Frame, World, written}
 use Rattle.region_forms.specs.Evaluation.{Location, value_in, locate, address_of}
 use Rattle.machine_forms.specs.Piece.{entry, Piece, jump_to, Places, placed}
 use Rattle.machine_forms.specs.Shape.{Shape, prologue, epilogue}
-use Rattle.machine_forms.specs.Registers.{sp, a0, a7, register}
+use Rattle.machine_forms.specs.Registers.{sp, a0, a7, register, saved_registers}
+use Rattle.machine_forms.specs.Kept.{kept_slots}
+use Rattle.machine_forms.specs.KeptCode.{saves, restores}
 use Rattle.machine_forms.specs.RuntimeCall.{runtime_call}
 use Rattle.rv64_isa.specs.declared.step.Step.TheVariants.{Ecall}
 use Rattle.machine_pieces.specs.Executes.{Executes}
@@ -24,13 +26,17 @@ use Rattle.machine_pieces.specs.RuntimeCalls.{AtCall}
 use Rattle.machine_pieces.specs.Turning.{Turns, Stepped, after_step, after_line, after_byte}
 use Rattle.machine_forms.specs.PlaceCode.{place_stored, place_address}
 use Rattle.machine_forms.specs.CallCode.{function_called}
+use Rattle.machine_forms.specs.OperationCode.{value_kept}
 use Rattle.machine_forms.specs.Routine.{Routine, op_word}
+use Rattle.linear_forms.specs.Linear.{FunctionCode}
 use Rattle.linear_forms.specs.Stub.{Function}
-use Rattle.machine_forms.specs.ValueCode.{needs, value_code, test_code}
+use Rattle.machine_forms.specs.ValueCode.{needs, read_in, brought, value_code, operand, test_code}
 use Rattle.machine_pieces.specs.Memory.{Written, WordAt, Holds, MayWrite, shape_of, Apart}
 use Rattle.machine_pieces.specs.Standing.{Ground, address, PieceFits, PieceAt, PiecesAt}
-use Rattle.machine_pieces.specs.Going.{Goes, Computes, Gives, passed_over, Stores}
+use Rattle.machine_pieces.specs.Going.{IsKept, Goes, Computes, Gives, Reads, MaySet, Sets, passed_over, Stores}
 use Rattle.machine_pieces.specs.Frames.{Setting, byte_of, RootFits, ValueStands, Ready, Reached, location_byte}
+use Rattle.machine_pieces.specs.Keeping.{saved_of, KeptHolds, AreSmall}
+use Rattle.machine_pieces.specs.Saving.{SavedAt, SavedIn, AreNear, AreApartFrom, MaySave, Saves, Restores}
 use Rattle.machine_pieces.specs.Transfers.{HasRoom, LacksRoom, Overflows, HasFrame, Enters, Leaves, Jumps, Calls}
 
 -- The fields of a piece's instruction are in their ranges wherever it stands. Where its word stands at the pc, a step does what the
@@ -51,13 +57,23 @@ pub record StoresAreRead : Type 0 where
   pub shapes : (memory : List Part) (a n value : ℕ) → map shape_of (with_value memory a n value) ≡ map shape_of memory
 
 -- A value without calls whose int is defined: where its words stand and its call's frame is in memory, the machine runs from the first of
--- them to behind the last in at most as many steps as there are words. Then the register has that int, with its sign extended; memory is
--- as before, and so is each register but those that values take from there on. The test of a jump on a condition comes to the word behind
--- it where the value is 0, and over that word where it is not.
+-- them to behind the last in at most as many steps as there are words. Then the register of choice has that int, with its sign extended; memory
+-- is as before, and so is each other register but those that values take from there on. As an operand it is read in a register of those or of a
+-- kept variable; and it is written to the register of such a variable. The test of a jump on a condition comes to the word behind it where the value is 0, and over that word where it is not.
 pub record ValuesAreComputed : Type 0 where
+  pub choice : (t : Setting) (f : Shape) (kinds : Kinds) (frame : Frame) (w : World) (v : Value) (z : ℤ) (rd k here : ℕ) (s : State) → ValueStands t f kinds frame w v → value_in kinds frame w v ≡ Some z →
+      MaySet rd → k + needs v ≤ 15 → length (value_code f rd k v) < 2 ^ 18 → PiecesAt s.memory t.ground here (value_code f rd k v) → s.pc ≡ address t.ground here → Ready t f kinds frame w s →
+      Sets t.ground here (length (value_code f rd k v)) k rd s z
   pub value : (t : Setting) (f : Shape) (kinds : Kinds) (frame : Frame) (w : World) (v : Value) (z : ℤ) (k here : ℕ) (s : State) → ValueStands t f kinds frame w v → value_in kinds frame w v ≡ Some z →
-      k + needs v ≤ 15 → length (value_code f k v) < 2 ^ 18 → PiecesAt s.memory t.ground here (value_code f k v) → s.pc ≡ address t.ground here → Ready t f kinds frame w s →
-      Gives t.ground here (length (value_code f k v)) k s z
+      k + needs v ≤ 15 → length (value_code f (register k) k v) < 2 ^ 18 → PiecesAt s.memory t.ground here (value_code f (register k) k v) → s.pc ≡ address t.ground here → Ready t f kinds frame w s →
+      Gives t.ground here (length (value_code f (register k) k v)) k s z
+  pub reads : (t : Setting) (f : Shape) (kinds : Kinds) (frame : Frame) (w : World) (v : Value) (z : ℤ) (k here : ℕ) (s : State) → ValueStands t f kinds frame w v → value_in kinds frame w v ≡ Some z →
+      k + needs v ≤ 15 → length (brought (operand f v) k) < 2 ^ 18 → PiecesAt s.memory t.ground here (brought (operand f v) k) → s.pc ≡ address t.ground here → Ready t f kinds frame w s →
+      Reads t.ground here (length (brought (operand f v) k)) k s (read_in (operand f v) k) z
+  pub kept : (t : Setting) (f : Shape) (kinds : Kinds) (frame : Frame) (w : World) (v : Value) (z : ℤ) (rd here : ℕ) (s : State) → ValueStands t f kinds frame w v → value_in kinds frame w v ≡ Some z →
+      MaySet rd → needs v ≤ 15 → length (value_kept f rd v) < 2 ^ 18 → PiecesAt s.memory t.ground here (value_kept f rd v) → s.pc ≡ address t.ground here → Ready t f kinds frame w s →
+      Sets t.ground here (length (value_kept f rd v)) 0 rd s z
+  pub aside : (f : Shape) (v : Value) (k : ℕ) → k < 15 → IsKept (k + 1) (read_in (operand f v) k)
   pub test : (t : Setting) (f : Shape) (kinds : Kinds) (frame : Frame) (w : World) (v : Value) (z : ℤ) (here : ℕ) (s : State) (y : Piece) → ValueStands t f kinds frame w v → value_in kinds frame w v ≡ Some z →
       needs v ≤ 15 → length (test_code f v) < 2 ^ 18 → PiecesAt s.memory t.ground here (test_code f v ++ y ∷ []) → s.pc ≡ address t.ground here → Ready t f kinds frame w s →
       Goes t.ground here (length (test_code f v) + passed_over z) 0 s
@@ -68,16 +84,36 @@ pub record AddressesAreComputed : Type 0 where
       RootFits t f kinds frame p.root p.offset → PiecesAt s.memory t.ground here (place_address f (register k) p) → s.pc ≡ address t.ground here → byte_of t b < 2 ^ 64 →
       address_of kinds frame p ≡ Some b → Computes t.ground here (length (place_address f (register k) p)) k s (byte_of t b)
 
--- An int in the j-th register for values, with its sign extended, is written to a place, by means of the k-th register: the four bytes of
--- the place get the int, and nothing else of memory is changed.
+-- An int in a register that values leave from the k-th on, with its sign extended, is written to a place, by means of the k-th register: the four
+-- bytes of the place get the int, and nothing else of memory is changed.
 pub record PlacesAreWritten : Type 0 where
-  pub place : (t : Setting) (f : Shape) (kinds : Kinds) (frame : Frame) (w : World) (j k here : ℕ) (s : State) (z : ℤ) (p : Place) (l : Location) → Ready t f kinds frame w s → j < k → k < 15 →
-      RootFits t f kinds frame p.root p.offset → PiecesAt s.memory t.ground here (place_stored f (register j) (register k) p) → s.pc ≡ address t.ground here → x s (register j) ≡ extended z →
+  pub place : (t : Setting) (f : Shape) (kinds : Kinds) (frame : Frame) (w : World) (r k here : ℕ) (s : State) (z : ℤ) (p : Place) (l : Location) → Ready t f kinds frame w s → IsKept k r → k < 15 →
+      RootFits t f kinds frame p.root p.offset → PiecesAt s.memory t.ground here (place_stored f r (register k) p) → s.pc ≡ address t.ground here → x s r ≡ extended z →
       locate kinds frame p ≡ Some l → location_byte t f (x s sp) l % 4 ≡ 0 → location_byte t f (x s sp) l < 2 ^ 64 → MayWrite s.memory (location_byte t f (x s sp) l) 4 →
-      Stores t.ground here (length (place_stored f (register j) (register k) p)) k s (location_byte t f (x s sp) l) z
+      Stores t.ground here (length (place_stored f r (register k) p)) k s (location_byte t f (x s sp) l) z
 
--- A function's prologue takes a frame where the stack has room, and ends the run where it has none above its lowest 4 KiB; its epilogue gives
--- the frame back and goes to the return address. A jump to a
+-- An int that is written to a kept variable is in its register. So the ints of its call's kept variables are in their registers, and those of
+-- another call are where they were.
+pub record KeptAreWritten : Type 0 where
+  pub own : (g : FunctionCode) (frame : Frame) (w : World) (regs : List ℕ) (j s : ℕ) (z : ℤ) → slice_get (kept_slots g) j ≡ Some s → IsInt z → length regs ≡ 10 → KeptHolds (kept_slots g) frame w regs →
+      KeptHolds (kept_slots g) frame (written (record { base = of_variable frame.call s; offset = 0 }) z w) (slice_set regs j (extended z))
+  pub other : (kept : List ℕ) (frame : Frame) (w : World) (regs : List ℕ) (c s : ℕ) (z : ℤ) → frame.call ≢ c → KeptHolds kept frame w regs →
+      KeptHolds kept frame (written (record { base = of_variable c s; offset = 0 }) z w) regs
+
+-- A function's beginning saves the registers of its kept variables, and its end gives them back what they held. What is saved stays where other
+-- bytes are written; and what registers hold outward of a call are numbers of 64 bits, where those of the call are.
+pub record RegistersAreSaved : Type 0 where
+  pub saves : (g : Ground) (here : ℕ) (f : Shape) (parameters : ℕ) (kept : List ℕ) (ints : List ℤ) (s : State) → length kept ≤ 10 → MaySave f s.memory parameters (x s sp) kept ints → AreSmall (saved_of s) →
+      PiecesAt s.memory g here (saves f parameters saved_registers kept) → s.pc ≡ address g here → length s.regs ≡ 32 → Saves g here (length (saves f parameters saved_registers kept)) f parameters kept ints s
+  pub restores : (g : Ground) (here : ℕ) (f : Shape) (kept values : List ℕ) (s : State) → length kept ≤ 10 → AreNear f kept → SavedAt f s.memory (x s sp) kept values →
+      PiecesAt s.memory g here (restores f saved_registers kept) → s.pc ≡ address g here → length s.regs ≡ 32 → Restores g here (length (restores f saved_registers kept)) values s
+  pub stay : (f : Shape) (kept : List ℕ) (memory : List Part) (stack place size value : ℕ) (regs before : List ℕ) → AreApartFrom f stack place size kept → SavedIn f kept memory stack regs before →
+      SavedIn f kept (with_value memory place size value) stack regs before
+  pub outward : (f : Shape) (kept : List ℕ) (memory : List Part) (stack : ℕ) (regs before : List ℕ) → length kept ≤ 10 → SavedIn f kept memory stack regs before → AreSmall regs → length regs ≡ 10 →
+      AreSmall before × (length before ≡ 10)
+
+-- A function's prologue takes a frame where the stack has room, and, unless the function calls nothing, ends the run where it has none above its
+-- lowest 4 KiB; its epilogue gives the frame back and goes to the return address. A jump to a
 -- label comes to the label's word, and a call of a function to the function's first word, with the address behind the call in ra. Where a
 -- routine's pieces stand, those of each operation stand from its first word on.
 pub record ControlGoes : Type 0 where

@@ -3,7 +3,9 @@ pub mod Standing
 pub mod Executes
 pub mod Numbers
 pub mod Going
+pub mod Keeping
 pub mod Frames
+pub mod Saving
 pub mod Transfers
 pub mod Turning
 pub mod RuntimeCalls

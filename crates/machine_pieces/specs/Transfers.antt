@@ -1,36 +1,47 @@
 -- Where control goes: a call's frame is taken and given back, jumps inside a function and calls.
-use Rattle.std.specs.Prelude.{◌≡◌, ◌≢◌, ℕ, ◌+◌, ◌-◌, ◌%◌, ◌^◌, ◌<◌, ◌≤◌, length}
+use Rattle.std.specs.Prelude.{◌≡◌, ◌≢◌, Bool, true, false, ℕ, ◌+◌, ◌-◌, ◌%◌, ◌^◌, ◌<◌, ◌≤◌, length}
 use Rattle.rv64_isa.specs.State.{State, state, with_value}
 use Rattle.rv64_isa.specs.Step.{x}
 use Rattle.machine_forms.specs.Registers.{ra, sp, t0}
 use Rattle.machine_forms.specs.RuntimeCall.{runtime_call, stack_call}
-use Rattle.machine_forms.specs.Shape.{Shape, return_offset}
+use Rattle.machine_forms.specs.Shape.{Shape, return_offset, prologue}
 use Rattle.machine_pieces.specs.Memory.{MayWrite}
 use Rattle.machine_pieces.specs.Standing.{Ground, address, PiecesAt}
 use Rattle.machine_pieces.specs.Executes.{Executes}
 use Rattle.machine_pieces.specs.Frames.{AddressAt}
 
--- below sp is room for a frame above the lowest 4 KiB of the stack
+-- how far up sp is at least where a call begins: above the lowest 4 KiB is room for its frame; one that calls nothing has 2 KiB, more than its frame
+abbrev pub lowest_sp : (leaf : Bool) → (size : ℕ) → ℕ
+lowest_sp true size = 0x70000800
+lowest_sp false size = 0x70001000 + size
+
+-- how many steps take a frame, with or without a look at the stack
+abbrev pub entry_steps : Bool → ℕ
+entry_steps true = 2
+entry_steps false = 4
+
+-- below sp is room for a frame
 pub record HasRoom (f : Shape) (s : State) : Type 0 where
   pub registers : length s.regs ≡ 32
   pub size : (f.size < 2 ^ 11) × (f.size % 8 ≡ 0) × (return_offset + 8 ≤ f.size)
   pub aligned : x s sp % 8 ≡ 0
-  pub above : 0x70001000 + f.size ≤ x s sp
+  pub above : lowest_sp f.leaf f.size ≤ x s sp
   pub below : x s sp < 2 ^ 63
   pub may : MayWrite s.memory (x s sp - f.size + return_offset) 8
 
 -- the prologue of a function takes its frame, saves the return address and comes to the word behind it
 pub record Enters (g : Ground) (here : ℕ) (f : Shape) (s : State) : Type 0 where
   pub after : State
-  pub runs : Executes 4 s after
-  pub pc : after.pc ≡ address g (here + 6)
+  pub runs : Executes (entry_steps f.leaf) s after
+  pub pc : after.pc ≡ address g (here + length (prologue f))
   pub memory : after.memory ≡ with_value s.memory (x s sp - f.size + return_offset) 8 (x s ra)
   pub registers : length after.regs ≡ 32
   pub stack : x after sp ≡ x s sp - f.size
   pub kept : (r : ℕ) → r ≢ sp → r ≢ t0 → x after r ≡ x s r
 
--- below sp is room for a frame in the stack, but not above its lowest 4 KiB
+-- below sp is room for a frame in the stack, but not above its lowest 4 KiB, and the function looks
 pub record LacksRoom (f : Shape) (s : State) : Type 0 where
+  pub looks : f.leaf ≡ false
   pub registers : length s.regs ≡ 32
   pub size : (f.size < 2 ^ 11) × (f.size % 8 ≡ 0) × (return_offset + 8 ≤ f.size)
   pub aligned : x s sp % 8 ≡ 0

@@ -1,5 +1,5 @@
 // Laws of code on the machine: calls of no effect, whose contracts state what holds of every program.
-ghost use Rattle.machine_pieces.specs.Laws.{AddressesAreComputed, CallsAreTurns, ControlGoes, PlacesAreWritten, StoresAreRead, ValuesAreComputed, WordsAreFetched};
+ghost use Rattle.machine_pieces.specs.Laws.{AddressesAreComputed, CallsAreTurns, ControlGoes, KeptAreWritten, PlacesAreWritten, RegistersAreSaved, StoresAreRead, ValuesAreComputed, WordsAreFetched};
 
 /// Where code stands the machine does what its pieces say.
 pub fn words_are_fetched()
@@ -24,6 +24,16 @@ pub fn control_goes()
 /// The words that write an int to a place write it there alone.
 pub fn places_are_written()
     ensures { PlacesAreWritten }
+{}
+
+/// An int that is written to a kept variable is in its register.
+pub fn kept_are_written()
+    ensures { KeptAreWritten }
+{}
+
+/// Registers of kept variables are saved where a call begins, and get back what they held where it ends.
+pub fn registers_are_saved()
+    ensures { RegistersAreSaved }
 {}
 
 /// Steps and runtime calls are turns of the ABI machine.

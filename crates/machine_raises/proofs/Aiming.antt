@@ -18,7 +18,9 @@ use Rattle.raise_simulation.specs.Opens.{Open, activations, IsFirst, IsBarred, c
 use Rattle.machine_simulation.specs.Plan.{Plan, shape}
 use Rattle.machine_simulation.specs.StubCalls.{StubWaits, DestructorWaits, UnexpectedWaits, LeavingWaits}
 use Rattle.machine_simulation.specs.Calls.{CallsWait}
+use Rattle.machine_simulation.specs.KeptCalls.{KeptCalls}
 use Rattle.machine_raises.specs.Targets.{call_size, target_end}
+use Rattle.machine_raises.proofs.KeptBehind.{kept_call, kept_stub}
 use Rattle.machine_raises.proofs.Waiting.{opens_of, tail_of, all_are}
 use Rattle.machine_raises.proofs.OnStack.{OnStack}
 use Rattle.machine_raises.proofs.Stacks.{top_opens, top_tail}
@@ -76,28 +78,30 @@ one_more p d many size stack a os fs is count rest =
 pub counted : (os : List Open) (tail fs : List Activation) → activations os ++ tail ≡ fs → length os + length tail ≡ length fs
 counted os tail fs e = omega (arith, ap length e, length-append (activations os) tail, length-map os (λ o. o.activation))
 
-waiting_end : (p : Plan) (d : ℕ) (fs : List Activation) (v : World) (memory : List Part) (stack back limit : ℕ) (w : CallsWait p fs v memory stack back limit) → length (tail_of p fs v memory stack back limit w) ≤ d →
-    cfa_with d (length (tail_of p fs v memory stack back limit w)) stack (opens_of p fs v memory stack back limit w) ≡ target_end p d stack fs
+waiting_end : (p : Plan) (d : ℕ) (fs : List Activation) (v : World) (memory : List Part) (stack back limit : ℕ) (regs : List ℕ) (w : CallsWait p fs v memory stack back limit) (h : KeptCalls p fs v memory stack regs) → length (tail_of p fs v memory stack back limit w) ≤ d →
+    cfa_with d (length (tail_of p fs v memory stack back limit w)) stack (opens_of p fs v memory stack back limit regs w h) ≡ target_end p d stack fs
 unfolding opens_of tail_of
-waiting_end p d [] v memory stack back limit w le = refl
-waiting_end p d (a ∷ fs) v memory stack back limit (inl (less, n, outer, waits, more)) le =
-    let os = opens_of p fs v memory (stack + (shape p n).size) outer a.frame.call more in
+waiting_end p d [] v memory stack back limit regs w h le = refl
+waiting_end p d (a ∷ fs) v memory stack back limit regs (inl (less, n, outer, waits, more)) h le =
+    let k = kept_call p n a fs v memory stack regs waits.callee h in
+    let os = opens_of p fs v memory (stack + (shape p n).size) outer a.frame.call k.before more k.others in
     let tail = tail_of p fs v memory (stack + (shape p n).size) outer a.frame.call more in
-    one_more p d (length tail) (shape p n).size stack a os fs (ap (call_size p) waits.callee) (counted os tail fs (all_are p fs v memory (stack + (shape p n).size) outer a.frame.call more))
-    (waiting_end p d fs v memory (stack + (shape p n).size) outer a.frame.call more le)
-waiting_end p d (a ∷ fs) v memory stack back limit (inr (inl (outer, waits, more))) le =
-    let os = opens_of p fs v memory (stack + frame_size a.function) outer limit more in
+    one_more p d (length tail) (shape p n).size stack a os fs (ap (call_size p) waits.callee) (counted os tail fs (all_are p fs v memory (stack + (shape p n).size) outer a.frame.call k.before more k.others))
+    (waiting_end p d fs v memory (stack + (shape p n).size) outer a.frame.call k.before more k.others le)
+waiting_end p d (a ∷ fs) v memory stack back limit regs (inr (inl (outer, waits, more))) h le =
+    let others = kept_stub p a fs v memory stack back outer regs waits h in
+    let os = opens_of p fs v memory (stack + frame_size a.function) outer limit regs more others in
     let tail = tail_of p fs v memory (stack + frame_size a.function) outer limit more in
-    one_more p d (length tail) (frame_size a.function) stack a os fs (stub_size p a v memory stack back outer waits) (counted os tail fs (all_are p fs v memory (stack + frame_size a.function) outer limit more))
-    (waiting_end p d fs v memory (stack + frame_size a.function) outer limit more le)
-waiting_end p d (a ∷ fs) v memory stack back limit (inr (inr w)) le = sym (too_few p d stack (a ∷ fs) le)
+    one_more p d (length tail) (frame_size a.function) stack a os fs (stub_size p a v memory stack back outer waits) (counted os tail fs (all_are p fs v memory (stack + frame_size a.function) outer limit regs more others))
+    (waiting_end p d fs v memory (stack + frame_size a.function) outer limit regs more others le)
+waiting_end p d (a ∷ fs) v memory stack back limit regs (inr (inr w)) h le = sym (too_few p d stack (a ∷ fs) le)
 
 module _ (p : Plan) (a : Activation) (fs : List Activation) (v : World) (s : State) (h : OnStack p a fs v s) where
   pub whole_end : (d : ℕ) → length (top_tail p a fs v s h) ≤ d → cfa_with d (length (top_tail p a fs v s h)) (x s sp) (top_opens p a fs v s h) ≡ target_end p d (x s sp) (a ∷ fs)
   unfolding top_opens top_tail
   whole_end d le =
       let stack = x s sp + h.size in
-      let os = opens_of p fs v s.memory stack h.back h.limit h.waiting in
+      let os = opens_of p fs v s.memory stack h.back h.limit h.before h.waiting h.kept in
       let tail = tail_of p fs v s.memory stack h.back h.limit h.waiting in
-      one_more p d (length tail) h.size (x s sp) a os fs h.called (counted os tail fs (all_are p fs v s.memory stack h.back h.limit h.waiting))
-      (waiting_end p d fs v s.memory stack h.back h.limit h.waiting le)
+      one_more p d (length tail) h.size (x s sp) a os fs h.called (counted os tail fs (all_are p fs v s.memory stack h.back h.limit h.before h.waiting h.kept))
+      (waiting_end p d fs v s.memory stack h.back h.limit h.before h.waiting h.kept le)

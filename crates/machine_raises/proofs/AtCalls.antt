@@ -16,7 +16,8 @@ use Rattle.machine_stubs.specs.Calls.{asked}
 use Rattle.machine_simulation.specs.Plan.{Plan}
 use Rattle.machine_simulation.specs.Matches.{RuntimeMatches, MemoryMatches}
 use Rattle.machine_simulation.specs.Operations.{Matched}
-use Rattle.machine_simulation.proofs.Matching.{Stands, runtime_stays}
+use Rattle.machine_simulation.proofs.Matching.{Stands, runtime_stays, kept_at}
+use Rattle.machine_pieces.specs.Keeping.{saved_of}
 use Rattle.machine_exceptions.proofs.Ecalls.{AtEcall}
 use Rattle.machine_raises.specs.Stacks.{IsRunning, GoesOnIn, InCall}
 use Rattle.machine_raises.proofs.OnStack.{OnStack, call_on_stack}
@@ -44,6 +45,7 @@ call_at i image p n st w back g here words number m h running ec goes_on =
       goes_on = goes_on;
       memory = subst (λ ps. MemoryMatches p n st.top.frame st.frames v ps (x ec.behind sp) back) (sym ec.memory)
           (subst (λ a. MemoryMatches p n st.top.frame st.frames v w.hart.memory a back) (sym ec.stack) h.memory);
+      kept = kept_at p n st (x w.hart sp) w.hart.memory (saved_of w.hart) ec.behind ec.memory ec.stack ec.saved h.kept;
     } in
     record {
       calls = ec.calls;

@@ -24,7 +24,7 @@ use Rattle.linear_forms.specs.Machine.{step}
 use Rattle.linear_forms.specs.Operation.{performed}
 use Rattle.linear_forms.specs.Forced.{forced_above}
 use Rattle.linear_forms.specs.UnitRun.{code_of}
-use Rattle.machine_forms.specs.Registers.{sp, a0}
+use Rattle.machine_forms.specs.Registers.{sp, a0, register}
 use Rattle.machine_forms.specs.Bounds.{LinearFits}
 use Rattle.machine_forms.specs.Piece.{Piece}
 use Rattle.machine_forms.specs.Shape.{Shape}
@@ -63,7 +63,7 @@ cancel_is image wish t = refl
 
 -- ---- the step and the pieces
 pub record CancelOp (p : Plan) (n : ℕ) (v : Value) (st : LinearState) (o : LinearOp) : Type 0 where
-  pub pieces : linear_code (shape p n) o ≡ (value_code (shape p n) 0 v ++ []) ++ runtime_call 15
+  pub pieces : linear_code (shape p n) o ≡ (value_code (shape p n) (register 0) 0 v ++ []) ++ runtime_call 15
   pub fits : LinearFits o → 0 + needs v ≤ 15
   pub steps : (next : LinearState) → step (code_of p.unit) st ≡ goes_to next →
       performed (code_of p.unit) (if_some (words_in (slot_kinds p n) st.top.frame st.world (argument_then (int_argument v) no_arguments)) (λ given. cancels (number_at given 0) st.world)) st.top st.frames st.world ≡ goes_to next
@@ -112,7 +112,7 @@ cancel_runs turns made values agree words R i p n st next w back o v enters aliv
     let here : ℕ = first_word p n + op_word (routine p n) st.top.place in
     let s : State = w.hart in
     let k : ℤ = went.value in
-    let front : List Piece = value_code f 0 v in
+    let front : List Piece = value_code f (register 0) 0 v in
     let rear : List Piece = runtime_call 15 in
     let pieces : linear_code f o ≡ front ++ rear = op.pieces ∙ ap (λ ps. ps ++ rear) (append-nil front) in
     let stood = operation_at p s.memory n st.top.place o h.memory.unit h.memory.top.known at.there in

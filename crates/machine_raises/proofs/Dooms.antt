@@ -40,7 +40,9 @@ use Rattle.machine_simulation.specs.Plan.{Plan, function, shape, routine, first_
 use Rattle.machine_simulation.specs.Exceptions.{live_in, addresses_of, exceptions_in, kept_by, destroyed, record_address, IsFunction}
 use Rattle.machine_simulation.specs.Matches.{RuntimeMatches, MemoryMatches}
 use Rattle.machine_simulation.proofs.Words.{operation_at}
-use Rattle.machine_simulation.proofs.Matching.{Stands, stands_by, runtime_stays}
+use Rattle.machine_simulation.proofs.Matching.{Stands, stands_by, runtime_stays, kept_at}
+use Rattle.machine_simulation.proofs.Floors.{caller_above}
+use Rattle.machine_pieces.specs.Keeping.{saved_of, AreSmall}
 use Rattle.machine_simulation.proofs.Quiet.{step_is, plain_is}
 use Rattle.machine_exceptions.proofs.Ecalls.{ecall_reached}
 use Rattle.machine_exceptions.proofs.Enters.{exception_is}
@@ -124,6 +126,7 @@ doom_called turns agree i p n m s e t d st w back h running at may being none qu
       registers = ec.registers;
       goes_on = record { operation = plain (throw s t d); there = at; word = words + 1; inside = omega (arith, all); is = ec.pc ∙ omega arith };
       memory = held;
+      kept = kept_at p n st (x w.hart sp) w.hart.memory (saved_of w.hart) ec.behind ec.memory ec.stack ec.saved h.kept;
     } in
     let lost = agree.lost (code_of p.unit) (image_operation_at p.unit) image.fdes (thrown_as (records_end p.unit) p.unit.types (Some t)) (Some t) ec.behind (x ec.behind sp) (all_opens p i n back st.top st.frames v ec.behind there incall)
     (all_tail p i n back st.top st.frames v ec.behind there incall) (stack_raised p i n back st.top st.frames v ec.behind there incall (Some t) may.type)
@@ -134,7 +137,8 @@ doom_called turns agree i p n m s e t d st w back h running at may being none qu
     let end : throws image y o types ≡ terminates image.places y.terminate_handler out = by image y slot rec given.function header (unwinder.raise image.fdes (thrown_as (records_end p.unit) p.unit.types (Some t)) ec.behind) ec.behind handlers lost in
     let known = subst (λ k. IsFunction (addresses_of p) k y.terminate_handler) installed r.exceptions.terminate_handler in
     let u : World = entered_doomed e (kept e t d v) in
-    let m_may = call_may image p n st w back ec.behind ec.at h named ec.registers ec.memory ec.stack in (
+    let high = caller_above p n st.top.place st.top.frame v w.hart.memory (x w.hart sp) back (plain (throw s t d)) at refl h.memory.top in
+    let m_may = call_may image p n st w back ec.behind ec.at h high named ec.registers ec.memory ec.stack in (
       record {
         turns = ec.turns;
         at = ec.at;
@@ -146,6 +150,7 @@ doom_called turns agree i p n m s e t d st w back h running at may being none qu
         may = record { named = m_may.named; registers = m_may.registers; code = m_may.code; deep = m_may.deep; room = m_may.room };
         known = known;
         memory = matches_alike p n st.top.frame st.frames v u ec.behind.memory (x ec.behind sp) back refl refl (same_number v) held;
+        small = subst AreSmall (sym ec.saved) h.kept.small;
         runtime = doomed_runtime p st.frames v y e slot t given.function d r live.has kind being given.is;
         end = ap (λ a. a + open_bytes p (st.top ∷ st.frames)) ec.stack ∙ stack_at p n st w back h;
       },

@@ -1,5 +1,5 @@
 -- A pad that the unwinder has installed is entered.
-use Rattle.std.proofs.Common.{◌≡◌, ◌∙◌, sym, ap, subst, arith, ℕ, ◌+◌, ◌≤◌, List, [], ◌∷◌, ◌++◌, length, append_assoc, Option, Some, None}
+use Rattle.std.proofs.Common.{◌≡◌, ◌∙◌, refl, sym, ap, subst, arith, ℕ, ◌+◌, ◌≤◌, List, [], ◌∷◌, ◌++◌, length, append_assoc, Option, Some, None}
 use Rattle.std.specs.Prelude.{slice_get}
 use Rattle.std.specs.List.{AllByRecursion}
 use Rattle.std.proofs.lemmas.List.{map-append}
@@ -22,7 +22,9 @@ use Rattle.machine_pieces.specs.Standing.{address}
 use Rattle.machine_pieces.specs.Turning.{SameRuntime}
 use Rattle.machine_pieces.proofs.Registers.{set_length, read_same, read_other}
 use Rattle.image_tables.specs.Functions.{records_end, operation_at}
-use Rattle.raise_simulation.specs.OpenCalls.{outer_sp}
+use Rattle.machine_pieces.specs.Keeping.{saved_of, outward}
+use Rattle.machine_pieces.proofs.Keeping.{given_saved}
+use Rattle.raise_simulation.specs.OpenCalls.{outer_sp, regs_at}
 use Rattle.raise_simulation.specs.Opens.{Open, activations, calls, Judge}
 use Rattle.raise_simulation.specs.Raises.{Lands}
 use Rattle.machine_simulation.specs.Plan.{Plan, function, shape, routine, first_word, setting}
@@ -31,13 +33,15 @@ use Rattle.machine_simulation.specs.Exceptions.{destroyed}
 use Rattle.machine_simulation.specs.Matches.{RuntimeMatches, MemoryMatches, Matches}
 use Rattle.machine_simulation.specs.Operations.{Matched}
 use Rattle.machine_simulation.specs.Returns.{closed}
-use Rattle.machine_simulation.proofs.Lines.{matches_alike}
+use Rattle.machine_simulation.specs.KeptCalls.{KeptCall, KeptCalls, RegistersMatch}
+use Rattle.machine_simulation.proofs.KeptClosed.{registers_popped}
+use Rattle.machine_simulation.proofs.Lines.{matches_alike, registers_alike}
 use Rattle.machine_raises.specs.Stacks.{IsRunning}
 use Rattle.machine_raises.specs.Pads.{PadGets, PadsArePlain, AtPad, behind_pad}
 use Rattle.machine_raises.specs.Targets.{call_size}
 use Rattle.machine_raises.proofs.Waiting.{opens_of, tail_of, all_are}
-use Rattle.machine_raises.proofs.OnStack.{OwnFrame, OnStack}
-use Rattle.machine_raises.proofs.Stacks.{top_opens, top_tail}
+use Rattle.machine_raises.proofs.OnStack.{OwnFrame, OwnKept, OnStack, own_outward, own_small}
+use Rattle.machine_raises.proofs.Stacks.{top_open, top_opens, top_tail}
 use Rattle.machine_raises.proofs.Pads.{pads_run}
 use Rattle.machine_raises.proofs.Passing.{Passed, StopsStubs, pad_is}
 use Rattle.machine_raises.proofs.Landing.{same_first, same_others, landed, newest_again, runtime_to}
@@ -52,26 +56,25 @@ pub all_of : (P : Activation → Type 0) (os : List Open) → AllByRecursion P (
 all_of P [] all = tt
 all_of P (o ∷ os) all = (all.0, all_of P os all.1)
 
--- memory where the landing's call is the newest
-pub record HasLanded (p : Plan) (m : ℕ) (a : Activation) (fs rest : List Activation) (v : World) (s : State) (stack : ℕ) : Type 0 where
+-- memory where the landing's call is the newest, and registers that hold what the calls inside it have saved
+pub record HasLanded (p : Plan) (m : ℕ) (a : Activation) (fs rest : List Activation) (v : World) (s : State) (stack : ℕ) (regs : List ℕ) : Type 0 where
   pub back : ℕ
   pub memory : MemoryMatches (closed p a.frame.call) m a.frame rest v s.memory stack back
   pub none : destroyed fs ≡ destroyed rest
+  pub kept : RegistersMatch (closed p a.frame.call) m a.frame rest v s.memory stack regs
 
 module _ (p : Plan) (a : Activation) (fs : List Activation) (v : World) (s : State) (h : OnStack p a fs v s) where
-  top_open : Open
-  top_open = record { activation = a; call = record { size = h.size; back = h.back } }
-
   has_landed : (judge : Judge) (m : ℕ) (inner : List Open) (landing : Open) (outer : List Open) → top_opens p a fs v s h ≡ inner ++ landing ∷ outer →
       AllByRecursion (λ o. Passed (code_of p.unit) judge o.activation) inner → StopsStubs judge → landing.activation.function ≡ compiled m →
-      HasLanded p m landing.activation fs (activations outer ++ top_tail p a fs v s h) v s (outer_sp (x s sp) (calls inner))
-  unfolding top_open top_opens top_tail
+      HasLanded p m landing.activation fs (activations outer ++ top_tail p a fs v s h) v s (outer_sp (x s sp) (calls inner)) (regs_at (calls inner) (saved_of s))
+  unfolding top_opens top_tail
   has_landed judge m [] landing outer is passed stops callee =
-      let opens = opens_of p fs v s.memory (x s sp + h.size) h.back h.limit h.waiting in
+      let here : Open = top_open p a fs v s h in
+      let opens = opens_of p fs v s.memory (x s sp + h.size) h.back h.limit h.before h.waiting h.kept in
       let tail = tail_of p fs v s.memory (x s sp + h.size) h.back h.limit h.waiting in
-      let same : top_open ≡ landing = same_first top_open landing opens outer is in
+      let same : here ≡ landing = same_first here landing opens outer is in
       let others : fs ≡ activations outer ++ tail
-      = sym (all_are p fs v s.memory (x s sp + h.size) h.back h.limit h.waiting) ∙ ap (λ os. activations os ++ tail) (same_others top_open landing opens outer is) in
+      = sym (all_are p fs v s.memory (x s sp + h.size) h.back h.limit h.before h.waiting h.kept) ∙ ap (λ os. activations os ++ tail) (same_others here landing opens outer is) in
       let function : a.function ≡ compiled m = ap (λ o. o.activation.function) same ∙ callee in
       let size : h.size ≡ (shape p m).size = sym h.called ∙ ap (call_size p) function in
       let own : OwnFrame p (compiled m) a v s.memory (x s sp) h.back h.limit = subst (λ f. OwnFrame p f a v s.memory (x s sp) h.back h.limit) function h.own in
@@ -79,20 +82,29 @@ module _ (p : Plan) (a : Activation) (fs : List Activation) (v : World) (s : Sta
       = subst (λ c. CallsWait p (activations outer ++ tail) v s.memory (x s sp + (shape p m).size) h.back c) (sym own.0)
       (subst (λ k. CallsWait p (activations outer ++ tail) v s.memory (x s sp + k) h.back h.limit) size (subst (λ xs. CallsWait p xs v s.memory (x s sp + h.size) h.back h.limit) others h.waiting)) in
       let memory = newest_again p m h.limit (activations outer ++ tail) a v s.memory (x s sp) h.back h.around (omega (arith, own.0, own.1)) own.2 waiting in
-      subst (λ o. HasLanded p m o.activation fs (activations outer ++ tail) v s (x s sp)) same (record { back = h.back; memory = memory; none = ap destroyed others })
+      let keeps : KeptCall p m a.frame v s.memory (x s sp) (saved_of s) h.before = subst (λ f. OwnKept p f a v s.memory (x s sp) (saved_of s) h.before) function h.keeps in
+      let kept : KeptCalls p (activations outer ++ tail) v s.memory (x s sp + (shape p m).size) h.before
+      = subst (λ k. KeptCalls p (activations outer ++ tail) v s.memory (x s sp + k) h.before) size (subst (λ xs. KeptCalls p xs v s.memory (x s sp + h.size) h.before) others h.kept) in
+      let registers = registers_popped p m a.frame (activations outer ++ tail) v s.memory (x s sp) h.back (saved_of s) h.before h.small keeps waiting kept in
+      subst (λ o. HasLanded p m o.activation fs (activations outer ++ tail) v s (x s sp) (saved_of s)) same (record { back = h.back; memory = memory; none = ap destroyed others; kept = registers })
   has_landed judge m (o ∷ inner) landing outer is passed stops callee =
-      let opens = opens_of p fs v s.memory (x s sp + h.size) h.back h.limit h.waiting in
+      let here : Open = top_open p a fs v s h in
+      let opens = opens_of p fs v s.memory (x s sp + h.size) h.back h.limit h.before h.waiting h.kept in
       let tail = tail_of p fs v s.memory (x s sp + h.size) h.back h.limit h.waiting in
-      let same : top_open ≡ o = same_first top_open o opens (inner ++ landing ∷ outer) is in
-      let there = landed p judge m fs v s.memory (x s sp + h.size) h.back h.limit h.waiting inner landing outer (same_others top_open o opens (inner ++ landing ∷ outer) is) passed.1 stops callee in
+      let same : here ≡ o = same_first here o opens (inner ++ landing ∷ outer) is in
+      let behind = own_small p a.function a v s.memory (x s sp) (saved_of s) h.before h.keeps h.small refl in
+      let there = landed p judge m fs v s.memory (x s sp + h.size) h.back h.limit h.before h.waiting h.kept behind.0 behind.1 inner landing outer (same_others here o opens (inner ++ landing ∷ outer) is) passed.1 stops callee in
       let less = there.less in
       let newest = h.around.newest in
-      let whole : HasLanded p m landing.activation fs (activations outer ++ tail) v s (outer_sp (x s sp + top_open.call.size) (calls inner)) = record {
+      let low : ℕ = outer_sp (x s sp + h.size) (calls inner) in
+      let whole : HasLanded p m landing.activation fs (activations outer ++ tail) v s low (regs_at (calls inner) h.before) = record {
         back = there.back;
-        memory = newest_again p m h.limit (activations outer ++ tail) landing.activation v s.memory (outer_sp (x s sp + h.size) (calls inner)) there.back h.around (omega (arith, less, newest)) there.stands there.waiting;
+        memory = newest_again p m h.limit (activations outer ++ tail) landing.activation v s.memory low there.back h.around (omega (arith, less, newest)) there.stands there.waiting;
         none = there.none;
+        kept = registers_popped p m landing.activation.frame (activations outer ++ tail) v s.memory low there.back (regs_at (calls inner) h.before) there.before there.small there.keeps there.waiting there.kept;
       } in
-      subst (λ y. HasLanded p m landing.activation fs (activations outer ++ tail) v s (outer_sp (x s sp + y.call.size) (calls inner))) same whole
+      subst (λ y. HasLanded p m landing.activation fs (activations outer ++ tail) v s (outer_sp (x s sp + y.call.size) (calls inner)) (regs_at (calls inner) (outward y.call.saved (saved_of s)))) same
+      (subst (λ rs. HasLanded p m landing.activation fs (activations outer ++ tail) v s low (regs_at (calls inner) rs)) (own_outward p a.function a v s.memory (x s sp) (saved_of s) h.before h.keeps) whole)
 
 -- ---- the operation that is fetched
 pub fetched_there : (p : Plan) (m place object selector : ℕ) (o : Option LinearOp) → compiled_op o ≡ Some (linear (pad object selector)) → o ≡ Some (pad object selector)
@@ -166,7 +178,12 @@ pad_entered_runs i a st m callee p fs v s running h judge u w word value cfa tab
     let slots = plain m lands.pad entered.object entered.selector op in
     let hart = pad_hart lands.after value (extended lands.selector) lands.in_frame.registers in
     let memory = matches_alike q m frame rest v u s.memory (outer_sp (x s sp) (calls lands.inner)) there.back ints count later there.memory in
+    let low : ℕ = outer_sp (x s sp) (calls lands.inner) in
+    let regs : List ℕ = regs_at (calls lands.inner) (saved_of s) in
+    let kept = registers_alike q m frame rest v u s.memory low there.back regs ints there.memory there.kept in
     let matching = runtime_to p frame.call fs rest u w runtime there.none in
+    let hart_in : State = (at_pad value lands.selector (abi.at_hart lands.after w)).hart in
+    let saved : saved_of hart_in ≡ regs = given_saved lands.after hart_in value (extended lands.selector) refl ∙ lands.in_frame.saved in
     let stack : outer_sp (x s sp) (calls lands.inner) ≡ reg_of (with_reg (with_reg lands.after.regs 10 value) 11 (extended lands.selector)) 2 = sym (hart.3 ∙ lands.in_frame.pointer) in
     let at : AtPad q m lands.pad entered.object entered.selector there.back landing.activation rest u word lands.selector (at_pad value lands.selector (abi.at_hart lands.after w)) = record {
       runs = function_is;
@@ -180,6 +197,8 @@ pad_entered_runs i a st m callee p fs v s running h judge u w word value cfa tab
       int = int;
       memory = subst (λ ps. MemoryMatches q m frame rest u ps (reg_of (with_reg (with_reg lands.after.regs 10 value) 11 (extended lands.selector)) 2) there.back) (sym lands.in_frame.memory)
           (subst (λ k. MemoryMatches q m frame rest u s.memory k there.back) stack memory);
+      kept = subst (λ ps. RegistersMatch q m frame rest u ps (x hart_in sp) (saved_of hart_in)) (sym lands.in_frame.memory)
+          (subst (λ k. RegistersMatch q m frame rest u s.memory k (saved_of hart_in)) stack (subst (λ rs. RegistersMatch q m frame rest u s.memory low rs) (sym saved) kept));
       runtime = record {
         input = matching.input;
         replies = matching.replies;

@@ -1,5 +1,5 @@
 -- A landing in a compiled function: its call is the newest again.
-use Rattle.std.proofs.Common.{◌≡◌, ◌∙◌, refl, sym, ap, subst, arith, ℕ, ◌+◌, ◌<◌, List, [], ◌∷◌, ◌++◌, inl, inr}
+use Rattle.std.proofs.Common.{◌≡◌, ◌∙◌, refl, sym, ap, subst, arith, ℕ, ◌+◌, ◌<◌, List, [], ◌∷◌, ◌++◌, length, inl, inr}
 use Rattle.std.specs.Prelude.{◌⊎◌}
 use Rattle.std.specs.List.{AllByRecursion}
 use Rattle.rv64_isa.specs.State.{Part}
@@ -8,28 +8,37 @@ use Rattle.linear_forms.specs.Stub.{compiled, end_catch, call_unexpected}
 use Rattle.linear_forms.specs.Activation.{Activation}
 use Rattle.linear_forms.specs.UnitRun.{code_of}
 use Rattle.cxa_runtime.specs.World as abi
+use Rattle.machine_pieces.specs.Keeping.{AreSmall, outward}
 use Rattle.machine_stubs.specs.Stretches.{frame_size}
-use Rattle.raise_simulation.specs.OpenCalls.{outer_sp}
+use Rattle.raise_simulation.specs.OpenCalls.{outer_sp, regs_at}
 use Rattle.raise_simulation.specs.Opens.{Open, activations, calls, Judge}
 use Rattle.machine_simulation.specs.Plan.{Plan, shape}
 use Rattle.machine_simulation.specs.Extents.{newer}
 use Rattle.machine_simulation.specs.StubCalls.{StubWaits, DestructorWaits, UnexpectedWaits, LeavingWaits}
 use Rattle.machine_simulation.specs.Calls.{CallStands, CallsWait}
+use Rattle.machine_simulation.specs.KeptCalls.{KeptCall, KeptCalls}
 use Rattle.machine_simulation.specs.Exceptions.{addresses_of, exceptions_in, kept_by, destroyed, ExceptionsMatch}
 use Rattle.machine_simulation.specs.Matches.{RuntimeMatches, MemoryMatches}
 use Rattle.machine_simulation.specs.Returns.{closed}
 use Rattle.machine_simulation.proofs.Closing.{live_before, newer_over, call_narrowed, waits_narrowed, apart_narrowed, objects_narrowed, unit_narrowed, destroyed_nothing, runtime_popped}
-use Rattle.machine_raises.proofs.Waiting.{opens_of, tail_of, all_are}
+use Rattle.machine_simulation.proofs.KeptClosed.{before_small}
+use Rattle.machine_raises.proofs.KeptBehind.{kept_call, kept_stub}
+use Rattle.machine_raises.proofs.Waiting.{call_open, stub_open, opens_of, tail_of, all_are}
 use Rattle.machine_raises.proofs.OnStack.{Around}
 use Rattle.machine_raises.proofs.Passing.{Passed, StopsStubs, stub_not_passed}
 
--- A call among those that wait, where all inside it are passed: it stands, and so do the calls that wait for it.
-pub record Landed (p : Plan) (m : ℕ) (a : Activation) (rest fs : List Activation) (v : World) (memory : List Part) (stack limit : ℕ) : Type 0 where
+-- A call among those that wait, where all inside it are passed: it stands, and so do the calls that wait for it. Registers hold what the calls that
+-- are passed have saved.
+pub record Landed (p : Plan) (m : ℕ) (a : Activation) (rest fs : List Activation) (v : World) (memory : List Part) (stack limit : ℕ) (regs : List ℕ) : Type 0 where
   pub less : a.frame.call < limit
   pub back : ℕ
   pub stands : CallStands p m a.frame v memory stack back
   pub waiting : CallsWait p rest v memory (stack + (shape p m).size) back a.frame.call
   pub none : destroyed fs ≡ destroyed rest
+  pub small : AreSmall regs
+  pub before : List ℕ
+  pub keeps : KeptCall p m a.frame v memory stack regs before
+  pub kept : KeptCalls p rest v memory (stack + (shape p m).size) before
 
 pub same_first : (x y : Open) (xs ys : List Open) → x ∷ xs ≡ y ∷ ys → x ≡ y
 same_first x y xs ys e = cc
@@ -50,48 +59,61 @@ not_compiled p a v memory stack back outer m w callee = by w.waits
     by (inr (inl x)) = let both : call_unexpected ≡ compiled m = sym x.callee ∙ callee in cc both
     by (inr (inr l)) = let both : call_unexpected ≡ compiled m = sym l.callee ∙ callee in cc both
 
-pub landed : (p : Plan) (judge : Judge) (m : ℕ) (fs : List Activation) (v : World) (memory : List Part) (stack back limit : ℕ) (w : CallsWait p fs v memory stack back limit) (inner : List Open) (landing : Open) (outer : List Open) →
-    opens_of p fs v memory stack back limit w ≡ inner ++ landing ∷ outer → AllByRecursion (λ o. Passed (code_of p.unit) judge o.activation) inner → StopsStubs judge → landing.activation.function ≡ compiled m →
-    Landed p m landing.activation (activations outer ++ tail_of p fs v memory stack back limit w) fs v memory (outer_sp stack (calls inner)) limit
+pub landed : (p : Plan) (judge : Judge) (m : ℕ) (fs : List Activation) (v : World) (memory : List Part) (stack back limit : ℕ) (regs : List ℕ) (w : CallsWait p fs v memory stack back limit) (h : KeptCalls p fs v memory stack regs) → AreSmall regs → length regs ≡ 10 →
+    (inner : List Open) (landing : Open) (outer : List Open) → opens_of p fs v memory stack back limit regs w h ≡ inner ++ landing ∷ outer → AllByRecursion (λ o. Passed (code_of p.unit) judge o.activation) inner → StopsStubs judge → landing.activation.function ≡ compiled m →
+    Landed p m landing.activation (activations outer ++ tail_of p fs v memory stack back limit w) fs v memory (outer_sp stack (calls inner)) limit (regs_at (calls inner) regs)
 unfolding opens_of tail_of
-landed p judge m [] v memory stack back limit w [] landing outer is passed stops callee = absurd (cc is)
-landed p judge m [] v memory stack back limit w (o ∷ inner) landing outer is passed stops callee = absurd (cc is)
-landed p judge m (a ∷ fs) v memory stack back limit (inr (inr w)) [] landing outer is passed stops callee = absurd (cc is)
-landed p judge m (a ∷ fs) v memory stack back limit (inr (inr w)) (o ∷ inner) landing outer is passed stops callee = absurd (cc is)
-landed p judge m (a ∷ fs) v memory stack back limit (inl (less, n, out, waits, more)) [] landing outer is passed stops callee =
-    let here : Open = record { activation = a; call = record { size = (shape p n).size; back = out } } in
-    let opens = opens_of p fs v memory (stack + (shape p n).size) out a.frame.call more in
+landed p judge m [] v memory stack back limit regs w h small ten [] landing outer is passed stops callee = absurd (cc is)
+landed p judge m [] v memory stack back limit regs w h small ten (o ∷ inner) landing outer is passed stops callee = absurd (cc is)
+landed p judge m (a ∷ fs) v memory stack back limit regs (inr (inr w)) h small ten [] landing outer is passed stops callee = absurd (cc is)
+landed p judge m (a ∷ fs) v memory stack back limit regs (inr (inr w)) h small ten (o ∷ inner) landing outer is passed stops callee = absurd (cc is)
+landed p judge m (a ∷ fs) v memory stack back limit regs (inl (less, n, out, waits, more)) h small ten [] landing outer is passed stops callee =
+    let k = kept_call p n a fs v memory stack regs waits.callee h in
+    let here : Open = call_open p n a fs v memory stack out regs k in
+    let opens = opens_of p fs v memory (stack + (shape p n).size) out a.frame.call k.before more k.others in
     let tail = tail_of p fs v memory (stack + (shape p n).size) out a.frame.call more in
     let same : here ≡ landing = same_first here landing opens outer is in
-    let others : fs ≡ activations outer ++ tail = sym (all_are p fs v memory (stack + (shape p n).size) out a.frame.call more) ∙ ap (λ os. activations os ++ tail) (same_others here landing opens outer is) in
+    let others : fs ≡ activations outer ++ tail = sym (all_are p fs v memory (stack + (shape p n).size) out a.frame.call k.before more k.others) ∙ ap (λ os. activations os ++ tail) (same_others here landing opens outer is) in
     let number : n ≡ m = one_number n m (sym waits.callee ∙ (ap (λ o. o.activation.function) same ∙ callee)) in
     let none : destroyed (a ∷ fs) ≡ destroyed (activations outer ++ tail) = ap (λ ds. ds ++ destroyed fs) (destroyed_nothing p n a waits.callee) ∙ ap destroyed others in
     let stands : CallStands p m a.frame v memory stack out = subst (λ k. CallStands p k a.frame v memory stack out) number waits.stands in
     let waiting : CallsWait p (activations outer ++ tail) v memory (stack + (shape p m).size) out a.frame.call
     = subst (λ xs. CallsWait p xs v memory (stack + (shape p m).size) out a.frame.call) others (subst (λ k. CallsWait p fs v memory (stack + (shape p k).size) out a.frame.call) number more) in
-    subst (λ o. Landed p m o.activation (activations outer ++ tail) (a ∷ fs) v memory stack limit) same (record { less = less; back = out; stands = stands; waiting = waiting; none = none })
-landed p judge m (a ∷ fs) v memory stack back limit (inl (less, n, out, waits, more)) (o ∷ inner) landing outer is passed stops callee =
-    let here : Open = record { activation = a; call = record { size = (shape p n).size; back = out } } in
-    let opens = opens_of p fs v memory (stack + (shape p n).size) out a.frame.call more in
+    let keeps : KeptCall p m a.frame v memory stack regs k.before = subst (λ q. KeptCall p q a.frame v memory stack regs k.before) number k.call in
+    let kept : KeptCalls p (activations outer ++ tail) v memory (stack + (shape p m).size) k.before
+    = subst (λ xs. KeptCalls p xs v memory (stack + (shape p m).size) k.before) others (subst (λ q. KeptCalls p fs v memory (stack + (shape p q).size) k.before) number k.others) in
+    subst (λ o. Landed p m o.activation (activations outer ++ tail) (a ∷ fs) v memory stack limit regs) same
+    (record { less = less; back = out; stands = stands; waiting = waiting; none = none; small = small; before = k.before; keeps = keeps; kept = kept })
+landed p judge m (a ∷ fs) v memory stack back limit regs (inl (less, n, out, waits, more)) h small ten (o ∷ inner) landing outer is passed stops callee =
+    let k = kept_call p n a fs v memory stack regs waits.callee h in
+    let here : Open = call_open p n a fs v memory stack out regs k in
+    let opens = opens_of p fs v memory (stack + (shape p n).size) out a.frame.call k.before more k.others in
     let tail = tail_of p fs v memory (stack + (shape p n).size) out a.frame.call more in
     let same : here ≡ o = same_first here o opens (inner ++ landing ∷ outer) is in
-    let later = landed p judge m fs v memory (stack + (shape p n).size) out a.frame.call more inner landing outer (same_others here o opens (inner ++ landing ∷ outer) is) passed.1 stops callee in
+    let behind = before_small p n a.frame v memory stack regs k.before k.call small ten in
+    let later : Landed p m landing.activation (activations outer ++ tail) fs v memory (outer_sp (stack + (shape p n).size) (calls inner)) a.frame.call (regs_at (calls inner) k.before)
+    = landed p judge m fs v memory (stack + (shape p n).size) out a.frame.call k.before more k.others behind.0 behind.1 inner landing outer (same_others here o opens (inner ++ landing ∷ outer) is) passed.1 stops callee in
     let smaller = later.less in
-    let whole : Landed p m landing.activation (activations outer ++ tail) (a ∷ fs) v memory (outer_sp (stack + here.call.size) (calls inner)) limit = record {
+    let whole : Landed p m landing.activation (activations outer ++ tail) (a ∷ fs) v memory (outer_sp (stack + here.call.size) (calls inner)) limit (regs_at (calls inner) k.before) = record {
       less = omega (arith, less, smaller);
       back = later.back;
       stands = later.stands;
       waiting = later.waiting;
       none = ap (λ ds. ds ++ destroyed fs) (destroyed_nothing p n a waits.callee) ∙ later.none;
+      small = later.small;
+      before = later.before;
+      keeps = later.keeps;
+      kept = later.kept;
     } in
-    subst (λ x. Landed p m landing.activation (activations outer ++ tail) (a ∷ fs) v memory (outer_sp (stack + x.call.size) (calls inner)) limit) same whole
-landed p judge m (a ∷ fs) v memory stack back limit (inr (inl (out, waits, more))) [] landing outer is passed stops callee =
-    let here : Open = record { activation = a; call = record { size = frame_size a.function; back = out } } in
-    let same : here ≡ landing = same_first here landing (opens_of p fs v memory (stack + frame_size a.function) out limit more) outer is in
+    subst (λ x. Landed p m landing.activation (activations outer ++ tail) (a ∷ fs) v memory (outer_sp (stack + x.call.size) (calls inner)) limit (regs_at (calls inner) (outward x.call.saved regs))) same
+    (subst (λ rs. Landed p m landing.activation (activations outer ++ tail) (a ∷ fs) v memory (outer_sp (stack + here.call.size) (calls inner)) limit (regs_at (calls inner) rs)) k.call.saves.before_is whole)
+landed p judge m (a ∷ fs) v memory stack back limit regs (inr (inl (out, waits, more))) h small ten [] landing outer is passed stops callee =
+    let here : Open = stub_open a out in
+    let same : here ≡ landing = same_first here landing (opens_of p fs v memory (stack + frame_size a.function) out limit regs more (kept_stub p a fs v memory stack back out regs waits h)) outer is in
     absurd (not_compiled p a v memory stack back out m waits (ap (λ o. o.activation.function) same ∙ callee))
-landed p judge m (a ∷ fs) v memory stack back limit (inr (inl (out, waits, more))) (o ∷ inner) landing outer is passed stops callee =
-    let here : Open = record { activation = a; call = record { size = frame_size a.function; back = out } } in
-    let same : here ≡ o = same_first here o (opens_of p fs v memory (stack + frame_size a.function) out limit more) (inner ++ landing ∷ outer) is in
+landed p judge m (a ∷ fs) v memory stack back limit regs (inr (inl (out, waits, more))) h small ten (o ∷ inner) landing outer is passed stops callee =
+    let here : Open = stub_open a out in
+    let same : here ≡ o = same_first here o (opens_of p fs v memory (stack + frame_size a.function) out limit regs more (kept_stub p a fs v memory stack back out regs waits h)) (inner ++ landing ∷ outer) is in
     absurd (stub_not_passed p judge a v memory stack back out waits stops (subst (λ x. Passed (code_of p.unit) judge x.activation) (sym same) passed.0))
 
 -- ---- the newest call again

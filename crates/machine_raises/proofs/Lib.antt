@@ -1,5 +1,6 @@
 pub mod Words
 pub mod Saying
+pub mod KeptBehind
 pub mod Waiting
 pub mod OnStack
 pub mod Stacks

@@ -1,6 +1,6 @@
 -- A module raises an exception on both machines.
 use Rattle.std.proofs.Common.{◌≡◌, ◌∙◌, refl, sym, ap, subst, arith, ℕ, ◌+◌, ◌%◌, ◌^◌, ◌<◌, true, false, pos, List, [], ◌∷◌, ◌++◌, length, length-append, Option, Some, None, is_some}
-use Rattle.std.specs.Prelude.{slice_get, slice_set, if◌then◌else◌}
+use Rattle.std.specs.Prelude.{nat_le, slice_get, slice_set, if◌then◌else◌}
 use Rattle.std.proofs.lemmas.Bool.Decides.{nat_tests}
 use Rattle.eh_outer.specs.declared.module.Reply.{Reply}
 use Rattle.eh_outer.specs.declared.module.Reply.TheVariants.{Raise}
@@ -50,7 +50,9 @@ use Rattle.machine_simulation.specs.Exceptions.{addresses_of, exceptions_in, kep
 use Rattle.machine_simulation.specs.Matches.{RuntimeMatches, MemoryMatches}
 use Rattle.machine_simulation.specs.Steps.{StepAt}
 use Rattle.machine_simulation.proofs.Words.{OperationAt, operation_at}
-use Rattle.machine_simulation.proofs.Matching.{Stands, stands_by, runtime_stays}
+use Rattle.machine_simulation.proofs.Matching.{Stands, stands_by, runtime_stays, kept_at}
+use Rattle.machine_simulation.specs.KeptCalls.{RegistersMatch}
+use Rattle.machine_pieces.specs.Keeping.{saved_of}
 use Rattle.machine_exceptions.specs.Answers.{CallsModule}
 use Rattle.machine_simulation.specs.Objects.{with_object}
 use Rattle.machine_exceptions.specs.Picks.{TurnsFor}
@@ -60,7 +62,7 @@ use Rattle.machine_exceptions.proofs.Enters.{exception_is}
 use Rattle.machine_exceptions.proofs.Headers.{slot_below}
 use Rattle.machine_exceptions.proofs.LiveLists.{new_in}
 use Rattle.machine_exceptions.proofs.Made.{slot_given, slots_apart}
-use Rattle.machine_exceptions.proofs.Making.{Making, matches_made, new_at}
+use Rattle.machine_exceptions.proofs.Making.{Making, matches_made, registers_made, new_at}
 use Rattle.machine_exceptions.proofs.Picking.{turns_for, then_for, call_for}
 use Rattle.machine_raises.specs.Stacks.{IsRunning, GoesOnIn, InCall}
 use Rattle.machine_raises.specs.Pads.{PadsArePlain, FiltersAreInts}
@@ -122,9 +124,9 @@ making_with p fs v y slot k token left r vacant = record {
 }
 
 foreign_lands : RaisesAgree → (words : ℕ) (R : Plan → abi.World → Type 0) (i : CleanImage) (p : Plan) (n back : ℕ) (st next : LinearState) (y : abi.World) (slot k token : ℕ) (left : List Reply) → EntersPad i st.top next words R → (next.top.function ≡ terminating → ⊥) → st.top.function ≡ compiled n → length y.hart.regs ≡ 32 → GoesOnIn p n st.top.place y.hart.pc →
-    MemoryMatches p n st.top.frame st.frames st.world y.hart.memory (x y.hart sp) back → RuntimeMatches p st.frames st.world y → IsRunning p i y.hart → is_vacant y.exceptions.live slot ≡ true →
+    MemoryMatches p n st.top.frame st.frames st.world y.hart.memory (x y.hart sp) back → RegistersMatch p n st.top.frame st.frames st.world y.hart.memory (x y.hart sp) (saved_of y.hart) → RuntimeMatches p st.frames st.world y → IsRunning p i y.hart → is_vacant y.exceptions.live slot ≡ true →
     raise (code_of p.unit) (st.world.last_number + 1) st.top st.frames (foreign_world st.world k token left) ≡ goes_to next → PadsArePlain p → FiltersAreInts p → ForeignLands p i words R st next y slot k token left
-foreign_lands agree words R i p n back st next y slot k token left enters alive runs registers goes_on memory r running vacant step plains ints =
+foreign_lands agree words R i p n back st next y slot k token left enters alive runs registers goes_on memory kept r running vacant step plains ints =
     let v : World = st.world in
     let e : ℕ = v.last_number + 1 in
     let u0 : World = foreign_world v k token left in
@@ -133,7 +135,13 @@ foreign_lands agree words R i p n back st next y slot k token left enters alive 
     let small : slot < 1024 = vacant_below y.exceptions.live slot vacant in
     let making = making_with p st.frames v y slot k token left r vacant in
     let incall : InCall q n back st.top st.frames u0 y.hart
-    = record { runs = runs; registers = registers; goes_on = goes_with p e slot n st.top.place y.hart.pc goes_on; memory = matches_made p e slot v u0 making n st.top.frame st.frames y.hart.memory (x y.hart sp) back memory } in
+    = record {
+      runs = runs;
+      registers = registers;
+      goes_on = goes_with p e slot n st.top.place y.hart.pc goes_on;
+      memory = matches_made p e slot v u0 making n st.top.frame st.frames y.hart.memory (x y.hart sp) back memory;
+      kept = registers_made p e slot v u0 making n st.top.frame st.frames y.hart.memory (x y.hart sp) back (saved_of y.hart) memory kept;
+    } in
     let goal = targeted (code_of p.unit) e st.top st.frames u0 next step alive in
     let none = no_such v.live e v.last_number r.exceptions.numbers refl in
     let type : type_at flew e ≡ None = ap exception_type (exception_is flew.live e (foreign k token) (new_in v.live e (foreign k token) none)) in
@@ -145,6 +153,10 @@ foreign_lands agree words R i p n back st next y slot k token left enters alive 
           (omega arith)
           (λ cfa table. foreign_runtime p st.frames v y slot k token left cfa table r vacant) (omega arith, sym (new_at p e slot (of_exception e) refl).at, omega (arith, small));
     }
+
+-- fewer than 1,024 are live
+few_live : (count lives : ℕ) → count ≡ lives → nat_le 1024 lives ≡ false → count < slots
+few_live count lives same free = grind (arith, nat_tests, same, free)
 
 -- where the exception has its slot
 pub record RaisedIn (p : Plan) (i : CleanImage) (pick : ℕ → ℕ) (st next : LinearState) (w : abi.World) (k token words : ℕ) (left : List Reply) (R : Plan → abi.World → Type 0) : Type 0 where
@@ -179,20 +191,21 @@ module_runs turns made agree words R i pick p n st next w back o wants k token l
     let r : RuntimeMatches p st.frames v y = record { input = b.input; replies = b.replies; last_number = b.last_number; terminating = b.terminating; exceptions = b.exceptions; plan = b.plan } in
     let mm = r.exceptions in
     let wish : ℕ = pick (ec.at.last_number + 1) in
-    let few : live_count y.exceptions.live < slots = grind (arith, nat_tests, mm.count, free) in
+    let few : live_count y.exceptions.live < slots = few_live (live_count y.exceptions.live) (length v.live) mm.count free in
     let given = slot_given y.exceptions.live wish mm.sound.slots few in
     let slot : ℕ = given.0 in
     let vacant : is_vacant y.exceptions.live slot ≡ true = given.2 in
     let small : slot < 1024 = vacant_below y.exceptions.live slot vacant in
     let memory : MemoryMatches p n st.top.frame st.frames v ec.behind.memory (x ec.behind sp) back
     = subst (λ ps. MemoryMatches p n st.top.frame st.frames v ps (x ec.behind sp) back) (sym ec.memory) (subst (λ a. MemoryMatches p n st.top.frame st.frames v w.hart.memory a back) (sym ec.stack) h.memory) in
+    let kept = kept_at p n st (x w.hart sp) w.hart.memory (saved_of w.hart) ec.behind ec.memory ec.stack ec.saved h.kept in
     let goes_on : GoesOnIn p n st.top.place ec.behind.pc = record { operation = o; there = at.there; word = length front + 1; inside = omega (arith, total); is = ec.pc ∙ omega arith } in
     let there : IsRunning p i ec.behind = record { image = running.image; lists = running.lists; base = running.base; tables = running.tables; run = ap frozen ec.memory ∙ running.run } in
     let step : raise (code_of p.unit) e st.top st.frames u0 ≡ goes_to next
     = ap (λ c. performed (code_of p.unit) (if c then terminates v.installed.terminate_handler (record v { replies = slice_set v.replies k left }) else raises e u0) st.top st.frames v) (sym free)
     ∙ ap (λ a. performed (code_of p.unit) (replied (slot_kinds p n) wants k a st.top.frame v) st.top st.frames v) (sym reply)
     ∙ begins.steps next at.step in
-    let answer = foreign_lands agree words R i p n back st next y slot k token left enters alive h.runs ec.registers goes_on memory r there vacant step plains ints in
+    let answer = foreign_lands agree words R i p n back st next y slot k token left enters alive h.runs ec.registers goes_on memory kept r there vacant step plains ints in
     let lands = answer.lands in
     let y1 : abi.World = left_in y k left in
     let w1 : abi.World = raised_world y slot k token left in

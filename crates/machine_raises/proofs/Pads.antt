@@ -25,7 +25,11 @@ use Rattle.machine_simulation.specs.Matches.{RuntimeMatches, MemoryMatches, Matc
 use Rattle.machine_simulation.proofs.Words.{operation_at}
 use Rattle.machine_simulation.proofs.Slots.{slot_place_of, plain_room}
 use Rattle.machine_simulation.proofs.Holding.{slot_matches}
-use Rattle.machine_simulation.proofs.Matching.{runtime_stays, Arrives}
+use Rattle.machine_simulation.proofs.Matching.{runtime_stays, Arrives, kept_at}
+use Rattle.machine_simulation.proofs.Floors.{call_floor}
+use Rattle.machine_simulation.proofs.KeptStores.{slot_kept}
+use Rattle.machine_pieces.specs.Keeping.{saved_of}
+use Rattle.machine_pieces.proofs.Keeping.{same_saved}
 use Rattle.machine_pieces.specs.Executes.{Executes}
 use Rattle.machine_pieces.specs.Turning.{SameRuntime}
 use Rattle.machine_pieces.proofs.Turning.{executes_turns}
@@ -52,7 +56,7 @@ module _ (p : Plan) (n : ℕ) (a : Activation) (fs : List Activation) (v : World
   pub frame_room : Room stack (shape p n).size memory
   frame_room =
       let high = h.top.below in
-      let low = h.top.above in
+      let low = call_floor p n a.frame v memory stack back h.top in
       record { aligned = omega (arith, h.top.saved.aligned); below = omega (arith, high); may = λ o k inside. h.may (stack + o) k (omega (arith, low)) (omega (arith, inside, high)) }
 
 -- ---- what the slots hold
@@ -99,6 +103,7 @@ stays_matched image p n next w back words k t few some runs there runtime =
           registers = at.registers;
           pc = at.pc;
           memory = at.memory;
+          kept = at.kept;
           runtime = runtime_stays p next.frames next.world w ran.after ran.runtime runtime;
         },
         ran.runtime,
@@ -139,6 +144,8 @@ pads_run image p n place object selector back a fs v word filter w h =
     } in
     let with_both = slot_matches p n (with_slot object word a.frame) fs v mid stack back selector 8 number (number_word filter) with_object h.selector_slot.inside h.selector_slot.plain (omega arith) int_there
     (λ b none. absurd (cc none)) in
+    let kept_one = slot_kept p n a.frame fs v s.memory stack back object 8 value word (saved_of s) h.memory h.object_slot.inside h.object_slot.plain (omega arith) h.kept in
+    let kept_both = slot_kept p n (with_slot object word a.frame) fs v mid stack back selector 8 number (number_word filter) (saved_of s) with_object h.selector_slot.inside h.selector_slot.plain (omega arith) kept_one in
     let u : State = second.after in
     let to : LinearState = behind_pad place object selector a fs v word filter in
     let same_stack : x u sp ≡ stack = second.hart.regs 2 in
@@ -148,4 +155,5 @@ pads_run image p n place object selector back a fs v word filter w h =
       registers = second.hart.all;
       pc = second.hart.pc ∙ ap (address g) (omega (arith, own.next));
       memory = subst (λ ps. MemoryMatches p n to.top.frame fs v ps (x u sp) back) (sym second.hart.memory) (subst (λ k. MemoryMatches p n to.top.frame fs v new k back) (sym same_stack) with_both);
+      kept = kept_at p n to stack new (saved_of s) u second.hart.memory same_stack (same_saved s u (λ r out. second.hart.regs r)) kept_both;
     }) h.runtime

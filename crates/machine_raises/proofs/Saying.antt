@@ -1,5 +1,5 @@
 -- What the frames and tables of an image say of calls that go on at addresses.
-use Rattle.std.proofs.Common.{◌≡◌, ◌∙◌, refl, ap, arith, ℕ, ◌+◌, ◌*◌, ◌<◌, ◌≤◌, ℤ, pos, negsuc, take, Bool, true, false, List, [], length, Option, if◌then◌else◌}
+use Rattle.std.proofs.Common.{◌≡◌, ◌∙◌, refl, ap, arith, ℕ, ◌+◌, ◌*◌, ◌<◌, ℤ, pos, negsuc, take, Bool, true, false, List, [], length, Option, if◌then◌else◌}
 use Rattle.std.specs.Prelude.{slice_index_or}
 use Rattle.table_forms.specs.declared.found.Rule.TheVariants as rules
 use Rattle.table_forms.specs.declared.found.Verdict as abi
@@ -23,7 +23,7 @@ use Rattle.machine_forms.proofs.Words.{words_stand}
 use Rattle.image_forms.specs.Linkable.{BaseIsThere}
 use Rattle.table_verdicts.specs.Verdicts as tables
 use Rattle.table_verdicts.specs.Types.{thrown_as}
-use Rattle.image_tables.specs.Functions.{IsThere, routine_of, frame_of, records_end, first_byte, operation_at}
+use Rattle.image_tables.specs.Functions.{IsThere, routine_of, frame_of, saved_places, records_end, first_byte, operation_at}
 use Rattle.image_tables.specs.TableLaws.{IsByteOf}
 use Rattle.image_tables.proofs.Placed.{function_stands, start_stands}
 use Rattle.image_tables.proofs.Framed.{frames_say, start_is_outermost}
@@ -97,9 +97,9 @@ forced_says p i s running =
 pub place_of : (a k ip : ℕ) → a + k < 0x60000000 → ip ≡ a + k + 1 → look_up_place ip false ≡ a + k
 place_of a k ip low is = omega (arith, low, is)
 
-pub has_row : (p : Plan) (i : CleanImage) (s : State) (f : Function) (place k ip : ℕ) → IsRunning p i s → IsThere p.unit f → IsByteOf p.unit f place k → 8 ≤ k → ip ≡ first_byte p.unit f + k + 1 →
-    HasRow (program_of i).image.fdes (look_up_place ip false) (frame_of p.unit f)
-has_row p i s f place k ip running there byte far is =
+pub has_row : (p : Plan) (i : CleanImage) (s : State) (f : Function) (place k ip : ℕ) → IsRunning p i s → IsThere p.unit f → IsByteOf p.unit f place k → ip ≡ first_byte p.unit f + k + 1 →
+    HasRow (program_of i).image.fdes (look_up_place ip false) (frame_of p.unit f) (saved_places p.unit f)
+has_row p i s f place k ip running there byte is =
     let u = p.unit in
     let inside : k < 4 * routine_words (routine_of u f) = omega (arith, byte.last, words_stand.inside (routine_of u f) (place + 1)) in
     let at = place_of (first_byte u f) k ip (omega (arith, inside, code_low u i (first_byte u f) (routine_of u f) running.image (function_stands u f there))) is in
@@ -109,7 +109,7 @@ has_row p i s f place k ip running there byte far is =
       found = ap (fde_for (program_of i).image.fdes) at ∙ framed.found;
       returns = framed.returns;
       plain = framed.plain;
-      row = ap (row_at framed.fde) at ∙ framed.row far;
+      row = ap (row_at framed.fde) at ∙ framed.row (omega (arith, byte.first));
     }
 
 pub outermost : (p : Plan) (i : CleanImage) (s : State) (k ip : ℕ) → IsRunning p i s → k < 4 * routine_words start_routine → ip ≡ records_end p.unit + k + 1 → IsOutermost (program_of i).image.fdes (look_up_place ip false)

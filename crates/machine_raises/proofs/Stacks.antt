@@ -1,5 +1,5 @@
 -- The stack of a hart inside an open call.
-use Rattle.std.proofs.Common.{◌≡◌, refl, ap, ℕ, ◌+◌, List, ◌∷◌, ◌++◌, length, Option}
+use Rattle.std.proofs.Common.{◌≡◌, refl, ap, subst, ℕ, ◌+◌, List, ◌∷◌, ◌++◌, length, Option}
 use Rattle.table_forms.specs.Verdict.{Thrown, forced}
 use Rattle.rv64_isa.specs.State.{State}
 use Rattle.rv64_isa.specs.Step.{x}
@@ -9,13 +9,15 @@ use Rattle.region_forms.specs.World.{World}
 use Rattle.linear_forms.specs.Activation.{Activation}
 use Rattle.linear_forms.specs.UnitRun.{code_of}
 use Rattle.machine_forms.specs.Registers.{sp}
-use Rattle.image_tables.specs.Functions.{operation_at}
+use Rattle.image_tables.specs.Functions.{saved_places, operation_at}
+use Rattle.machine_pieces.specs.Keeping.{saved_of}
+use Rattle.raise_simulation.specs.OpenCalls.{AreSaved}
 use Rattle.raise_simulation.specs.Tables.{said}
 use Rattle.image_forms.specs.Linkable.{BaseIsThere}
 use Rattle.raise_simulation.specs.Opens.{Open, activations, Judge, StackStands}
 use Rattle.machine_simulation.specs.Plan.{Plan}
 use Rattle.machine_raises.specs.Stacks.{IsRunning, InCall, StackFound, StacksStand}
-use Rattle.machine_raises.proofs.OnStack.{OnStack, call_on_stack}
+use Rattle.machine_raises.proofs.OnStack.{own_saved, OnStack, call_on_stack, own_words}
 use Rattle.machine_raises.proofs.Saying.{SaysAll, raises_say, forced_says}
 use Rattle.machine_raises.proofs.Waiting.{opens_of, tail_of, all_are, one_more, waiting_stack}
 use Rattle.raise_simulation.specs.Verdicts.{judged_by, forced_by_table}
@@ -25,24 +27,30 @@ use Rattle.image_tables.specs.Functions.{records_end}
 -- ---- of any call
 module _ (p : Plan) (a : Activation) (fs : List Activation) (v : World) (s : State) (h : OnStack p a fs v s) where
   -- the call that runs, and those that wait
+  abbrev pub top_open : Open
+  top_open = record { activation = a; call = record { size = h.size; back = h.back; places = saved_places p.unit a.function; saved = own_saved p a.function a v s.memory (x s sp) (saved_of s) h.before h.keeps } }
+
   unfoldable pub top_opens : List Open
-  top_opens = record { activation = a; call = record { size = h.size; back = h.back } } ∷ opens_of p fs v s.memory (x s sp + h.size) h.back h.limit h.waiting
+  top_opens = top_open ∷ opens_of p fs v s.memory (x s sp + h.size) h.back h.limit h.before h.waiting h.kept
 
   unfoldable pub top_tail : List Activation
   top_tail = tail_of p fs v s.memory (x s sp + h.size) h.back h.limit h.waiting
 
   pub top_are : activations top_opens ++ top_tail ≡ a ∷ fs
   unfolding top_opens top_tail
-  top_are = ap (λ xs. a ∷ xs) (all_are p fs v s.memory (x s sp + h.size) h.back h.limit h.waiting)
+  top_are = ap (λ xs. a ∷ xs) (all_are p fs v s.memory (x s sp + h.size) h.back h.limit h.before h.waiting h.kept)
 
 module _ (p : Plan) (i : CleanImage) (a : Activation) (fs : List Activation) (v : World) (s : State) (running : IsRunning p i s) (h : OnStack p a fs v s) where
   stack_for : (judge : Judge) (thrown : Thrown) → SaysAll p.unit (said s (program_of i).image.fdes thrown) judge →
       StackStands (code_of p.unit) (operation_at p.unit) judge (program_of i).image.fdes thrown s (x s sp) (top_opens p a fs v s h) (top_tail p a fs v s h)
   unfolding top_opens top_tail
   stack_for judge thrown says =
-      let whole = one_more p i judge thrown s a h.size s.pc (x s sp) h.back (opens_of p fs v s.memory (x s sp + h.size) h.back h.limit h.waiting)
-      (tail_of p fs v s.memory (x s sp + h.size) h.back h.limit h.waiting) running says h.goes_on h.frame h.big h.low h.high h.saved
-      (waiting_stack p i judge thrown s fs v (x s sp + h.size) h.back h.limit running says h.around.unit h.waiting) in
+      let values = own_saved p a.function a v s.memory (x s sp) (saved_of s) h.before h.keeps in
+      let words = own_words p a.function a v s (x s sp) (saved_of s) h.before h.keeps in
+      let whole = one_more p i judge thrown s a h.size s.pc (x s sp) h.back (saved_places p.unit a.function) values (opens_of p fs v s.memory (x s sp + h.size) h.back h.limit h.before h.waiting h.kept)
+      (tail_of p fs v s.memory (x s sp + h.size) h.back h.limit h.waiting) running says h.goes_on h.frame refl h.big h.low h.high h.saved
+      (subst (λ k. AreSaved s (x s sp) k (saved_places p.unit a.function) values) h.frame words.0) words.1
+      (waiting_stack p i judge thrown s fs v (x s sp + h.size) h.back h.limit h.before running says h.around.unit h.waiting h.kept) in
       record { pointer = refl; registers = h.registers; stand = whole.stand; agree = whole.agree; ends = whole.ends }
 
   pub top_raised : (t : Option ℕ) → BaseIsThere (length p.unit.types) t → StackStands (code_of p.unit) (operation_at p.unit) (λ b. judged_by (code_of p.unit) b t) (program_of i).image.fdes (thrown_as (records_end p.unit) p.unit.types t) s

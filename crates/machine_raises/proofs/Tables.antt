@@ -20,18 +20,21 @@ use Rattle.image_tables.specs.TableLaws.{IsByteOf}
 use Rattle.image_tables.proofs.Framed.{frames_say}
 use Rattle.image_tables.proofs.Placed.{function_stands}
 use Rattle.image_tables.proofs.Told.{code_low}
+use Rattle.raise_simulation.specs.OpenCalls.{OpenCall}
 use Rattle.raise_simulation.specs.Opens.{Open, table_in, table_at, table_with}
 use Rattle.machine_simulation.specs.Plan.{Plan, shape}
 use Rattle.machine_simulation.specs.Calls.{CallsWait}
+use Rattle.machine_simulation.specs.KeptCalls.{KeptCalls}
 use Rattle.machine_simulation.specs.Matches.{UnitStands}
 use Rattle.machine_raises.specs.Stacks.{IsRunning}
 use Rattle.machine_raises.specs.Targets.{target_call}
 use Rattle.machine_raises.proofs.Aiming.{counted}
+use Rattle.machine_raises.proofs.KeptBehind.{kept_call, kept_stub}
 use Rattle.machine_raises.proofs.Landing.{not_compiled}
 use Rattle.machine_raises.proofs.OnStack.{OnStack}
 use Rattle.machine_raises.proofs.Saying.{place_of}
-use Rattle.machine_raises.proofs.Stacks.{top_opens, top_tail}
-use Rattle.machine_raises.proofs.Waiting.{opens_of, tail_of, all_are, GoesOnAt, waiting_goes_on}
+use Rattle.machine_raises.proofs.Stacks.{top_open, top_opens, top_tail}
+use Rattle.machine_raises.proofs.Waiting.{call_open, stub_open, opens_of, tail_of, all_are, GoesOnAt, waiting_goes_on}
 
 -- ---- one frame has all bytes of a function
 -- the first that passes one test, and the first that passes another, where each passes both
@@ -83,33 +86,35 @@ none_deep d (a ∷ fs) le =
     ap (λ b. if b then Some a.function else target_call d fs) other ∙ none_deep d fs (omega (arith, le))
 
 -- the target is the first call, or one farther out
-next_table : (p : Plan) (fdes : List Fde) (d many n ip size back : ℕ) (a : Activation) (os : List Open) (fs : List Activation) → length os + many ≡ length fs → (a.function ≡ compiled n → table_at fdes ip ≡ p.tables n) →
-    (target_call d fs ≡ Some (compiled n) → table_with fdes d many back os ≡ p.tables n) → target_call d (a ∷ fs) ≡ Some (compiled n) →
-    table_with fdes d many ip (record { activation = a; call = record { size = size; back = back } } ∷ os) ≡ p.tables n
-next_table p fdes d many n ip size back a os fs count here more is =
-    ap (λ k. if k == d then table_at fdes ip else table_with fdes d many back os) count ∙ by (length fs == d) is
+next_table : (p : Plan) (fdes : List Fde) (d many n ip : ℕ) (a : Activation) (c : OpenCall) (os : List Open) (fs : List Activation) → length os + many ≡ length fs → (a.function ≡ compiled n → table_at fdes ip ≡ p.tables n) →
+    (target_call d fs ≡ Some (compiled n) → table_with fdes d many c.back os ≡ p.tables n) → target_call d (a ∷ fs) ≡ Some (compiled n) →
+    table_with fdes d many ip (record { activation = a; call = c } ∷ os) ≡ p.tables n
+next_table p fdes d many n ip a c os fs count here more is =
+    ap (λ k. if k == d then table_at fdes ip else table_with fdes d many c.back os) count ∙ by (length fs == d) is
   where
-    by : (b : Bool) → (if b then Some a.function else target_call d fs) ≡ Some (compiled n) → (if b then table_at fdes ip else table_with fdes d many back os) ≡ p.tables n
+    by : (b : Bool) → (if b then Some a.function else target_call d fs) ≡ Some (compiled n) → (if b then table_at fdes ip else table_with fdes d many c.back os) ≡ p.tables n
     by true is = here (cc is)
     by false is = more is
 
-waiting_table : (p : Plan) (i : CleanImage) (s : State) (d n : ℕ) (fs : List Activation) (v : World) (stack back limit : ℕ) → IsRunning p i s → UnitStands p s.memory → (w : CallsWait p fs v s.memory stack back limit) →
-    length (tail_of p fs v s.memory stack back limit w) ≤ d → target_call d fs ≡ Some (compiled n) →
-    table_with (program_of i).image.fdes d (length (tail_of p fs v s.memory stack back limit w)) back (opens_of p fs v s.memory stack back limit w) ≡ p.tables n
+waiting_table : (p : Plan) (i : CleanImage) (s : State) (d n : ℕ) (fs : List Activation) (v : World) (stack back limit : ℕ) (regs : List ℕ) → IsRunning p i s → UnitStands p s.memory → (w : CallsWait p fs v s.memory stack back limit)
+    (h : KeptCalls p fs v s.memory stack regs) → length (tail_of p fs v s.memory stack back limit w) ≤ d → target_call d fs ≡ Some (compiled n) →
+    table_with (program_of i).image.fdes d (length (tail_of p fs v s.memory stack back limit w)) back (opens_of p fs v s.memory stack back limit regs w h) ≡ p.tables n
 unfolding opens_of tail_of
-waiting_table p i s d n [] v stack back limit running unit w le is = absurd (cc is)
-waiting_table p i s d n (a ∷ fs) v stack back limit running unit (inl (less, m, outer, waits, more)) le is =
-    let os = opens_of p fs v s.memory (stack + (shape p m).size) outer a.frame.call more in
+waiting_table p i s d n [] v stack back limit regs running unit w h le is = absurd (cc is)
+waiting_table p i s d n (a ∷ fs) v stack back limit regs running unit (inl (less, m, outer, waits, more)) h le is =
+    let k = kept_call p m a fs v s.memory stack regs waits.callee h in
+    let os = opens_of p fs v s.memory (stack + (shape p m).size) outer a.frame.call k.before more k.others in
     let tail = tail_of p fs v s.memory (stack + (shape p m).size) outer a.frame.call more in
-    next_table p (program_of i).image.fdes d (length tail) n back (shape p m).size outer a os fs (counted os tail fs (all_are p fs v s.memory (stack + (shape p m).size) outer a.frame.call more))
+    next_table p (program_of i).image.fdes d (length tail) n back a (call_open p m a fs v s.memory stack outer regs k).call os fs (counted os tail fs (all_are p fs v s.memory (stack + (shape p m).size) outer a.frame.call k.before more k.others))
     (table_here p i s n back a running (waiting_goes_on p m a v s.memory stack back outer running.base unit waits))
-    (waiting_table p i s d n fs v (stack + (shape p m).size) outer a.frame.call running unit more le) is
-waiting_table p i s d n (a ∷ fs) v stack back limit running unit (inr (inl (outer, waits, more))) le is =
-    let os = opens_of p fs v s.memory (stack + frame_size a.function) outer limit more in
+    (waiting_table p i s d n fs v (stack + (shape p m).size) outer a.frame.call k.before running unit more k.others le) is
+waiting_table p i s d n (a ∷ fs) v stack back limit regs running unit (inr (inl (outer, waits, more))) h le is =
+    let others = kept_stub p a fs v s.memory stack back outer regs waits h in
+    let os = opens_of p fs v s.memory (stack + frame_size a.function) outer limit regs more others in
     let tail = tail_of p fs v s.memory (stack + frame_size a.function) outer limit more in
-    next_table p (program_of i).image.fdes d (length tail) n back (frame_size a.function) outer a os fs (counted os tail fs (all_are p fs v s.memory (stack + frame_size a.function) outer limit more))
-    (λ callee. absurd (not_compiled p a v s.memory stack back outer n waits callee)) (waiting_table p i s d n fs v (stack + frame_size a.function) outer limit running unit more le) is
-waiting_table p i s d n (a ∷ fs) v stack back limit running unit (inr (inr w)) le is = absurd (let both : None ≡ Some (compiled n) = sym (none_deep d (a ∷ fs) le) ∙ is in cc both)
+    next_table p (program_of i).image.fdes d (length tail) n back a (stub_open a outer).call os fs (counted os tail fs (all_are p fs v s.memory (stack + frame_size a.function) outer limit regs more others))
+    (λ callee. absurd (not_compiled p a v s.memory stack back outer n waits callee)) (waiting_table p i s d n fs v (stack + frame_size a.function) outer limit regs running unit more others le) is
+waiting_table p i s d n (a ∷ fs) v stack back limit regs running unit (inr (inr w)) h le is = absurd (let both : None ≡ Some (compiled n) = sym (none_deep d (a ∷ fs) le) ∙ is in cc both)
 
 module _ (p : Plan) (i : CleanImage) (a : Activation) (fs : List Activation) (v : World) (s : State) (running : IsRunning p i s) (h : OnStack p a fs v s) where
   pub whole_table : (d n : ℕ) → length (top_tail p a fs v s h) ≤ d → target_call d (a ∷ fs) ≡ Some (compiled n) →
@@ -117,7 +122,7 @@ module _ (p : Plan) (i : CleanImage) (a : Activation) (fs : List Activation) (v 
   unfolding top_opens top_tail
   whole_table d n le is =
       let stack = x s sp + h.size in
-      let os = opens_of p fs v s.memory stack h.back h.limit h.waiting in
+      let os = opens_of p fs v s.memory stack h.back h.limit h.before h.waiting h.kept in
       let tail = tail_of p fs v s.memory stack h.back h.limit h.waiting in
-      next_table p (program_of i).image.fdes d (length tail) n s.pc h.size h.back a os fs (counted os tail fs (all_are p fs v s.memory stack h.back h.limit h.waiting))
-      (table_here p i s n s.pc a running h.goes_on) (waiting_table p i s d n fs v stack h.back h.limit running h.around.unit h.waiting le) is
+      next_table p (program_of i).image.fdes d (length tail) n s.pc a (top_open p a fs v s h).call os fs (counted os tail fs (all_are p fs v s.memory stack h.back h.limit h.before h.waiting h.kept))
+      (table_here p i s n s.pc a running h.goes_on) (waiting_table p i s d n fs v stack h.back h.limit h.before running h.around.unit h.waiting h.kept le) is

@@ -19,7 +19,6 @@ use Rattle.machine_raises.specs.Stacks.{GoesOnIn}
 -- the last byte before an address where a compiled function goes on
 pub record ByteBefore (p : Plan) (n place ip : ℕ) : Type 0 where
   pub byte : ℕ
-  pub far : 8 ≤ byte
   pub first : op_byte (routine p n) place ≤ byte
   pub last : byte < op_byte (routine p n) (place + 1)
   pub is : ip ≡ first_byte p.unit (compiled n) + byte + 1
@@ -33,7 +32,6 @@ byte_before p n place ip base g =
     let inside = g.inside in
     record {
       byte = 4 * (op_word r place + g.word) + 3;
-      far = omega arith;
       first = omega arith;
       last = omega (arith, next, inside);
       is = omega (arith, g.is, base);

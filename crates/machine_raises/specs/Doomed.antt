@@ -1,5 +1,5 @@
 -- An exception without a handler is thrown.
-use Rattle.std.specs.Prelude.{◌≡◌, ℕ, ◌+◌, ◌≤◌, true, false, [], ◌∷◌, length, slice_get, Option, Some, None}
+use Rattle.std.specs.Prelude.{◌≡◌, ℕ, ◌+◌, true, false, [], ◌∷◌, length, slice_get, Option, Some, None}
 use Rattle.run_items.specs.declared.item.Item.TheVariants.{Enter}
 use Rattle.elf_image.specs.Clean.{CleanImage}
 use Rattle.cxa_runtime.specs.World as abi
@@ -16,11 +16,10 @@ use Rattle.machine_forms.specs.LinearCode.{linear_code}
 use Rattle.machine_pieces.specs.Turning.{Reaches}
 use Rattle.machine_stubs.specs.Stretches.{stub_word}
 use Rattle.machine_simulation.specs.Plan.{Plan, function, shape}
-use Rattle.machine_simulation.specs.Calls.{open_bytes}
 use Rattle.machine_simulation.specs.Matches.{Matches}
-use Rattle.machine_simulation.specs.Entering.{opened, frame_for}
+use Rattle.machine_simulation.specs.Entering.{opened, frame_for, entry_turns}
 use Rattle.machine_exceptions.specs.Leaves.{StepsTo}
-use Rattle.machine_exceptions.specs.Terminates.{waiting_terminate, in_handler}
+use Rattle.machine_exceptions.specs.Terminates.{waiting_terminate, in_handler, HandlerFits}
 use Rattle.machine_raises.specs.Stacks.{IsRunning}
 use Rattle.machine_raises.specs.Throws.{MayThrow}
 
@@ -41,6 +40,6 @@ doomed_state e t d st = record { top = st.top; frames = st.frames; world = enter
 -- the exception is entered.
 abbrev pub DoomsRun : Type 0
 DoomsRun = (i : CleanImage) (p : Plan) (n m s e t : ℕ) (d : Option ℕ) (st : State) (w : abi.World) → Matches p st w → IsRunning p i w.hart → AtDoomed i p n s e t d st → st.world.ending ≡ false →
-    st.world.installed.terminate_handler ≡ Some m → p.hidden ≡ 0 → let active = waiting_terminate m ∷ st.top ∷ st.frames in open_bytes p active + (shape p m).size + 0x1000 ≤ 0x100_0000 →
+    st.world.installed.terminate_handler ≡ Some m → p.hidden ≡ 0 → let active = waiting_terminate m ∷ st.top ∷ st.frames in HandlerFits p m active →
     let next = in_handler p m (doomed_state e t d st) in
-    StepsTo (code_of p.unit) 2 st next × Reaches (program_of i).image (length (linear_code (shape p n) (plain (throw s t d))) + 11) w (Enter e ∷ []) (λ u. Matches (opened p m st.world.calls (frame_for p m active)) next u)
+    StepsTo (code_of p.unit) 2 st next × Reaches (program_of i).image (length (linear_code (shape p n) (plain (throw s t d))) + 7 + entry_turns p m) w (Enter e ∷ []) (λ u. Matches (opened p m st.world.calls (frame_for p m active)) next u)

@@ -13,10 +13,12 @@ use Rattle.linear_forms.specs.UnitRun.{code_of}
 use Rattle.std.specs.List.{AllByRecursion}
 use Rattle.machine_forms.specs.Registers.{a0, a1, sp}
 use Rattle.machine_forms.specs.Routine.{op_word}
+use Rattle.machine_pieces.specs.Keeping.{saved_of}
 use Rattle.machine_pieces.specs.Numbers.{IsInt, extended}
 use Rattle.machine_pieces.specs.Standing.{address}
 use Rattle.machine_pieces.specs.Turning.{SameRuntime}
 use Rattle.machine_simulation.specs.Plan.{Plan, function, shape, slot_kinds, routine, first_word, setting}
+use Rattle.machine_simulation.specs.KeptCalls.{RegistersMatch}
 use Rattle.machine_simulation.specs.Matches.{RuntimeMatches, MemoryMatches, Matches}
 use Rattle.machine_simulation.specs.Operations.{Matched}
 
@@ -40,7 +42,7 @@ PadGets p v (flying e d) a = (e ≤ v.last_number) × (a ≡ p.at (of_exception 
 PadGets p v (unwinding n) a = a ≡ 0
 PadGets p v word a = ⊥
 
--- a hart at the first word of a pad, with what the pad gets
+-- a hart at the first word of a pad, with what the pad gets, and the ints of kept variables in registers
 pub record AtPad (p : Plan) (n place object selector back : ℕ) (a : Activation) (fs : List Activation) (v : World) (word : Word) (filter : ℤ) (w : abi.World) : Type 0 where
   pub runs : a.function ≡ compiled n
   pub there : slice_get (function p n).ops place ≡ Some (pad object selector)
@@ -52,6 +54,7 @@ pub record AtPad (p : Plan) (n place object selector back : ℕ) (a : Activation
   pub filter_is : x w.hart a1 ≡ extended filter
   pub int : IsInt filter
   pub memory : MemoryMatches p n a.frame fs v w.hart.memory (x w.hart sp) back
+  pub kept : RegistersMatch p n a.frame fs v w.hart.memory (x w.hart sp) (saved_of w.hart)
   pub runtime : RuntimeMatches p fs v w
 
 -- the state of the machine for linear code behind a pad

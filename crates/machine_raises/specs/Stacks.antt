@@ -15,6 +15,7 @@ use Rattle.machine_forms.specs.Registers.{sp}
 use Rattle.machine_forms.specs.LinearCode.{linear_code}
 use Rattle.machine_forms.specs.Routine.{op_word}
 use Rattle.image_forms.specs.Linkable.{BaseIsThere}
+use Rattle.machine_pieces.specs.Keeping.{saved_of}
 use Rattle.machine_pieces.specs.Standing.{address}
 use Rattle.table_verdicts.specs.Types.{thrown_as}
 use Rattle.table_verdicts.specs.Asked.{ListsNameTypes}
@@ -24,6 +25,7 @@ use Rattle.image_tables.specs.TableLaws.{IsRunOf}
 use Rattle.raise_simulation.specs.Verdicts.{judged_by, forced_by_table}
 use Rattle.raise_simulation.specs.Opens.{Open, activations, StackStands, table_in}
 use Rattle.machine_simulation.specs.Plan.{Plan, function, shape, routine, first_word, setting}
+use Rattle.machine_simulation.specs.KeptCalls.{RegistersMatch}
 use Rattle.machine_simulation.specs.Matches.{MemoryMatches}
 
 -- the address of a function's exception table, which the frame of its first byte names; 0 where it has none
@@ -47,12 +49,14 @@ pub record GoesOnIn (p : Plan) (n place ip : ℕ) : Type 0 where
   pub inside : word < length (linear_code (shape p n) operation)
   pub is : ip ≡ address (setting p n).ground (first_word p n + op_word (routine p n) place + word + 1)
 
--- a hart that goes on inside an operation of a call, whose frame begins at sp, above the calls that wait
+-- a hart that goes on inside an operation of a call, whose frame begins at sp, above the calls that wait, with the ints of kept variables in
+-- registers
 pub record InCall (p : Plan) (n back : ℕ) (a : Activation) (fs : List Activation) (v : World) (s : State) : Type 0 where
   pub runs : a.function ≡ compiled n
   pub registers : length s.regs ≡ 32
   pub goes_on : GoesOnIn p n a.place s.pc
   pub memory : MemoryMatches p n a.frame fs v s.memory (x s sp) back
+  pub kept : RegistersMatch p n a.frame fs v s.memory (x s sp) (saved_of s)
 
 -- The open calls, and those of linear code behind them, of which nothing comes out: the stack has them, for each exception and for a forced
 -- unwind.

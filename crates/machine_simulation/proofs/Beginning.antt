@@ -1,5 +1,5 @@
 -- The beginning of main is matched.
-use Rattle.std.proofs.Common.{◌≡◌, ◌≢◌, ◌∙◌, refl, sym, ap, subst, arith, ℕ, zero, suc, ◌+◌, ◌-◌, ◌*◌, ◌%◌, ◌^◌, ◌<◌, ◌≤◌, ℤ, pos, ◌+ℤ◌, List, [], ◌∷◌, flat_map, length, Option, Some, None, inl}
+use Rattle.std.proofs.Common.{◌≡◌, ◌≢◌, ◌∙◌, refl, sym, ap, subst, arith, ℕ, zero, suc, ◌+◌, ◌-◌, ◌*◌, ◌%◌, ◌^◌, ◌<◌, ◌≤◌, ℤ, pos, ◌+ℤ◌, List, [], ◌∷◌, ◌++◌, flat_map, length, Option, Some, None, inl}
 use Rattle.std.specs.List.{IsDistinct}
 use Rattle.std.specs.Prelude.{nat_eq, replicate, ◌==◌, Bool, true, false, slice_get, if◌then◌else◌}
 use Rattle.std.proofs.lemmas.Int.{ints}
@@ -16,17 +16,20 @@ use Rattle.linear_forms.specs.Linear.{UnitCode}
 use Rattle.linear_forms.specs.Stub.{compiled}
 use Rattle.linear_forms.specs.Activation.{State as LinearState}
 use Rattle.linear_forms.specs.UnitRun.{first_state}
-use Rattle.machine_forms.specs.Registers.{ra, sp}
+use Rattle.machine_forms.specs.Registers.{ra, sp, saved_registers}
+use Rattle.machine_forms.specs.KeptCode.{saves}
 use Rattle.machine_forms.specs.Piece.{Target, entry, unit_entry}
 use Rattle.machine_forms.specs.Shape.{Shape, return_offset, prologue}
-use Rattle.machine_forms.specs.Routine.{op_word}
 use Rattle.machine_forms.specs.StubCode.{start_routine, stub_words}
 use Rattle.machine_forms.specs.Emitted.{main_jump, target_byte, stub_target}
 use Rattle.machine_pieces.specs.Memory.{Holds, MayWrite, Apart, Written}
 use Rattle.machine_pieces.specs.Executes.{Executes}
 use Rattle.machine_pieces.specs.Standing.{Ground, address, PiecesAt}
 use Rattle.machine_pieces.specs.Frames.{IntAt, Reached}
-use Rattle.machine_pieces.specs.Transfers.{HasRoom}
+use Rattle.machine_pieces.specs.Keeping.{saved_of, AreSmall}
+use Rattle.machine_pieces.specs.Turning.{Reaches}
+use Rattle.machine_pieces.specs.Transfers.{lowest_sp, entry_steps, HasRoom}
+use Rattle.machine_pieces.proofs.Keeping.{same_saved}
 use Rattle.machine_pieces.specs.UnitAt.{ground_at, routine_ground}
 use Rattle.machine_pieces.proofs.Storing.{eight_stored, may_still, value_written}
 use Rattle.machine_pieces.proofs.Fetching.{pieces_split}
@@ -35,15 +38,15 @@ use Rattle.machine_pieces.proofs.Framing.{function_calls, prologue_enters}
 use Rattle.machine_simulation.specs.Plan.{Plan, function, shape, routine, first_word, setting}
 use Rattle.machine_simulation.specs.Calls.{IsBegun, start_back, stack_end}
 use Rattle.machine_simulation.specs.Exceptions.{Addresses, addresses_of, exceptions_in, kept_by, ExceptionsMatch}
-use Rattle.machine_simulation.specs.Matches.{FrameIs, RuntimeMatches, MemoryMatches}
-use Rattle.machine_simulation.specs.Entering.{opened}
+use Rattle.machine_simulation.specs.Matches.{FrameIs, RuntimeMatches, Matches}
+use Rattle.machine_simulation.specs.Entering.{opened, entry_turns}
 use Rattle.machine_simulation.specs.Beginning.{global_byte, is_global, plan_before, StandsBefore, MainBegins}
 use Rattle.machine_simulation.proofs.Words.{even_base}
 use Rattle.machine_simulation.proofs.Keeping.{int_stays}
 use Rattle.machine_simulation.proofs.Holding.{unit_stays, stack_stays}
 use Rattle.machine_simulation.proofs.Matching.{Arrives, matched}
 use Rattle.machine_simulation.proofs.Beneath.{Beneath, Begins}
-use Rattle.machine_simulation.proofs.Opened.{opened_matches}
+use Rattle.machine_simulation.proofs.KeptEntered.{begins_saved}
 use Rattle.machine_simulation.proofs.Jumping.{jumps_far}
 
 -- ---- globals
@@ -173,11 +176,16 @@ reached_word g t k few inside is = record {
 -- main's frame is taken, and the return address is that behind the call of main
 record MainEntered (u : UnitCode) (base : ℕ) (tables : ℕ → ℕ) (s : State) : Type 0 where
   after : State
-  runs : Executes 8 s after
-  pc : after.pc ≡ address (setting (plan_before u base tables) u.main).ground (first_word (plan_before u base tables) u.main + 6)
+  runs : Executes (4 + entry_steps (shape (plan_before u base tables) u.main).leaf) s after
+  pc : after.pc ≡ address (setting (plan_before u base tables) u.main).ground (first_word (plan_before u base tables) u.main + length (prologue (shape (plan_before u base tables) u.main)))
   registers : length after.regs ≡ 32
   memory : after.memory ≡ with_value s.memory (stack_end - (shape (plan_before u base tables) u.main).size + return_offset) 8 (start_back (plan_before u base tables))
   stack : x after sp ≡ stack_end - (shape (plan_before u base tables) u.main).size
+  saved : saved_of after ≡ saved_of s
+
+first_above : (leaf : Bool) (size : ℕ) → size < 2 ^ 11 → lowest_sp leaf size ≤ stack_end
+first_above true size small = omega arith
+first_above false size small = omega (arith, small)
 
 main_entered : (u : UnitCode) (base : ℕ) (tables : ℕ → ℕ) (s : State) → StandsBefore u base tables s → MainEntered u base tables s
 main_entered u base tables s h =
@@ -204,21 +212,24 @@ main_entered u base tables s h =
       registers = second.registers;
       size = (frame_is.small, omega (arith, frame_is.size), omega (arith, frame_is.size));
       aligned = omega (arith, same_stack);
-      above = omega (arith, same_stack, frame_is.small);
+      above = subst (λ a. lowest_sp f.leaf f.size ≤ a) (sym same_stack) (first_above f.leaf f.size frame_is.small);
       below = omega (arith, same_stack);
       may = subst (λ ps. MayWrite ps (x s2 sp - f.size + return_offset) 8) (sym same_memory) (h.may (x s2 sp - f.size + return_offset) 8 (omega (arith, same_stack, frame_is.small)) (omega (arith, same_stack, frame_is.small, frame_is.size)));
     } in
-    let parts = pieces_split s.memory gm (first_word p u.main) (prologue f) (flat_map (λ b. b) (routine p u.main).blocks) pieces in
-    let prologue2 = subst (λ ps. PiecesAt ps gm (first_word p u.main) (prologue f)) (sym same_memory) parts.0 in
+    let parts = pieces_split s.memory gm (first_word p u.main) (prologue f ++ saves f (function p u.main).parameters saved_registers f.kept) (flat_map (λ b. b) (routine p u.main).blocks) pieces in
+    let heads = pieces_split s.memory gm (first_word p u.main) (prologue f) (saves f (function p u.main).parameters saved_registers f.kept) parts.0 in
+    let prologue2 = subst (λ ps. PiecesAt ps gm (first_word p u.main) (prologue f)) (sym same_memory) heads.0 in
     let third = prologue_enters gm (first_word p u.main) f s2 prologue2 second.pc room in
     record {
       after = third.after;
-      runs = steps_then 4 4 s s2 third.after (steps_then 2 2 s s1 s2 first.runs second.runs) third.runs;
+      runs = steps_then 4 (entry_steps f.leaf) s s2 third.after (steps_then 2 2 s s1 s2 first.runs second.runs) third.runs;
       pc = third.pc;
       registers = third.registers;
       memory = third.memory ∙ ap (λ ps. with_value ps (x s2 sp - f.size + return_offset) 8 (x s2 ra)) same_memory ∙ ap (λ a. with_value s.memory (a - f.size + return_offset) 8 (x s2 ra)) same_stack
           ∙ ap (with_value s.memory (stack_end - f.size + return_offset) 8) back_there;
       stack = third.stack ∙ ap (λ a. a - f.size) same_stack;
+      saved = same_saved s2 third.after (λ r k. third.kept r (λ e. absurd (omega (arith, k.above, e))) (λ e. absurd (omega (arith, k.above, e))))
+          ∙ same_saved s1 s2 (λ r k. second.kept r (λ e. absurd (omega (arith, k.above, e)))) ∙ same_saved s s1 (λ r k. first.kept r (λ e. absurd (omega (arith, k.above, e))));
     }
 
 first_begins : (u : UnitCode) (base : ℕ) (tables : ℕ → ℕ) (s : State) (input : List ℕ) (replies : List (List Reply)) → StandsBefore u base tables s →
@@ -237,10 +248,11 @@ first_begins u base tables s input replies h =
       below = beneath_first u base tables s input replies (low + return_offset) back h (omega (arith, frame_is.small)) (omega (arith, frame_is.small, frame_is.size));
       known = h.main;
       frame = omega (arith, frame_is.small);
-      room = omega (arith, frame_is.small);
+      room = first_above f.leaf f.size frame_is.small;
       passed = tt;
       may = λ j word b got found. absurd (cc got);
       few = omega arith;
+      taken = sym h.takes_nothing;
       fits = tt;
       saved = record {
         aligned = omega (arith, frame_is.size, frame_is.small);
@@ -305,17 +317,14 @@ main_begins image u base tables s input replies h =
     let entered = main_entered u base tables s h in
     let v : World = first_world u.globals input replies in
     let new : List Part = with_value s.memory (low + return_offset) 8 (start_back p) in
-    let all = opened_matches p 0 m v new stack_end low (start_back p) [] (first_begins u base tables s input replies h) 1 [] (λ ints. (refl, refl)) in
-    let q : Plan = opened p m 0 low in
+    let s1 : State = entered.after in
+    let begins : Begins p 0 m v s1.memory stack_end (x s1 sp) (start_back p) []
+    = subst (λ a. Begins p 0 m v s1.memory stack_end a (start_back p) []) (sym entered.stack) (subst (λ ps. Begins p 0 m v ps stack_end low (start_back p) []) (sym entered.memory) (first_begins u base tables s input replies h)) in
+    let begun = begins_saved p 0 m v stack_end (start_back p) [] 1 [] s1 begins entered.registers entered.pc (subst AreSmall (sym entered.saved) h.saved) (λ ints. (refl, refl)) tt in
+    let q : Plan = opened p m 0 (x s1 sp) in
     let to : LinearState = first_state u input replies in
-    let six : op_word (routine p m) 0 ≡ 6 = refl in
-    let there : Arrives q m to (start_back p) entered.after = record {
-      runs = refl;
-      registers = entered.registers;
-      pc = entered.pc ∙ omega (arith, six);
-      memory = subst (λ ps. MemoryMatches q m to.top.frame to.frames to.world ps (x entered.after sp) (start_back p)) (sym entered.memory)
-          (subst (λ a. MemoryMatches q m to.top.frame to.frames to.world new a (start_back p)) (sym entered.stack) all);
-    } in
+    let words : ℕ = length (saves (shape p m) (function p m).parameters saved_registers (shape p m).kept) in
+    let there : Arrives q m to (start_back p) begun.after = record { runs = refl; registers = begun.registers; pc = begun.pc; memory = begun.memory; kept = begun.kept } in
     let runtime : RuntimeMatches q [] to.world w = record {
       input = refl;
       replies = refl;
@@ -324,5 +333,7 @@ main_begins image u base tables s input replies h =
       exceptions = new_exceptions (addresses_of q) s u.globals input replies;
       plan = record { live = λ e. refl; size = λ e live. absurd (cc live); ints = λ e live. absurd (cc live) };
     } in
-    let came = matched image q m to w (start_back p) 8 8 entered.after (omega arith) (λ some. some) entered.runs there runtime in
-    record { turns = came.turns; few = came.few; after = came.after; runs = came.runs; holds = came.holds }
+    let most : ℕ = 4 + entry_turns p m in
+    let first : ℕ = 4 + entry_steps (shape p m).leaf in
+    let came = matched image q m to w (start_back p) most (first + words) begun.after (omega arith) (λ some. omega arith) (steps_then first words s s1 begun.after entered.runs begun.runs) there runtime in
+    subst (λ a. Reaches image most w [] (λ b. Matches (opened p m 0 a) to b)) entered.stack (record { turns = came.turns; few = came.few; after = came.after; runs = came.runs; holds = came.holds })

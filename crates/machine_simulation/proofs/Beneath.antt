@@ -10,7 +10,8 @@ use Rattle.linear_forms.specs.Activation.{Activation}
 use Rattle.machine_forms.specs.Piece.{global_at}
 use Rattle.machine_forms.specs.Shape.{return_offset}
 use Rattle.machine_pieces.specs.Frames.{Reached, AddressAt, WordHolds}
-use Rattle.machine_simulation.specs.Plan.{Plan, shape, slot_kinds, setting}
+use Rattle.machine_pieces.specs.Transfers.{lowest_sp}
+use Rattle.machine_simulation.specs.Plan.{Plan, function, shape, slot_kinds, setting}
 use Rattle.machine_simulation.specs.Extents.{newer, StandApart, IntsInside}
 use Rattle.machine_simulation.specs.Calls.{HeldBy, IsBegun, stack_end}
 use Rattle.machine_simulation.specs.Matches.{UnitStands, StackMay, StillFresh, ObjectsStand, MemoryMatches}
@@ -99,14 +100,15 @@ held_passes p v c (of_global g) there h = h
 held_passes p v c (of_variable d s) there h = (h.0, omega (arith, there, h.1))
 held_passes p v c (of_exception e) there h = h
 
--- What is there when a new call begins: words passed below its frame, and the return address.
+-- What is there when a new call begins: words passed below its frame, which are its parameters, and the return address.
 pub record Begins (p : Plan) (n m : ℕ) (v : World) (memory : List Part) (stack low back : ℕ) (given : List Word) : Type 0 where
   pub below : Beneath p v memory stack
   pub known : m < length p.unit.functions
   pub frame : low + (shape p m).size ≡ stack
-  pub room : 0x7000_1000 ≤ low
+  pub room : lowest_sp (shape p m).leaf (shape p m).size ≤ stack
   pub passed : PassedAt (setting p n) memory stack 0 given
   pub may : (j : ℕ) (word : Word) (b : Address) → slice_get given j ≡ Some word → address_in word ≡ Some b → MayPass p v b.base
   pub few : length given ≤ length (shape p m).slots
+  pub taken : length given ≡ (function p m).parameters
   pub fits : WordsFit (slot_kinds p m) 0 given
   pub saved : AddressAt memory (low + return_offset) back

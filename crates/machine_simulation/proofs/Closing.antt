@@ -62,7 +62,7 @@ module _ (p : Plan) (over : Base → Bool) (c : ℕ) (narrows : Narrows over c) 
       room = st.holds.room;
       slots = λ s inside. word_narrowed n memory _ (frame.slots s) (st.holds.slots s inside);
       variables = st.holds.variables;
-      own = λ s inside. live_after p over _ (st.holds.own s inside) (narrows.older frame.call s old);
+      own = λ s inside none. live_after p over _ (st.holds.own s inside none) (narrows.older frame.call s old);
       ints = λ a z live there. st.holds.ints a z (live_before p over a.base live).0 there;
       reached = st.holds.reached;
       all_globals = λ g inside. live_after p over _ (st.holds.all_globals g inside) (narrows.globals g);

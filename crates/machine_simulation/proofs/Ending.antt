@@ -1,5 +1,5 @@
 -- The return of main is matched by the end of the run.
-use Rattle.std.proofs.Common.{◌≡◌, ◌∙◌, refl, sym, ap, subst, arith, ℕ, suc, ◌+◌, ◌-◌, ◌^◌, ◌<◌, ◌≤◌, ℤ, List, [], ◌++◌, length, Option, Some, None}
+use Rattle.std.proofs.Common.{◌≡◌, ◌∙◌, refl, sym, ap, subst, arith, ℕ, suc, ◌+◌, ◌-◌, ◌%◌, ◌^◌, ◌<◌, ◌≤◌, ℤ, List, [], length, Option, Some, None}
 use Rattle.std.specs.Prelude.{slice_get}
 use Rattle.meaning_forms.specs.Outcome.{exit}
 use Rattle.rv64_isa.specs.declared.step.Step.TheVariants.{Ecall}
@@ -19,37 +19,24 @@ use Rattle.linear_forms.specs.Operation.{returned_with}
 use Rattle.linear_forms.specs.UnitRun.{code_of}
 use Rattle.region_forms.specs.Effect.{result_in}
 use Rattle.machine_forms.specs.Registers.{sp, a0}
-use Rattle.machine_forms.specs.Piece.{Piece}
-use Rattle.machine_forms.specs.Shape.{Shape, return_offset, epilogue}
 use Rattle.machine_forms.specs.RuntimeCall.{runtime_call, exit_call}
-use Rattle.machine_forms.specs.ValueCode.{value_code}
 use Rattle.machine_forms.specs.LinearCode.{linear_code}
-use Rattle.machine_forms.specs.Routine.{op_word}
 use Rattle.machine_forms.specs.StubCode.{start_routine}
 use Rattle.machine_forms.specs.Emitted.{stub_target}
-use Rattle.machine_pieces.specs.Executes.{Executes}
-use Rattle.machine_pieces.specs.Numbers.{IsInt, extended}
+use Rattle.machine_pieces.specs.Numbers.{extended}
 use Rattle.machine_pieces.specs.Standing.{Ground, PiecesAt}
-use Rattle.machine_pieces.specs.Frames.{AddressAt}
-use Rattle.machine_pieces.specs.Transfers.{HasFrame}
 use Rattle.machine_pieces.specs.UnitAt.{routine_ground}
 use Rattle.machine_pieces.specs.Laws.{CallsAreTurns}
-use Rattle.machine_pieces.proofs.Fetching.{pieces_split}
 use Rattle.machine_pieces.proofs.Stepping.{steps_then}
-use Rattle.machine_pieces.proofs.Going.{kept_low}
-use Rattle.machine_pieces.proofs.Values.{code_after}
-use Rattle.machine_pieces.proofs.Testing.{values_are_computed}
-use Rattle.machine_pieces.proofs.Framing.{epilogue_leaves}
 use Rattle.machine_pieces.proofs.Turning.{executes_turns, exit_ends}
-use Rattle.machine_simulation.specs.Plan.{Plan, function, shape, slot_kinds, routine, first_word, setting}
+use Rattle.machine_simulation.specs.Plan.{Plan, function, shape, slot_kinds}
 use Rattle.machine_simulation.specs.Calls.{CallsWait, start_back}
 use Rattle.machine_simulation.specs.Matches.{UnitStands}
-use Rattle.machine_simulation.specs.Returns.{ResultStands}
 use Rattle.machine_simulation.specs.Ending.{MainsEnd}
-use Rattle.machine_simulation.proofs.Words.{OperationAt, operation_at, even_base}
-use Rattle.machine_simulation.proofs.Matching.{Stands, stands_by, ready_here}
+use Rattle.machine_simulation.proofs.Words.{even_base}
+use Rattle.machine_simulation.proofs.Matching.{stands_by}
 use Rattle.machine_simulation.proofs.Quiet.{step_is}
-use Rattle.machine_simulation.proofs.Returning.{result_value, result_code, result_is, result_stands, result_needs, result_words}
+use Rattle.machine_simulation.proofs.Returning.{result_value, result_is, CameBack, comes_back}
 
 -- the value that main gives
 end_value : (p : Plan) (n : ℕ) (st : LinearState) (r : Option ℕ) (z : ℤ) (v : World) → st.top.function ≡ compiled n → slice_get (function p n).ops st.top.place ≡ Some (return r) → st.frames ≡ [] →
@@ -80,61 +67,9 @@ end_world p n st r z v runs there frames h =
     by None e = absurd (cc e)
     by (Some y) e = cc e
 
--- main's value in a0, behind the call of main
-record BackAtStart (p : Plan) (z : ℤ) (s : State) : Type 0 where
-  steps : ℕ
-  most : steps ≤ 4
-  after : State
-  runs : Executes steps s after
-  pc : after.pc ≡ start_back p
-  registers : length after.regs ≡ 32
-  memory : after.memory ≡ s.memory
-  int : IsInt z
-  value : x after a0 ≡ extended z
-
-back_at_start : (p : Plan) (n : ℕ) (st : LinearState) (w : abi.World) (back : ℕ) (r : Option ℕ) (z : ℤ) → Stands p n st w back → slice_get (function p n).ops st.top.place ≡ Some (return r) →
-    ResultStands p n st.top.frame r → value_in (slot_kinds p n) st.top.frame st.world (result_value r) ≡ Some z → back ≡ start_back p → back < 2 ^ 64 → BackAtStart p z w.hart
-back_at_start p n st w back r z h there result value_is back_is small =
-    let f : Shape = shape p n in
-    let g : Ground = (setting p n).ground in
-    let here : ℕ = first_word p n + op_word (routine p n) st.top.place in
-    let s : State = w.hart in
-    let front : List Piece = value_code f 0 (result_value r) in
-    let code_is : linear_code f (return r) ≡ front ++ epilogue f = ap (λ c. c ++ epilogue f) (result_code f r) in
-    let stood = operation_at p s.memory n st.top.place (return r) h.memory.unit h.memory.top.known there in
-    let own : OperationAt p s.memory n st.top.place (front ++ epilogue f) = subst (OperationAt p s.memory n st.top.place) code_is stood in
-    let one : length front ≡ 1 = result_words f r in
-    let parts = pieces_split s.memory g here front (epilogue f) own.code in
-    let value = values_are_computed.value (setting p n) f (slot_kinds p n) st.top.frame st.world (result_value r) z 0 here s (result_stands p n st.top.frame st.world r result) value_is (result_needs r)
-    (omega (arith, one)) parts.0 h.pc (ready_here p n st w back h) in
-    let first = value.computes.goes in
-    let m1 : State = first.after in
-    let stack1 : x m1 sp ≡ x s sp = first.kept sp (kept_low 0 sp (omega arith)) in
-    let stands = h.memory.top in
-    let frame1 : HasFrame f back m1 = record {
-      registers = first.registers;
-      size = stands.small;
-      below = omega (arith, stack1, stands.below);
-      saved = subst (λ ps. AddressAt ps (x m1 sp + return_offset) back) (sym first.memory) (subst (λ b. AddressAt s.memory (b + return_offset) back) (sym stack1) stands.saved);
-      back_aligned = omega (arith, back_is, even_base p s.memory h.memory.unit);
-      back_below = small;
-    } in
-    let second = epilogue_leaves g (here + length front) back f m1 (code_after g here (length front) 0 (here + length front) (epilogue f) s first parts.1) first.pc frame1 in
-    record {
-      steps = first.steps + 3;
-      most = omega (arith, first.most, one);
-      after = second.after;
-      runs = steps_then first.steps 3 s m1 second.after first.runs second.runs;
-      pc = second.pc ∙ back_is;
-      registers = second.registers;
-      memory = second.memory ∙ first.memory;
-      int = value.int;
-      value = second.kept a0 (λ e. absurd (omega (arith, e))) (λ e. absurd (omega (arith, e))) ∙ value.computes.is;
-    }
-
-exits : CallsAreTurns → (image : Image) (pick : ℕ → ℕ) (k : ℕ) (p : Plan) (w : abi.World) (z : ℤ) → UnitStands p w.hart.memory → BackAtStart p z w.hart → 6 ≤ k →
-    ((run image pick k w).items ≡ []) × ((run image pick k w).end ≡ Exit z)
-exits turns image pick k p w z unit h some =
+exits : CallsAreTurns → (image : Image) (pick : ℕ → ℕ) (k : ℕ) (p : Plan) (n : ℕ) (w : abi.World) (z : ℤ) (before : List ℕ) (r : Option ℕ) → UnitStands p w.hart.memory → CameBack p n (start_back p) z before r w.hart →
+    length (linear_code (shape p n) (return r)) + 2 ≤ k → ((run image pick k w).items ≡ []) × ((run image pick k w).end ≡ Exit z)
+exits turns image pick k p n w z before r unit h some =
     let g : Ground = routine_ground p.unit p.base (λ t. stub_target t) 0 start_routine in
     let t : State = h.after in
     let code : PiecesAt w.hart.memory g 2 (runtime_call exit_call) = (unit.stubs.start.1.1.0, (unit.stubs.start.1.1.1.0, tt)) in
@@ -156,4 +91,6 @@ mains_end turns image pick k p n st w r z v h runs there frames result e some =
     let waiting : CallsWait p [] st.world w.hart.memory (x w.hart sp + (shape p n).size) h.back st.top.frame.call
     = subst (λ gs. CallsWait p gs st.world w.hart.memory (x w.hart sp + (shape p n).size) h.back st.top.frame.call) frames stood.memory.waiting in
     let small : h.back < 2 ^ 64 = omega (arith, waiting.0, stood.memory.unit.stubs.start.1.1.0.word.below) in
-    exits turns image pick k p w z stood.memory.unit (back_at_start p n st w h.back r z stood there result (end_value p n st r z v runs there frames e) waiting.0 small) some
+    let even : h.back % 4 ≡ 0 = omega (arith, waiting.0, even_base p w.hart.memory stood.memory.unit) in
+    let came = comes_back p n st w h.back r z stood there result (end_value p n st r z v runs there frames e) even small in
+    exits turns image pick k p n w z stood.kept.before r stood.memory.unit (subst (λ b. CameBack p n b z stood.kept.before r w.hart) waiting.0 came) some

@@ -1,7 +1,7 @@
 -- What an operation that calls a compiled function is, on the machine for linear code and as pieces.
-use Rattle.std.proofs.Common.{◌≡◌, ◌∙◌, sym, ap, subst, ℕ, List, [], ◌∷◌, ◌++◌, append_assoc, append-nil, Option, Some, None}
+use Rattle.std.proofs.Common.{◌≡◌, ◌∙◌, refl, sym, ap, subst, ℕ, List, [], ◌∷◌, ◌++◌, append_assoc, append-nil, Option, Some, None}
 use Rattle.std.specs.Prelude.{slice_get}
-use Rattle.region_forms.specs.Form.{Place, call_value, defined, no_arguments, evaluate, store, call, construct, destroy}
+use Rattle.region_forms.specs.Form.{Place, call_value, defined, Arguments, no_arguments, evaluate, store, call, construct, destroy}
 use Rattle.region_forms.specs.World.{Address, Word, address_word, World}
 use Rattle.region_forms.specs.Evaluation.{with_some, address_of, words_in}
 use Rattle.region_forms.specs.Effect.{calls, if_some}
@@ -17,9 +17,11 @@ use Rattle.machine_forms.specs.Piece.{Piece}
 use Rattle.machine_forms.specs.Shape.{Shape}
 use Rattle.machine_forms.specs.PlaceCode.{place_address}
 use Rattle.machine_forms.specs.CallCode.{passed, arguments_passed, function_called}
+use Rattle.machine_forms.specs.KeptCode.{root_register}
+use Rattle.machine_forms.specs.OperationCode.{whole_value, value_stored}
 use Rattle.machine_forms.specs.LinearCode.{linear_code}
 use Rattle.machine_simulation.specs.Plan.{Plan, function, slot_kinds}
-use Rattle.machine_simulation.specs.Calls.{CallOf, call_of, stored_behind}
+use Rattle.machine_simulation.specs.Calls.{CallOf, call_of, given_in, stored_behind}
 use Rattle.machine_simulation.specs.Entering.{given_to}
 use Rattle.machine_simulation.proofs.Quiet.{step_is}
 
@@ -93,6 +95,11 @@ code_for f o c d same h = subst (CallCode f o) same h
 at_end : (front rear : List Piece) → front ++ rear ≡ front ++ (rear ++ [])
 at_end front rear = ap (λ ps. front ++ ps) (sym (append-nil rear))
 
+-- the value of a call is stored behind it
+stored_value : (f : Shape) (o : Option ℕ) (q : Place) (n : ℕ) (args : Arguments) → value_stored f o q (call_value (defined n) args) ≡ whole_value f (call_value (defined n) args) ++ given_in f o q
+stored_value f (Some rd) q n args = refl
+stored_value f None q n args = refl
+
 pub call_code_of : (f : Shape) (o : LinearOp) (c : CallOf) → call_of o ≡ Some c → LinearFits o → CallCode f o c
 call_code_of f (plain (evaluate (call_value (defined n) args))) c is fits =
     code_for f (plain (evaluate (call_value (defined n) args))) (record { number = n; object = None; arguments = args }) c (cc is)
@@ -101,7 +108,7 @@ call_code_of f (plain (store q (call_value (defined n) args))) c is fits =
     let rear : List Piece = stored_behind f (plain (store q (call_value (defined n) args))) in
     code_for f (plain (store q (call_value (defined n) args))) (record { number = n; object = None; arguments = args }) c (cc is)
     (record {
-      pieces = ap (λ ps. ps ++ rear) (append-nil (arguments_passed f 0 args ++ function_called (compiled n))) ∙ append_assoc (arguments_passed f 0 args) (function_called (compiled n)) rear;
+      pieces = stored_value f (root_register f q.root) q n args ∙ ap (λ ps. ps ++ rear) (append-nil (arguments_passed f 0 args ++ function_called (compiled n))) ∙ append_assoc (arguments_passed f 0 args) (function_called (compiled n)) rear;
       fits = fits;
     })
 call_code_of f (plain (call (defined n) args)) c is fits =

@@ -21,7 +21,7 @@ use Rattle.linear_forms.specs.Machine.{step}
 use Rattle.linear_forms.specs.Operation.{performed}
 use Rattle.linear_forms.specs.UnitRun.{code_of}
 use Rattle.machine_forms.specs.Bounds.{LinearFits}
-use Rattle.machine_forms.specs.Registers.{sp, a0}
+use Rattle.machine_forms.specs.Registers.{sp, a0, register}
 use Rattle.machine_forms.specs.Piece.{Piece}
 use Rattle.machine_forms.specs.RuntimeCall.{runtime_call, exit_call}
 use Rattle.machine_forms.specs.ValueCode.{needs, value_code}
@@ -45,7 +45,7 @@ use Rattle.machine_simulation.proofs.Quiet.{step_is, plain_is}
 
 -- both operations are alike
 record ExitOp (p : Plan) (n : ℕ) (e : Value) (st : LinearState) (o : LinearOp) : Type 0 where
-  pieces : linear_code (shape p n) o ≡ (value_code (shape p n) 0 e ++ []) ++ runtime_call exit_call
+  pieces : linear_code (shape p n) o ≡ (value_code (shape p n) (register 0) 0 e ++ []) ++ runtime_call exit_call
   fits : LinearFits o → 0 + needs e ≤ 15
   steps : (next : Next) → step (code_of p.unit) st ≡ next →
       performed (code_of p.unit) (if_some (words_in (slot_kinds p n) st.top.frame st.world (argument_then (int_argument e) no_arguments)) (λ given. ends (exit (number_at given 0)) st.world)) st.top st.frames st.world ≡ next
@@ -91,7 +91,7 @@ exit_runs turns image pick k p n st w back o e z h there op stands is enough =
     let g : Ground = (setting p n).ground in
     let here : ℕ = first_word p n + op_word (routine p n) st.top.place in
     let s : State = w.hart in
-    let front : List Piece = value_code (shape p n) 0 e in
+    let front : List Piece = value_code (shape p n) (register 0) 0 e in
     let rear : List Piece = runtime_call exit_call in
     let pieces : linear_code (shape p n) o ≡ front ++ rear = op.pieces ∙ ap (λ ps. ps ++ rear) (append-nil front) in
     let own : OperationAt p s.memory n st.top.place (front ++ rear)

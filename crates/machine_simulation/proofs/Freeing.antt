@@ -11,10 +11,14 @@ use Rattle.machine_pieces.specs.Numbers.{int_bits}
 use Rattle.machine_pieces.specs.Frames.{Setting, byte_of, IntAt, AddressAt, WordHolds}
 use Rattle.machine_pieces.proofs.Storing.{value_written, holds_apart, may_still}
 use Rattle.machine_stubs.specs.Stretches.{frame_size, Beside}
-use Rattle.machine_simulation.specs.Plan.{Plan, shape, setting}
+use Rattle.machine_simulation.specs.Plan.{Plan, function, shape, setting}
 use Rattle.machine_simulation.specs.Extents.{IntsInside}
 use Rattle.machine_simulation.specs.Calls.{CallStands, CallsWait}
+use Rattle.machine_simulation.specs.KeptCalls.{RegistersMatch}
 use Rattle.machine_simulation.specs.Matches.{MemoryMatches}
+use Rattle.machine_simulation.proofs.KeptSlots.{kept_slot}
+use Rattle.machine_simulation.proofs.KeptCalls.{kept_alone}
+use Rattle.machine_simulation.proofs.KeptStores.{registers_still}
 use Rattle.machine_simulation.proofs.Keeping.{IntsHold}
 use Rattle.machine_simulation.proofs.StubKeeping.{StubKeeps, stub_stays}
 use Rattle.machine_simulation.proofs.Holding.{unit_stays, stack_stays, objects_stay, same_number}
@@ -47,7 +51,7 @@ word_kept t old new a (unwinding n) keep h = record { aligned = h.aligned; below
 
 -- ---- memory is as before beside some bytes
 
-module _ (p : Plan) (v : World) (a k : ℕ) (old new : List Part) (live : LiveApart p a k) (beside : Beside a k old new) where
+module _ (p : Plan) (v : World) (a k : ℕ) (old new : List Part) (beside : Beside a k old new) where
   int_beside : (b : ℕ) (z : ℤ) → Apart a k b 4 → IntAt old b z → IntAt new b z
   int_beside b z out h = record { int = h.int; aligned = h.aligned; below = h.below; holds = beside.others b 4 (int_bits z) out h.holds }
 
@@ -58,8 +62,8 @@ module _ (p : Plan) (v : World) (a k : ℕ) (old new : List Part) (live : LiveAp
   slot_beside : (t : Setting) (stack b : ℕ) (word : Word) → IsFree stack a k → stack ≤ b → WordHolds t old b word → WordHolds t new b word
   slot_beside t stack b word free high h = word_kept t old new b word (λ n z there. beside.others b n z (above_apart stack a k b n free (inr high)) there) h
 
-  ints_beside : IntsInside p v → IntsHold p v old → IntsHold p v new
-  ints_beside inside ints c z is_live there = int_beside (p.at c.base + c.offset) z (live c.base c.offset 4 (p.at c.base + c.offset) is_live refl (inside c z is_live there).0) (ints c z is_live there)
+  ints_beside : LiveApart p a k → IntsInside p v → IntsHold p v old → IntsHold p v new
+  ints_beside live inside ints c z is_live there = int_beside (p.at c.base + c.offset) z (live c.base c.offset 4 (p.at c.base + c.offset) is_live refl (inside c z is_live there).0) (ints c z is_live there)
 
   free_call : (n : ℕ) (frame : Frame) (stack back : ℕ) → IsFree stack a k → IntsHold p v new → CallStands p n frame v old stack back → CallStands p n frame v new stack back
   free_call n frame stack back free ints st = record {
@@ -90,7 +94,7 @@ module _ (p : Plan) (v : World) (a k : ℕ) (old new : List Part) (live : LiveAp
     int = λ o z inside there. int_beside (stack + o) z (above_apart stack a k (stack + o) 4 free (inr (omega arith))) there;
   }
 
-  free_waits : (fs : List Activation) (stack back limit : ℕ) → IntsHold p v new → IsFree stack a k → CallsWait p fs v old stack back limit → CallsWait p fs v new stack back limit
+  pub free_waits : (fs : List Activation) (stack back limit : ℕ) → IntsHold p v new → IsFree stack a k → CallsWait p fs v old stack back limit → CallsWait p fs v new stack back limit
   free_waits [] stack back limit ints free h = h
   free_waits (c ∷ fs) stack back limit ints free (inl h) =
       let w = h.3 in inl (
@@ -113,11 +117,11 @@ pub beside_matches : (p : Plan) (n : ℕ) (frame : Frame) (fs : List Activation)
 beside_matches p n frame fs v old new stack back a k h free beside =
     let live : LiveApart p a k = live_apart p n frame fs v old stack back a k h free in
     let w : Written old new = beside.written in
-    let ints : IntsHold p v new = ints_beside p v a k old new live beside h.inside h.top.holds.ints in
+    let ints : IntsHold p v new = ints_beside p v a k old new beside live h.inside h.top.holds.ints in
     record {
-      top = free_call p v a k old new live beside n frame stack back free ints h.top;
+      top = free_call p v a k old new beside n frame stack back free ints h.top;
       newest = h.newest;
-      waiting = free_waits p v a k old new live beside fs (stack + (shape p n).size) back frame.call ints (record { low = free.low; high = omega (arith, free.high) }) h.waiting;
+      waiting = free_waits p v a k old new beside fs (stack + (shape p n).size) back frame.call ints (record { low = free.low; high = omega (arith, free.high) }) h.waiting;
       apart = record {
         apart = h.apart.apart;
         may = λ b o m is_live inside. may_still old new (p.at b + o) m w (h.apart.may b o m is_live inside);
@@ -139,3 +143,22 @@ free_matches p n frame fs v memory stack back a k value h free =
       written = value_written memory a k value (h.may a k free.low (omega (arith, free.high, h.top.below)));
       others = λ b m x out held. holds_apart memory a k value b m x out held;
     })
+
+-- ---- registers of kept variables
+
+-- what holds the bytes from the newest call's frame on keeps what registers hold for all open calls
+pub registers_above : (p : Plan) (n : ℕ) (frame : Frame) (fs : List Activation) (v : World) (old new : List Part) (stack back : ℕ) (regs : List ℕ) → MemoryMatches p n frame fs v old stack back →
+    ((b m x : ℕ) → stack ≤ b → Holds old b m x → Holds new b m x) → RegistersMatch p n frame fs v old stack regs → RegistersMatch p n frame fs v new stack regs
+registers_above p n frame fs v old new stack back regs h keep r =
+    registers_still p p.at p.size p.live p.ints n frame frame fs v v old new stack back regs refl h
+    (λ m f place home rs before above le st one. record {
+      ints = λ s q is. refl;
+      saved = λ s q b is held. record { aligned = held.aligned; below = held.below; holds = keep (place + slot_offset (shape p m) s) 8 b (omega (arith, above)) held.holds };
+      dead = one.dead;
+      alone = λ b s q live is. let k = kept_slot (function p m) s q is in kept_alone p m f v old place rs before b s q one live is k.place k.slot_is;
+    }) r
+
+pub registers_beside : (p : Plan) (n : ℕ) (frame : Frame) (fs : List Activation) (v : World) (old new : List Part) (stack back a k : ℕ) (regs : List ℕ) → MemoryMatches p n frame fs v old stack back → IsFree stack a k → Beside a k old new →
+    RegistersMatch p n frame fs v old stack regs → RegistersMatch p n frame fs v new stack regs
+registers_beside p n frame fs v old new stack back a k regs h free beside r =
+    registers_above p n frame fs v old new stack back regs h (λ b m x high held. beside.others b m x (above_apart stack a k b m free (inr high)) held) r

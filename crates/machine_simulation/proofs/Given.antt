@@ -105,3 +105,22 @@ same_beside kinds c i (x ∷ given) v =
 
 pub number_beside : (kinds : Kinds) (c i : ℕ) (given : List Word) (v : World) → (world_passed kinds c i given v).last_number ≡ v.last_number
 number_beside kinds c i given v = ap (λ (e : LinearExceptions). e.last_number) (same_beside kinds c i given v).kept
+
+-- an int that is no variable of the new call stays
+pub memory_beside : (kinds : Kinds) (c i : ℕ) (given : List Word) (v : World) (b : Address) → ((s : ℕ) → b.base ≡ of_variable c s → ⊥) → (world_passed kinds c i given v).memory b ≡ v.memory b
+memory_beside kinds c i [] v b other = refl
+memory_beside kinds c i (x ∷ given) v b other = memory_beside kinds c (i + 1) given (int_passed_to (kinds i) c i x v) b other ∙ one (kinds i) x
+  where
+    here : (y : ℤ) (t : Bool) → same_address (record { base = of_variable c i; offset = 0 }) b ≡ t → (if t then Some y else v.memory b) ≡ v.memory b
+    here y false e = refl
+    here y true e = absurd (other i (sym (ap (λ (a : Address). a.base) (address_is (record { base = of_variable c i; offset = 0 }) b e))))
+
+    one : (k : SlotKind) (y : Word) → (int_passed_to k c i y v).memory b ≡ v.memory b
+    one int_slot (number_word y) = here y (same_address (record { base = of_variable c i; offset = 0 }) b) refl
+    one int_slot nothing = refl
+    one int_slot (address_word a) = refl
+    one int_slot (flying d t) = refl
+    one int_slot (unwinding n) = refl
+    one address_slot y = refl
+    one object_slot y = refl
+    one help_slot y = refl

@@ -20,7 +20,7 @@ use Rattle.machine_pieces.proofs.Numbers.{int_stored}
 use Rattle.machine_pieces.proofs.Storing.{four_stored, eight_stored, may_still}
 use Rattle.machine_pieces.proofs.Fetching.{pieces_still}
 use Rattle.machine_stubs.specs.Stretches.{stub_ground, StubAt}
-use Rattle.machine_simulation.specs.Plan.{Plan, shape, slot_kinds, setting, routine, first_word}
+use Rattle.machine_simulation.specs.Plan.{Plan, function, shape, slot_kinds, setting, routine, first_word}
 use Rattle.machine_simulation.specs.Extents.{newer, IntsInside, LocationStands}
 use Rattle.machine_simulation.specs.Calls.{HeldBy, IsBegun, CallStands}
 use Rattle.machine_simulation.specs.Matches.{UnitStands, StackMay, StillFresh, ObjectsStand, MemoryMatches}
@@ -28,6 +28,7 @@ use Rattle.machine_simulation.specs.Laws.{StoresStayApart}
 use Rattle.machine_simulation.proofs.Bases.{true_is_not, address_is}
 use Rattle.machine_simulation.proofs.Keeping.{Store, place_of, after, StoreFits, store_written, IntsHold, ints_stay, int_store, ints_written, inside_written, apart_stays, slot_stays, address_stays, call_stays, other_by_ints, stub_kept, waits_stay}
 use Rattle.machine_simulation.proofs.Stored.{stored_there}
+use Rattle.machine_simulation.proofs.KeptSlots.{plain_slot}
 
 -- ---- code and the stack
 
@@ -184,7 +185,7 @@ slot_matches p n frame fs v memory stack back s size value word h there plain fe
     let to : List Part = with_value memory (stack + slot_offset (shape p n) s) size value in
     let new : List Part = after p c memory in
     let same : new ≡ to = ap (λ a. with_value memory a size value) place in
-    let ok : StoreFits p memory c = record { apart = h.apart; live = h.top.holds.own s there; inside = omega (arith, few, h.top.slots.whole s there plain) } in
+    let ok : StoreFits p memory c = record { apart = h.apart; live = h.top.holds.own s there (plain_slot (function p n) s plain); inside = omega (arith, few, h.top.slots.whole s there plain) } in
     let w : Written memory new = store_written p memory c ok in
     let none : p.ints (of_variable frame.call s) ≡ false = h.top.slots.ints s there ∙ plain in
     let all : IntsHold p v new = ints_stay p memory c v ok h.inside none h.top.holds.ints in
@@ -209,7 +210,7 @@ slot_matches p n frame fs v memory stack back s size value word h there plain fe
 pub slot_place : (p : Plan) (n : ℕ) (frame : Frame) (fs : List Activation) (v : World) (memory : List Part) (stack back s : ℕ) → MemoryMatches p n frame fs v memory stack back → s < length (shape p n).slots →
     is_variable (slot_kinds p n s) ≡ false → ((stack + slot_offset (shape p n) s) % 4 ≡ 0) × (stack + slot_offset (shape p n) s + 8 < 2 ^ 64)
 slot_place p n frame fs v memory stack back s h there plain =
-    let live = h.top.holds.own s there in
+    let live = h.top.holds.own s there (plain_slot (function p n) s plain) in
     let at = h.top.holds.variables s there in
     (omega (arith, at, h.apart.aligned (of_variable frame.call s) live), omega (arith, at, h.apart.below (of_variable frame.call s) live, h.top.slots.whole s there plain))
 
@@ -217,7 +218,7 @@ pub slot_may : (p : Plan) (n : ℕ) (frame : Frame) (fs : List Activation) (v : 
     is_variable (slot_kinds p n s) ≡ false → k ≤ 8 → MayWrite memory (stack + slot_offset (shape p n) s) k
 slot_may p n frame fs v memory stack back s k h there plain few =
     subst (λ a. MayWrite memory a k) (omega (arith, h.top.holds.variables s there))
-    (h.apart.may (of_variable frame.call s) 0 k (h.top.holds.own s there) (omega (arith, few, h.top.slots.whole s there plain)))
+    (h.apart.may (of_variable frame.call s) 0 k (h.top.holds.own s there (plain_slot (function p n) s plain)) (omega (arith, few, h.top.slots.whole s there plain)))
 
 -- where an int may be written
 pub record MayHold (memory : List Part) (a : ℕ) : Type 0 where

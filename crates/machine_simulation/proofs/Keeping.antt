@@ -13,11 +13,12 @@ use Rattle.machine_pieces.specs.Frames.{Setting, byte_of, IntAt, AddressAt, Word
 use Rattle.machine_stubs.specs.Stretches.{frame_size}
 use Rattle.machine_pieces.proofs.Numbers.{int_stored}
 use Rattle.machine_pieces.proofs.Storing.{holds_apart, four_stored, may_still, value_written}
-use Rattle.machine_simulation.specs.Plan.{Plan, shape, slot_kinds, setting}
+use Rattle.machine_simulation.specs.Plan.{Plan, function, shape, slot_kinds, setting}
 use Rattle.machine_simulation.specs.Extents.{StandApart, IntsInside, SlotsStand}
 use Rattle.machine_simulation.specs.StubCalls.{StubStands}
 use Rattle.machine_simulation.specs.Calls.{HeldBy, CallStands, CallsWait}
 use Rattle.machine_simulation.proofs.StubKeeping.{StubKeeps, stub_stays}
+use Rattle.machine_simulation.proofs.KeptSlots.{plain_slot}
 use Rattle.machine_simulation.proofs.Bases.{true_is_not, base_cases, address_is, address_is_not}
 
 -- some bytes of one thing get a number
@@ -168,7 +169,7 @@ slot_stays p n frame v memory stack s c holds slots h other inside = by (is_vari
     by true e (inr ne) = none (slots.variables s inside e)
     by false e (inr ne) =
         word_stays (setting p n) memory (place_of p c) c.size c.value (stack + slot_offset (shape p n) s) (frame.slots s)
-        (other_apart p memory c (of_variable frame.call s) (stack + slot_offset (shape p n) s) 0 8 h (holds.own s inside) ne (omega (arith, holds.variables s inside)) (omega (arith, slots.whole s inside e)))
+        (other_apart p memory c (of_variable frame.call s) (stack + slot_offset (shape p n) s) 0 8 h (holds.own s inside (plain_slot (function p n) s e)) ne (omega (arith, holds.variables s inside)) (omega (arith, slots.whole s inside e)))
         (holds.slots s inside)
 
 pub call_stays : (p : Plan) (n : ℕ) (frame : Frame) (v u : World) (memory : List Part) (stack back : ℕ) (c : Store) → v.last_number ≤ u.last_number → StoreFits p memory c → IsOther p n c frame →

@@ -34,3 +34,13 @@ pub mod Items
 pub mod Frames
 pub mod Room
 pub mod LiveThere
+pub mod KeptSlots
+pub mod KeptCalls
+pub mod KeptStores
+pub mod KeptPlaces
+pub mod KeptBegins
+pub mod KeptEntered
+pub mod KeptOpened
+pub mod KeptClosed
+pub mod Taken
+pub mod Floors

@@ -19,7 +19,7 @@ use Rattle.linear_forms.specs.Machine.{step}
 use Rattle.linear_forms.specs.Operation.{performed}
 use Rattle.linear_forms.specs.UnitRun.{code_of}
 use Rattle.machine_forms.specs.Bounds.{LinearFits}
-use Rattle.machine_forms.specs.Registers.{sp, a0}
+use Rattle.machine_forms.specs.Registers.{sp, a0, register}
 use Rattle.machine_forms.specs.Piece.{Piece}
 use Rattle.machine_forms.specs.Shape.{Shape}
 use Rattle.machine_forms.specs.RuntimeCall.{runtime_call}
@@ -28,6 +28,9 @@ use Rattle.machine_forms.specs.LinearCode.{linear_code}
 use Rattle.machine_forms.specs.Routine.{op_word}
 use Rattle.machine_pieces.specs.Numbers.{extended}
 use Rattle.machine_pieces.specs.Standing.{Ground}
+use Rattle.machine_pieces.specs.Keeping.{saved_of}
+use Rattle.machine_pieces.specs.RuntimeCalls.{AtCall}
+use Rattle.machine_pieces.proofs.Keeping.{kept_saved, same_saved}
 use Rattle.machine_pieces.specs.Frames.{ValueStands}
 use Rattle.machine_pieces.specs.Turning.{after_line}
 use Rattle.machine_pieces.specs.Laws.{CallsAreTurns}
@@ -39,7 +42,11 @@ use Rattle.machine_pieces.proofs.Testing.{values_are_computed}
 use Rattle.machine_pieces.proofs.Turning.{turns_then, executes_turns, write_turns}
 use Rattle.machine_simulation.specs.Plan.{Plan, function, shape, slot_kinds, routine, first_word, setting}
 use Rattle.machine_simulation.specs.Calls.{CallStands}
+use Rattle.machine_simulation.specs.KeptCalls.{RegistersMatch}
 use Rattle.machine_simulation.specs.Matches.{MemoryMatches, Matches}
+use Rattle.machine_simulation.proofs.KeptSlots.{kept_slot}
+use Rattle.machine_simulation.proofs.KeptCalls.{kept_alone}
+use Rattle.machine_simulation.proofs.KeptStores.{registers_still}
 use Rattle.machine_simulation.specs.Operations.{Matched}
 use Rattle.machine_simulation.specs.Lines.{Writes, LinesRun}
 use Rattle.machine_simulation.proofs.Asked.{value_stands}
@@ -47,7 +54,7 @@ use Rattle.machine_simulation.proofs.Words.{OperationAt, operation_at}
 use Rattle.machine_simulation.proofs.StubKeeping.{stub_same}
 use Rattle.machine_simulation.proofs.Keeping.{held_later, waits_stay}
 use Rattle.machine_simulation.proofs.Holding.{same_number}
-use Rattle.machine_simulation.proofs.Matching.{Stands, stands_by, ready_here, runtime_stays}
+use Rattle.machine_simulation.proofs.Matching.{Stands, stands_by, ready_here, runtime_stays, kept_at, values_saved}
 use Rattle.machine_simulation.proofs.Quiet.{moved, step_is, plain_is}
 
 -- ---- a world with more items
@@ -97,11 +104,27 @@ matches_alike p n frame fs v u memory stack back ints calls later h = record {
   unit = h.unit;
 }
 
+-- and so are registers
+pub registers_alike : (p : Plan) (n : ℕ) (frame : Frame) (fs : List Activation) (v u : World) (memory : List Part) (stack back : ℕ) (regs : List ℕ) → u.memory ≡ v.memory → MemoryMatches p n frame fs v memory stack back →
+    RegistersMatch p n frame fs v memory stack regs → RegistersMatch p n frame fs u memory stack regs
+registers_alike p n frame fs v u memory stack back regs ints h r =
+    registers_still p p.at p.size p.live p.ints n frame frame fs v u memory memory stack back regs refl h
+    (λ m f place home rs before above le st one. record {
+      ints = λ s q is. ap (λ w. w (record { base = of_variable f.call s; offset = 0 })) ints;
+      saved = λ s q b is held. held;
+      dead = one.dead;
+      alone = λ b s q live is. let k = kept_slot (function p m) s q is in kept_alone p m f v memory place rs before b s q one live is k.place k.slot_is;
+    }) r
+
+-- a runtime call leaves the registers of kept variables
+pub call_saved : (g : Ground) (here number : ℕ) (s : State) → (at : AtCall g here number s) → saved_of at.behind ≡ saved_of s
+call_saved g here number s at = same_saved s at.behind (λ r k. at.kept r (kept_saved 0 r k 7 (omega arith) (omega arith)))
+
 -- ---- the step and the pieces
 
 -- both operations are alike
 record LineOp (p : Plan) (n : ℕ) (v : Value) (st : LinearState) (o : LinearOp) : Type 0 where
-  pieces : linear_code (shape p n) o ≡ (value_code (shape p n) 0 v ++ []) ++ runtime_call 1
+  pieces : linear_code (shape p n) o ≡ (value_code (shape p n) (register 0) 0 v ++ []) ++ runtime_call 1
   fits : LinearFits o → 0 + needs v ≤ 15
   steps : (next : LinearState) → step (code_of p.unit) st ≡ goes_to next →
       performed (code_of p.unit) (if_some (words_in (slot_kinds p n) st.top.frame st.world (argument_then (int_argument v) no_arguments))
@@ -147,7 +170,7 @@ line_runs turns image p n st next w back o v h there line stands went =
     let g : Ground = (setting p n).ground in
     let here : ℕ = first_word p n + op_word (routine p n) st.top.place in
     let s : State = w.hart in
-    let front : List Piece = value_code f 0 v in
+    let front : List Piece = value_code f (register 0) 0 v in
     let rear : List Piece = runtime_call 1 in
     let pieces : linear_code f o ≡ front ++ rear = line.pieces ∙ ap (λ ps. ps ++ rear) (append-nil front) in
     let stood = operation_at p s.memory n st.top.place o h.memory.unit h.memory.top.known there in
@@ -171,6 +194,8 @@ line_runs turns image p n st next w back o v h there line stands went =
     let memory : at.behind.memory ≡ s.memory = at.memory ∙ value.computes.goes.memory in
     let world : World = with_item (Line went.value) st.world in
     let held = matches_alike p n st.top.frame st.frames st.world world s.memory (x s sp) back refl refl (same_number st.world) h.memory in
+    let kept = registers_alike p n st.top.frame st.frames st.world world s.memory (x s sp) back (saved_of s) refl h.memory h.kept in
+    let saved : saved_of at.behind ≡ saved_of s = call_saved g (here + length front) 1 m at ∙ values_saved s m value.computes.goes.kept in
     let to : LinearState = moved st (st.top.place + 1) st.top.frame world in
     subst (λ (y : LinearState). Matched image (length (linear_code f o)) w (Line went.value ∷ []) (λ b. Matches p y b)) went.next_is (record {
       turns = k + 1;
@@ -185,6 +210,7 @@ line_runs turns image p n st next w back o v h there line stands went =
         registers = at.registers;
         pc = at.pc ∙ omega (arith, stood.next, total);
         memory = subst (λ ps. MemoryMatches p n st.top.frame st.frames world ps (x at.behind sp) back) (sym memory) (subst (λ a. MemoryMatches p n st.top.frame st.frames world s.memory a back) (sym stack) held);
+        kept = kept_at p n to (x s sp) s.memory (saved_of s) at.behind memory stack saved kept;
         runtime = let r = runtime_stays p st.frames st.world w u ran.runtime h.runtime in
             record { input = r.input; replies = r.replies; last_number = r.last_number; terminating = r.terminating; exceptions = r.exceptions; plan = r.plan };
       };

@@ -12,12 +12,17 @@ use Rattle.machine_forms.specs.Routine.{op_word}
 use Rattle.machine_pieces.specs.Executes.{steps as after_steps, Executes}
 use Rattle.machine_pieces.specs.Standing.{Ground, address}
 use Rattle.machine_pieces.specs.Frames.{Ready}
+use Rattle.machine_pieces.specs.Going.{IsKept}
+use Rattle.machine_pieces.specs.Keeping.{saved_of}
 use Rattle.machine_pieces.specs.Turning.{SameRuntime}
+use Rattle.machine_pieces.proofs.Keeping.{kept_saved, same_saved}
 use Rattle.machine_pieces.proofs.Turning.{executes_turns}
 use Rattle.machine_simulation.specs.Plan.{Plan, shape, slot_kinds, routine, first_word, setting}
 use Rattle.machine_simulation.specs.Exceptions.{addresses_of, exceptions_in, kept_by, destroyed, ExceptionsMatch}
 use Rattle.machine_simulation.specs.Matches.{RuntimeMatches, MemoryMatches, Matches}
+use Rattle.machine_simulation.specs.KeptCalls.{RegistersMatch}
 use Rattle.machine_simulation.specs.Operations.{Matched}
+use Rattle.machine_simulation.proofs.KeptSlots.{ready_of}
 
 -- ---- what matches, for a function by its number
 
@@ -26,16 +31,17 @@ pub record Stands (p : Plan) (n : ℕ) (st : LinearState) (w : abi.World) (back 
   pub registers : length w.hart.regs ≡ 32
   pub pc : w.hart.pc ≡ address (setting p n).ground (first_word p n + op_word (routine p n) st.top.place)
   pub memory : MemoryMatches p n st.top.frame st.frames st.world w.hart.memory (x w.hart sp) back
+  pub kept : RegistersMatch p n st.top.frame st.frames st.world w.hart.memory (x w.hart sp) (saved_of w.hart)
   pub runtime : RuntimeMatches p st.frames st.world w
 
 pub stands_by : (p : Plan) (n : ℕ) (st : LinearState) (w : abi.World) (h : Matches p st w) → st.top.function ≡ compiled n → Stands p n st w h.back
 stands_by p n st w h runs =
     let both : compiled h.number ≡ compiled n = sym h.runs ∙ runs in
     let same : h.number ≡ n = cc both in
-    subst (λ k. Stands p k st w h.back) same (record { runs = h.runs; registers = h.registers; pc = h.pc; memory = h.memory; runtime = h.runtime })
+    subst (λ k. Stands p k st w h.back) same (record { runs = h.runs; registers = h.registers; pc = h.pc; memory = h.memory; kept = h.kept; runtime = h.runtime })
 
 pub ready_here : (p : Plan) (n : ℕ) (st : LinearState) (w : abi.World) (back : ℕ) → Stands p n st w back → Ready (setting p n) (shape p n) (slot_kinds p n) st.top.frame st.world w.hart
-ready_here p n st w back h = record { registers = h.registers; holds = h.memory.top.holds }
+ready_here p n st w back h = ready_of p n st.top.frame st.world w.hart h.registers h.memory.top.holds h.kept.top.keeps
 
 -- ---- a step is made where there is a word
 
@@ -76,6 +82,7 @@ pub record Arrives (p : Plan) (n : ℕ) (next : LinearState) (back : ℕ) (t : S
   pub registers : length t.regs ≡ 32
   pub pc : t.pc ≡ address (setting p n).ground (first_word p n + op_word (routine p n) next.top.place)
   pub memory : MemoryMatches p n next.top.frame next.frames next.world t.memory (x t sp) back
+  pub kept : RegistersMatch p n next.top.frame next.frames next.world t.memory (x t sp) (saved_of t)
 
 pub matched : (image : Image) (p : Plan) (n : ℕ) (next : LinearState) (w : abi.World) (back words k : ℕ) (t : State) → k ≤ words → (0 < words → 0 < k) → Executes k w.hart t → Arrives p n next back t →
     RuntimeMatches p next.frames next.world w → Matched image words w [] (λ v. Matches p next v)
@@ -95,6 +102,7 @@ matched image p n next w back words k t few some runs there runtime =
         registers = at.registers;
         pc = at.pc;
         memory = at.memory;
+        kept = at.kept;
         runtime = runtime_stays p next.frames next.world w ran.after ran.runtime runtime;
       };
     }
@@ -105,3 +113,15 @@ pub memory_at : (p : Plan) (n : ℕ) (next : LinearState) (back stack : ℕ) (me
 memory_at p n next back stack memory t same at h =
     subst (λ ps. MemoryMatches p n next.top.frame next.frames next.world ps (x t sp) back) (sym same)
     (subst (λ a. MemoryMatches p n next.top.frame next.frames next.world memory a back) (sym at) h)
+
+-- and the registers of kept variables
+pub kept_at : (p : Plan) (n : ℕ) (next : LinearState) (stack : ℕ) (memory : List Part) (regs : List ℕ) (t : State) → t.memory ≡ memory → x t sp ≡ stack → saved_of t ≡ regs →
+    RegistersMatch p n next.top.frame next.frames next.world memory stack regs → RegistersMatch p n next.top.frame next.frames next.world t.memory (x t sp) (saved_of t)
+kept_at p n next stack memory regs t same at saved h =
+    subst (λ ps. RegistersMatch p n next.top.frame next.frames next.world ps (x t sp) (saved_of t)) (sym same)
+    (subst (λ a. RegistersMatch p n next.top.frame next.frames next.world memory a (saved_of t)) (sym at)
+    (subst (λ rs. RegistersMatch p n next.top.frame next.frames next.world memory stack rs) (sym saved) h))
+
+-- values leave them
+pub values_saved : (s t : State) → ((r : ℕ) → IsKept 0 r → x t r ≡ x s r) → saved_of t ≡ saved_of s
+values_saved s t kept = same_saved s t (λ r h. kept r (kept_saved 0 r h))

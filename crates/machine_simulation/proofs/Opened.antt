@@ -1,6 +1,6 @@
 -- A new call stands below the call that made it.
 use Rattle.std.proofs.Common.{◌≡◌, ◌≢◌, ◌∙◌, refl, sym, ap, subst, arith, ℕ, suc, ◌+◌, ◌-◌, ◌*◌, ◌%◌, ◌^◌, ◌<◌, ◌≤◌, ℤ, List, length, take, Some, None, inl, inr}
-use Rattle.std.specs.Prelude.{◌⊎◌, nat_lt, Bool, true, false, slice_get}
+use Rattle.std.specs.Prelude.{◌⊎◌, not, nat_lt, Bool, true, false, is_some, slice_get}
 use Rattle.std.proofs.lemmas.Bool.Decides.{nat_tests}
 use Rattle.rv64_isa.specs.State.{Part}
 use Rattle.region_forms.specs.Form.{int_slot}
@@ -12,6 +12,7 @@ use Rattle.linear_forms.specs.Activation.{Activation}
 use Rattle.machine_forms.specs.Shape.{slot_offset, return_offset}
 use Rattle.machine_pieces.specs.Memory.{MayWrite, Apart}
 use Rattle.machine_pieces.specs.Frames.{IntAt, WordHolds}
+use Rattle.machine_pieces.specs.Transfers.{lowest_sp}
 use Rattle.machine_simulation.specs.Plan.{Plan, function, shape, slot_kinds, setting}
 use Rattle.machine_simulation.specs.Extents.{newer, StandApart, IntsInside}
 use Rattle.machine_simulation.specs.Calls.{HeldBy, CallStands, CallsWait}
@@ -21,6 +22,7 @@ use Rattle.machine_simulation.proofs.Keeping.{IntsHold, held_later}
 use Rattle.machine_simulation.proofs.Slots.{SlotPlace, slot_place_of, plain_room, word_fits, given_bytes, got_inside}
 use Rattle.machine_simulation.proofs.Given.{frame_call, slot_given, IntGiven, int_given, same_beside, number_beside}
 use Rattle.machine_simulation.proofs.Opening.{many, SlotOrNot, slot_or_not, begun_is_old, NewSlot, new_slot, OldBase, old_base, word_opened, unit_opened}
+use Rattle.machine_simulation.proofs.Floors.{lowest_floor}
 use Rattle.machine_simulation.proofs.Beneath.{passed_there, not_newer, begun_last, no_word, none_by, MayPass, passed_begun, Begins}
 
 module _ (p : Plan) (n m : ℕ) (v : World) (memory : List Part) (stack low back : ℕ) (given : List Word) (h : Begins p n m v memory stack low back given) where
@@ -36,6 +38,9 @@ module _ (p : Plan) (n m : ℕ) (v : World) (memory : List Part) (stack low back
   is : FrameIs (function p m)
   is = h.below.unit.frames m h.known
 
+  floor : 0x7000_0000 ≤ low
+  floor = let least = lowest_floor (shape p m).leaf (shape p m).size stack is.small h.room in omega (arith, least, h.frame)
+
   slot : (s : ℕ) → s < many p m → SlotPlace (shape p m) s
   slot s inside = slot_place_of (function p m) s is inside
 
@@ -43,7 +48,7 @@ module _ (p : Plan) (n m : ℕ) (v : World) (memory : List Part) (stack low back
   new s inside = new_slot p m c low s inside
 
   -- a parameter's slot is where its word was passed
-  given_place : (j : ℕ) → j < length given → low + slot_offset (shape p m) j ≡ stack - 8 * (0 + j + 1)
+  pub given_place : (j : ℕ) → j < length given → low + slot_offset (shape p m) j ≡ stack - 8 * (0 + j + 1)
   given_place j inside =
       let count : j + 1 ≡ suc j = omega arith in
       let bytes : slot_bytes (take (j + 1) (shape p m).slots) ≡ 8 * (j + 1) = ap (λ k. slot_bytes (take k (shape p m).slots)) count ∙ given_bytes (function p m) given (suc j) is h.few h.fits (omega (arith, inside)) ∙ omega arith in
@@ -159,7 +164,7 @@ module _ (p : Plan) (n m : ℕ) (v : World) (memory : List Part) (stack low back
   old_apart b a k old from to i j hi hj e = by old.clear
     where
       by : (q.at b + q.size b ≤ 0x7000_0000) ⊎ (stack ≤ q.at b) → ⊥
-      by (inl under) = omega (arith, under, h.room, from, hi, e)
+      by (inl under) = omega (arith, under, floor, from, hi, e)
       by (inr above) = omega (arith, above, to, hj, e)
 
   own_apart : (a b : Base) (s t i j : ℕ) → OwnAt a s → OwnAt b t → s < many p m → t < many p m → s ≢ t → i < q.size a → j < q.size b → q.at a + i ≡ q.at b + j → ⊥
@@ -188,7 +193,7 @@ module _ (p : Plan) (n m : ℕ) (v : World) (memory : List Part) (stack low back
   may_at : (b : Base) (o k : ℕ) → q.live b ≡ true → o + k ≤ q.size b → SlotOrNot c (many p m) b → MayWrite memory (q.at b + o) k
   may_at b o k live inside (inl x) =
       let own = own_at b x.0 x.1 x.2 in
-      h.below.may (q.at b + o) k (omega (arith, own.at, h.room)) (omega (arith, own.at, own.size, own.place.high, inside, h.frame, h.below.end))
+      h.below.may (q.at b + o) k (omega (arith, own.at, floor)) (omega (arith, own.at, own.size, own.place.high, inside, h.frame, h.below.end))
   may_at b o k live inside (inr not_one) =
       let x = old_at b live not_one in
       subst (λ a. MayWrite memory (a + o) k) (sym x.same.at) (h.below.apart.may b o k x.live (omega (arith, inside, x.same.size)))
@@ -218,13 +223,13 @@ module _ (p : Plan) (n m : ℕ) (v : World) (memory : List Part) (stack low back
   call_stands d = record {
     known = h.known;
     small = is.small;
-    above = h.room;
+    above = subst (λ k. lowest_sp (shape p m).leaf (shape p m).size ≤ k) (sym h.frame) h.room;
     below = omega (arith, h.frame, h.below.end);
     holds = record {
       room = omega (arith, h.frame, h.below.end);
       slots = slot_holds;
       variables = λ s inside. subst (λ k. q.at (of_variable k s) ≡ low + slot_offset (shape p m) s) (sym called) (new s inside).at;
-      own = λ s inside. subst (λ k. q.live (of_variable k s) ≡ true) (sym called) (new s inside).live;
+      own = λ s inside none. subst (λ k. q.live (of_variable k s) ≡ true) (sym called) ((new s inside).live ∙ ap (λ o. not (is_some o)) none);
       ints = all_ints d;
       reached = λ g inside. let r = h.below.reached g inside in record { is = r.is; near = r.near };
       all_globals = h.below.all_globals;
@@ -322,7 +327,7 @@ module _ (p : Plan) (n m : ℕ) (v : World) (memory : List Part) (stack low back
           cc bases
 
       away_at : (b : Base) → q.live b ≡ true → is_exception b ≡ false → SlotOrNot c (many p m) b → IsAway (q.at b) (q.size b)
-      away_at b live plain (inl own) = let one = own_at b own.0 own.1 own.2 in inr (omega (arith, one.at, h.room))
+      away_at b live plain (inl own) = let one = own_at b own.0 own.1 own.2 in inr (omega (arith, one.at, floor))
       away_at b live plain (inr not_one) = let old = old_at b live not_one in to old.same (h.below.objects.away b old.live plain)
         where
           to : OldBase p m c low b → IsAway (p.at b) (p.size b) → IsAway (q.at b) (q.size b)

@@ -1,12 +1,13 @@
 -- A new call's frame below the others: what stands already still does.
 use Rattle.std.proofs.Common.{◌≡◌, ◌∙◌, refl, sym, ap, ap₂, subst, arith, ℕ, ◌+◌, ◌<◌, ◌≤◌, List, [], ◌∷◌, length, Some, inl, inr}
-use Rattle.std.specs.Prelude.{◌⊎◌, ◌==◌, ◌&&◌, nat_lt, Bool, true, false, if◌then◌else◌}
+use Rattle.std.specs.Prelude.{◌⊎◌, ◌==◌, ◌&&◌, not, nat_lt, Bool, true, false, is_some, if◌then◌else◌}
 use Rattle.std.proofs.lemmas.Bool.Decides.{nat_tests}
 use Rattle.rv64_isa.specs.State.{Part}
 use Rattle.region_forms.specs.WellFormed.{is_variable}
 use Rattle.region_forms.specs.World.{Base, of_global, of_variable, of_exception, Address, Word, nothing, number_word, address_word, flying, unwinding, address_in, Frame, World}
 use Rattle.linear_forms.specs.Activation.{Activation}
 use Rattle.machine_forms.specs.Shape.{slot_offset, return_offset}
+use Rattle.machine_forms.specs.KeptCode.{register_of}
 use Rattle.machine_pieces.specs.Memory.{Apart}
 use Rattle.machine_pieces.specs.Frames.{AddressAt, WordHolds}
 use Rattle.machine_stubs.specs.Stretches.{frame_size}
@@ -54,7 +55,7 @@ begun_is_old c k v (of_variable d s) le h =
 -- the new plan at a slot of the new call
 pub record NewSlot (p : Plan) (m c stack s : ℕ) : Type 0 where
   pub at : (opened p m c stack).at (of_variable c s) ≡ stack + slot_offset (shape p m) s
-  pub live : (opened p m c stack).live (of_variable c s) ≡ true
+  pub live : (opened p m c stack).live (of_variable c s) ≡ not (is_some (register_of (shape p m).kept s))
   pub size : (opened p m c stack).size (of_variable c s) ≡ slot_room (shape p m) s
   pub ints : (opened p m c stack).ints (of_variable c s) ≡ is_variable (slot_kinds p m s)
 
@@ -64,7 +65,7 @@ new_slot p m c stack s less =
     let b : Base = of_variable c s in
     record {
       at = ap (λ t. if t then stack + slot_offset (shape p m) s else p.at b) e;
-      live = ap (λ t. if t then true else p.live b) e;
+      live = ap (λ t. if t then not (is_some (register_of (shape p m).kept s)) else p.live b) e;
       size = ap (λ t. if t then slot_room (shape p m) s else p.size b) e;
       ints = ap (λ t. if t then is_variable (slot_kinds p m s) else p.ints b) e;
     }
@@ -79,7 +80,7 @@ pub record OldBase (p : Plan) (m c stack : ℕ) (b : Base) : Type 0 where
 pub old_base : (p : Plan) (m c stack : ℕ) (b : Base) → is_slot c (many p m) b ≡ false → OldBase p m c stack b
 old_base p m c stack b e = record {
   at = ap (λ t. if t then stack + slot_offset (shape p m) (slot_of b) else p.at b) e;
-  live = ap (λ t. if t then true else p.live b) e;
+  live = ap (λ t. if t then not (is_some (register_of (shape p m).kept (slot_of b))) else p.live b) e;
   size = ap (λ t. if t then slot_room (shape p m) (slot_of b) else p.size b) e;
   ints = ap (λ t. if t then is_variable (slot_kinds p m (slot_of b)) else p.ints b) e;
 }
@@ -131,7 +132,7 @@ call_opened p m c low n frame v u memory stack back is later older room ints st 
     room = st.holds.room;
     slots = λ s inside. word_opened p m c low n n memory (stack + slot_offset (shape p n) s) (frame.slots s) (λ b e. held_is_old p v c (many p m) frame.call b.base older (st.held s b inside e)) (st.holds.slots s inside);
     variables = λ s inside. (old s).at ∙ st.holds.variables s inside;
-    own = λ s inside. (old s).live ∙ st.holds.own s inside;
+    own = λ s inside none. (old s).live ∙ st.holds.own s inside none;
     ints = ints;
     reached = st.holds.reached;
     all_globals = st.holds.all_globals;

@@ -1,6 +1,6 @@
 -- Each operation that calls nothing is matched.
-use Rattle.std.proofs.Common.{◌≡◌, ◌∙◌, refl, sym, ap, subst, arith, ℕ, ◌+◌, ◌%◌, ◌^◌, ◌<◌, ◌≤◌, List, [], ◌∷◌, ◌++◌, length, length-append, Some}
-use Rattle.std.specs.Prelude.{Bool, true, false, slice_get, if◌then◌else◌}
+use Rattle.std.proofs.Common.{◌≡◌, ◌∙◌, refl, sym, ap, subst, arith, ℕ, ◌+◌, ◌%◌, ◌^◌, ◌<◌, ◌≤◌, List, [], ◌∷◌, ◌++◌, length, length-append, Option, Some, None}
+use Rattle.std.specs.Prelude.{Bool, true, false, slice_get, slice_set, if◌then◌else◌}
 use Rattle.std.proofs.lemmas.Bool.{eq-eqb}
 use Rattle.meaning_forms.specs.Arithmetic.{is_zero}
 use Rattle.rv64_isa.specs.declared.step.Step.TheVariants.{Done}
@@ -11,7 +11,9 @@ use Rattle.rv64_isa.specs.Step.{step_of, next as next_pc, stores, x, imm12, done
 use Rattle.cxa_runtime.specs.World as abi
 use Rattle.cxa_runtime.specs.Raising.{Image}
 use Rattle.region_forms.specs.Form.{Place, Value, evaluate, store, bind}
-use Rattle.region_forms.specs.World.{Address, with_slot, address_word}
+use Rattle.region_forms.specs.World.{of_variable, Address, with_slot, address_word}
+use Rattle.region_forms.specs.Evaluation.{in_memory}
+use Rattle.region_forms.specs.Effect.{stored_at}
 use Rattle.linear_forms.specs.Linear.{LinearOp, plain, label, jump, jump_zero}
 use Rattle.linear_forms.specs.Tables.{label_place}
 use Rattle.linear_forms.specs.Activation.{State as LinearState, goes_to}
@@ -21,11 +23,14 @@ use Rattle.machine_forms.specs.Registers.{sp, a0, register}
 use Rattle.machine_forms.specs.Piece.{Piece, jump_to}
 use Rattle.machine_forms.specs.Shape.{Shape, slot_offset}
 use Rattle.machine_forms.specs.PlaceCode.{within, place_address, place_stored, slot_stored}
-use Rattle.machine_forms.specs.ValueCode.{value_code, test_code}
+use Rattle.machine_forms.specs.ValueCode.{read_in, brought, operand, test_code}
+use Rattle.machine_forms.specs.KeptCode.{root_register}
+use Rattle.machine_forms.specs.OperationCode.{whole_register, value_kept, value_stored}
 use Rattle.machine_forms.specs.LinearCode.{linear_code}
 use Rattle.machine_forms.specs.Routine.{op_word, routine_words}
 use Rattle.machine_forms.proofs.Words.{words_stand}
 use Rattle.machine_pieces.specs.Executes.{Executes}
+use Rattle.machine_pieces.specs.Keeping.{saved_of}
 use Rattle.machine_pieces.specs.Memory.{MayWrite}
 use Rattle.machine_pieces.specs.Numbers.{extended}
 use Rattle.machine_pieces.specs.Standing.{Ground, address, PieceAt}
@@ -36,21 +41,27 @@ use Rattle.machine_pieces.proofs.Storing.{stores_done}
 use Rattle.machine_pieces.proofs.Fetching.{piece_done, pieces_split}
 use Rattle.machine_pieces.proofs.Stepping.{one_step, no_steps, steps_then}
 use Rattle.machine_pieces.proofs.Going.{next_is, kept_low}
+use Rattle.machine_pieces.proofs.Keeping.{register_is, kept_saved, may_saved, same_saved}
 use Rattle.machine_pieces.proofs.Places.{near_address}
 use Rattle.machine_pieces.proofs.Values.{ready_after, code_after}
 use Rattle.machine_pieces.proofs.Testing.{values_are_computed}
 use Rattle.machine_pieces.proofs.Framing.{label_jumps}
 use Rattle.machine_simulation.specs.Plan.{Plan, function, shape, slot_kinds, routine, first_word, setting}
 use Rattle.machine_simulation.specs.Calls.{HeldBy}
-use Rattle.machine_simulation.specs.Matches.{Matches}
+use Rattle.machine_simulation.specs.KeptCalls.{RegistersMatch}
+use Rattle.machine_simulation.specs.Matches.{MemoryMatches, Matches}
 use Rattle.machine_simulation.specs.Operations.{NoCall, IsQuiet, OperationStands, Matched}
 use Rattle.machine_simulation.specs.Laws.{OperationsRun}
 use Rattle.machine_simulation.proofs.Words.{OperationAt, operation_at, place_below}
 use Rattle.machine_simulation.proofs.Holding.{MayHold, location_may, location_matches, slot_may, slot_place, address_matches}
-use Rattle.machine_simulation.proofs.Matching.{Stands, stands_by, ready_here, some_steps, Arrives, matched, memory_at}
+use Rattle.machine_simulation.proofs.Matching.{Stands, stands_by, ready_here, some_steps, Arrives, matched, memory_at, kept_at, values_saved}
 use Rattle.machine_simulation.proofs.Asked.{operation_stands}
+use Rattle.machine_simulation.proofs.KeptPlaces.{kept_place}
+use Rattle.machine_simulation.proofs.KeptStores.{slot_kept, location_kept, register_matches, register_kept, register_set}
+use Rattle.machine_simulation.proofs.Stored.{stored_there}
+use Rattle.machine_simulation.proofs.Taken.{free_at}
 use Rattle.machine_simulation.proofs.Held.{address_held, address_below}
-use Rattle.machine_simulation.proofs.Quiet.{moved, plain_whole, plain_dropped, plain_needs, store_step, bind_step, value_step, jump_step, label_step, test_step, runtime_stored}
+use Rattle.machine_simulation.proofs.Quiet.{moved, plain_whole, plain_register, plain_dropped, plain_needs, store_step, bind_step, value_step, jump_step, label_step, test_step, runtime_stored}
 
 -- the first word of the next operation
 abbrev pub word_here : Plan → ℕ → LinearState → ℕ
@@ -68,18 +79,21 @@ here_at p n st w back o h there = operation_at p w.hart.memory n st.top.place o 
 
 -- ---- a value is stored
 
-store_runs : PlacesAreWritten → (image : Image) (p : Plan) (n : ℕ) (st next : LinearState) (w : abi.World) (back : ℕ) (q : Place) (v : Value) → Stands p n st w back →
+-- in memory
+memory_runs : PlacesAreWritten → (image : Image) (p : Plan) (n : ℕ) (st next : LinearState) (w : abi.World) (back : ℕ) (q : Place) (v : Value) → Stands p n st w back →
     slice_get (function p n).ops st.top.place ≡ Some (plain (store q v)) → NoCall v → OperationStands p n st.top.frame st.world (plain (store q v)) → step (code_of p.unit) st ≡ goes_to next →
-    IsMatched image p n (plain (store q v)) next w
-store_runs places image p n st next w back q v h there no_call stands e =
+    root_register (shape p n) q.root ≡ None → IsMatched image p n (plain (store q v)) next w
+memory_runs places image p n st next w back q v h there no_call stands e none =
     let t : Setting = setting p n in
     let f : Shape = shape p n in
     let g : Ground = t.ground in
     let here : ℕ = word_here p n st in
     let s : State = w.hart in
-    let front : List Piece = value_code f 0 v in
-    let rear : List Piece = place_stored f (register 0) (register 1) q in
-    let code_is : linear_code f (plain (store q v)) ≡ front ++ rear = ap (λ c. c ++ rear) (plain_whole f v no_call) in
+    let r : ℕ = read_in (operand f v) 0 in
+    let front : List Piece = brought (operand f v) 0 in
+    let rear : List Piece = place_stored f r (register 1) q in
+    let code_is : linear_code f (plain (store q v)) ≡ front ++ rear
+    = ap (λ o. value_stored f o q v) none ∙ ap (λ c. c ++ place_stored f (whole_register f v) (register 1) q) (plain_whole f v no_call) ∙ ap (λ y. front ++ place_stored f y (register 1) q) (plain_register f v no_call) in
     let stood = here_at p n st w back (plain (store q v)) h there in
     let own : OperationAt p s.memory n st.top.place (front ++ rear) = subst (OperationAt p s.memory n st.top.place) code_is stood in
     let sum = length-append front rear in
@@ -88,32 +102,99 @@ store_runs places image p n st next w back q v h there no_call stands e =
     let went = store_step p n st next v q h.runs there no_call e in
     let ready = ready_here p n st w back h in
     let few = h.memory.unit.registers n st.top.place (plain (store q v)) there in
-    let value = values_are_computed.value t f (slot_kinds p n) st.top.frame st.world v went.value 0 here s stands.0 went.value_is (plain_needs v no_call few) short parts.0 h.pc ready in
-    let m : State = value.computes.goes.after in
-    let stack : x m sp ≡ x s sp = value.computes.goes.kept sp (kept_low 0 sp (omega arith)) in
-    let ready_m = ready_after t f (slot_kinds p n) st.top.frame st.world here (length front) 0 s value.computes.goes ready in
-    let ok = stands.1.1 went.location went.located in
+    let value = values_are_computed.reads t f (slot_kinds p n) st.top.frame st.world v went.value 0 here s stands.0 went.value_is (plain_needs v no_call few) short parts.0 h.pc ready in
+    let m : State = value.goes.after in
+    let stack : x m sp ≡ x s sp = value.goes.kept sp (kept_low 0 sp (omega arith)) in
+    let ready_m = ready_after t f (slot_kinds p n) st.top.frame st.world here (length front) 0 s value.goes ready in
+    let ok = stands.1.1 none went.location went.located in
     let place : ℕ = location_byte t f (x s sp) went.location in
     let at_m : location_byte t f (x m sp) went.location ≡ place = ap (λ a. location_byte t f a went.location) stack in
     let may = location_may p n st.top.frame st.frames st.world s.memory (x s sp) back went.location h.memory ok in
     let may_m : MayHold m.memory (location_byte t f (x m sp) went.location)
-    = subst (MayHold m.memory) (sym at_m) (subst (λ ps. MayHold ps place) (sym value.computes.goes.memory) may) in
-    let written = places.place t f (slot_kinds p n) st.top.frame st.world 0 1 (here + length front) m went.value q went.location ready_m (omega arith) (omega arith) stands.1.0
-    (code_after g here (length front) 0 (here + length front) rear s value.computes.goes parts.1) value.computes.goes.pc value.computes.is went.located may_m.aligned may_m.below may_m.may in
+    = subst (MayHold m.memory) (sym at_m) (subst (λ ps. MayHold ps place) (sym value.goes.memory) may) in
+    let written = places.place t f (slot_kinds p n) st.top.frame st.world r 1 (here + length front) m went.value q went.location ready_m (values_are_computed.aside f v 0 (omega arith)) (omega arith) stands.1.0
+    (code_after g here (length front) 0 (here + length front) rear s value.goes parts.1) value.goes.pc value.is went.located may_m.aligned may_m.below may_m.may in
     let u : State = written.after in
-    let k : ℕ = value.computes.goes.steps + written.steps in
-    let runs : Executes k s u = steps_then value.computes.goes.steps written.steps s m u value.computes.goes.runs written.runs in
+    let k : ℕ = value.goes.steps + written.steps in
+    let runs : Executes k s u = steps_then value.goes.steps written.steps s m u value.goes.runs written.runs in
     let to : LinearState = moved st (st.top.place + 1) went.frame went.world in
     let pc : u.pc ≡ address g (first_word p n + op_word (routine p n) (st.top.place + 1)) = written.pc ∙ omega (arith, own.next, sum) in
     let memory : u.memory ≡ with_value s.memory place 4 (extended went.value)
-    = written.memory ∙ ap (λ a. with_value m.memory a 4 (extended went.value)) at_m ∙ ap (λ ps. with_value ps place 4 (extended went.value)) value.computes.goes.memory in
+    = written.memory ∙ ap (λ a. with_value m.memory a 4 (extended went.value)) at_m ∙ ap (λ ps. with_value ps place 4 (extended went.value)) value.goes.memory in
     let held = location_matches p n st.top.frame went.frame st.frames st.world went.world s.memory (x s sp) back went.location went.value h.memory value.int ok went.stored in
+    let kept = location_kept p n st.top.frame went.frame st.frames st.world went.world s.memory (x s sp) back went.location went.value (saved_of s) h.memory ok went.stored h.kept in
     let stack_u : x u sp ≡ x s sp = written.kept sp (kept_low 1 sp (omega arith)) ∙ stack in
+    let saved_u : saved_of u ≡ saved_of s = same_saved m u (λ y is. written.kept y (kept_saved 1 y is)) ∙ values_saved s m value.goes.kept in
     let total : length (front ++ rear) ≡ length (linear_code f (plain (store q v))) = ap length (sym code_is) in
-    let there_u : Arrives p n to back u = record { runs = h.runs; registers = written.registers; pc = pc; memory = memory_at p n to back (x s sp) (with_value s.memory place 4 (extended went.value)) u memory stack_u held } in
+    let there_u : Arrives p n to back u = record {
+      runs = h.runs;
+      registers = written.registers;
+      pc = pc;
+      memory = memory_at p n to back (x s sp) (with_value s.memory place 4 (extended went.value)) u memory stack_u held;
+      kept = kept_at p n to (x s sp) (with_value s.memory place 4 (extended went.value)) (saved_of s) u memory stack_u saved_u kept;
+    } in
     subst (λ y. IsMatched image p n (plain (store q v)) y w) went.next_is
-    (matched image p n to w back (length (linear_code f (plain (store q v)))) k u (omega (arith, value.computes.goes.most, written.most, sum, total))
+    (matched image p n to w back (length (linear_code f (plain (store q v)))) k u (omega (arith, value.goes.most, written.most, sum, total))
     (some_steps g here (length (linear_code f (plain (store q v)))) k s u h.pc (pc ∙ omega (arith, stood.next)) runs) runs there_u (runtime_stored p st.frames went.location went.value st.top.frame went.frame st.world went.world w went.stored h.runtime))
+
+-- in the register of a kept variable
+register_runs : (image : Image) (p : Plan) (n : ℕ) (st next : LinearState) (w : abi.World) (back rd : ℕ) (q : Place) (v : Value) → Stands p n st w back →
+    slice_get (function p n).ops st.top.place ≡ Some (plain (store q v)) → NoCall v → OperationStands p n st.top.frame st.world (plain (store q v)) → step (code_of p.unit) st ≡ goes_to next →
+    root_register (shape p n) q.root ≡ Some rd → IsMatched image p n (plain (store q v)) next w
+register_runs image p n st next w back rd q v h there no_call stands e some =
+    let t : Setting = setting p n in
+    let f : Shape = shape p n in
+    let g : Ground = t.ground in
+    let here : ℕ = word_here p n st in
+    let s : State = w.hart in
+    let code : List Piece = value_kept f rd v in
+    let code_is : linear_code f (plain (store q v)) ≡ code = ap (λ o. value_stored f o q v) some in
+    let stood = here_at p n st w back (plain (store q v)) h there in
+    let own : OperationAt p s.memory n st.top.place code = subst (OperationAt p s.memory n st.top.place) code_is stood in
+    let short : length code < 2 ^ 18 = omega (arith, own.inside, short_function p n st w back h) in
+    let went = store_step p n st next v q h.runs there no_call e in
+    let ready = ready_here p n st w back h in
+    let few = h.memory.unit.registers n st.top.place (plain (store q v)) there in
+    let root = kept_place p n st.top.frame q rd some stands.1.0 in
+    let slot = root.slot in
+    let sets = values_are_computed.kept t f (slot_kinds p n) st.top.frame st.world v went.value rd here s stands.0 went.value_is (may_saved rd (register_is f.kept root.number rd root.register)) (omega (arith, plain_needs v no_call few)) short own.code h.pc ready in
+    let u : State = sets.puts.after in
+    let k : ℕ = sets.puts.steps in
+    let at : Address = record { base = of_variable st.top.frame.call root.number; offset = 0 } in
+    let same_location : went.location ≡ in_memory at = let both : Some went.location ≡ Some (in_memory at) = sym went.located ∙ root.located in cc both in
+    let stored = stored_there at went.value st.top.frame went.frame st.world went.world (ap (λ l. stored_at l went.value st.top.frame st.world) (sym same_location) ∙ went.stored) in
+    let to : LinearState = moved st (st.top.place + 1) went.frame went.world in
+    let pc : u.pc ≡ address g (first_word p n + op_word (routine p n) (st.top.place + 1)) = sets.puts.pc ∙ omega (arith, own.next) in
+    let stack_u : x u sp ≡ x s sp = sets.puts.kept sp (kept_low 0 sp (omega arith)) (λ same. omega (arith, same, (register_is f.kept root.number rd root.register).above)) in
+    let saved_u : saved_of u ≡ slice_set (saved_of s) slot.place (extended went.value) = register_set s u slot.place rd (extended went.value) slot.register_is sets.puts.is (λ y is ne. sets.puts.kept y (kept_saved 0 y is) ne) in
+    let held = register_matches p n st.top.frame st.frames st.world s.memory (x s sp) back root.number went.value h.memory (h.kept.top.dead root.number rd root.register) in
+    let kept = register_kept p n st.top.frame st.frames st.world s.memory (x s sp) back slot.place root.number went.value (saved_of s) h.memory slot.slot_is sets.int refl h.kept in
+    let to_held : MemoryMatches p n went.frame st.frames went.world s.memory (x s sp) back
+    = subst (λ y. MemoryMatches p n y st.frames went.world s.memory (x s sp) back) stored.1 (subst (λ y. MemoryMatches p n st.top.frame st.frames y s.memory (x s sp) back) stored.2 held) in
+    let to_kept : RegistersMatch p n went.frame st.frames went.world s.memory (x s sp) (slice_set (saved_of s) slot.place (extended went.value))
+    = subst (λ y. RegistersMatch p n y st.frames went.world s.memory (x s sp) (slice_set (saved_of s) slot.place (extended went.value))) stored.1
+    (subst (λ y. RegistersMatch p n st.top.frame st.frames y s.memory (x s sp) (slice_set (saved_of s) slot.place (extended went.value))) stored.2 kept) in
+    let total : length code ≡ length (linear_code f (plain (store q v))) = ap length (sym code_is) in
+    let there_u : Arrives p n to back u = record {
+      runs = h.runs;
+      registers = sets.puts.registers;
+      pc = pc;
+      memory = memory_at p n to back (x s sp) s.memory u sets.puts.memory stack_u to_held;
+      kept = kept_at p n to (x s sp) s.memory (slice_set (saved_of s) slot.place (extended went.value)) u sets.puts.memory stack_u saved_u to_kept;
+    } in
+    subst (λ y. IsMatched image p n (plain (store q v)) y w) went.next_is
+    (matched image p n to w back (length (linear_code f (plain (store q v)))) k u (omega (arith, sets.puts.most, total))
+    (some_steps g here (length (linear_code f (plain (store q v)))) k s u h.pc (pc ∙ omega (arith, stood.next)) sets.puts.runs) sets.puts.runs there_u
+    (runtime_stored p st.frames went.location went.value st.top.frame went.frame st.world went.world w went.stored h.runtime))
+
+store_runs : PlacesAreWritten → (image : Image) (p : Plan) (n : ℕ) (st next : LinearState) (w : abi.World) (back : ℕ) (q : Place) (v : Value) → Stands p n st w back →
+    slice_get (function p n).ops st.top.place ≡ Some (plain (store q v)) → NoCall v → OperationStands p n st.top.frame st.world (plain (store q v)) → step (code_of p.unit) st ≡ goes_to next →
+    IsMatched image p n (plain (store q v)) next w
+store_runs places image p n st next w back q v h there no_call stands e = by (root_register (shape p n) q.root) refl
+  where
+    by : (o : Option ℕ) → root_register (shape p n) q.root ≡ o → IsMatched image p n (plain (store q v)) next w
+    by None is = memory_runs places image p n st next w back q v h there no_call stands e is
+    by (Some rd) is = register_runs image p n st next w back rd q v h there no_call stands e is
 
 -- ---- an address is bound
 
@@ -138,19 +219,19 @@ bind_runs addresses image p n st next w back slot q h there stands e =
     let went = bind_step p n st next slot q h.runs there e in
     let b : Address = went.address in
     let value : ℕ = byte_of t b in
-    let may_hold : HeldBy p st.world st.top.frame.call b.base = address_held p n st.top.frame st.world s.memory (x s sp) back h.memory.top q b stands.0 went.is in
-    let below : value < 2 ^ 64 = address_below p n st.top.frame st.frames st.world s.memory (x s sp) back b h.memory may_hold (stands.1 b went.is) in
+    let may_hold : HeldBy p st.world st.top.frame.call b.base = address_held p n st.top.frame st.world s.memory (x s sp) back h.memory.top q b stands.0 stands.1 went.is in
+    let below : value < 2 ^ 64 = address_below p n st.top.frame st.frames st.world s.memory (x s sp) back b h.memory may_hold (stands.2 b went.is) in
     let ready = ready_here p n st w back h in
     let got = addresses.place t f (slot_kinds p n) st.top.frame st.world 0 here s q b ready (omega arith) stands.0 parts.0 h.pc below went.is in
     let m : State = got.goes.after in
     let place : ℕ = x s sp + slot_offset f slot in
-    let bounds = slot_place p n st.top.frame st.frames st.world s.memory (x s sp) back slot h.memory stands.2 stands.3 in
+    let bounds = slot_place p n st.top.frame st.frames st.world s.memory (x s sp) back slot h.memory stands.3 stands.4 in
     let stack : x m sp ≡ x s sp = got.goes.kept sp (kept_low 0 sp (omega arith)) in
     let target : add (x m sp) (imm12 (within f slot 0)) ≡ place
-    = ap (λ a. add a (imm12 (within f slot 0))) stack ∙ near_address (x s sp) (slot_offset f slot + 0) (omega (arith, stands.4)) (omega (arith, bounds.1)) ∙ omega arith in
+    = ap (λ a. add a (imm12 (within f slot 0))) stack ∙ near_address (x s sp) (slot_offset f slot + 0) (omega (arith, stands.5)) (omega (arith, bounds.1)) ∙ omega arith in
     let code : PieceAt m.memory g (here + length front) put = subst (λ ps. PieceAt ps g (here + length front) put) (sym got.goes.memory) parts.1.0 in
-    let may = subst (λ ps. MayWrite ps place 8) (sym got.goes.memory) (slot_may p n st.top.frame st.frames st.world s.memory (x s sp) back slot 8 h.memory stands.2 stands.3 (omega arith)) in
-    let even : place % 8 ≡ 0 = omega (arith, h.memory.top.holds.variables slot stands.2, h.memory.top.slots.aligned slot stands.2 stands.3) in
+    let may = subst (λ ps. MayWrite ps place 8) (sym got.goes.memory) (slot_may p n st.top.frame st.frames st.world s.memory (x s sp) back slot 8 h.memory stands.3 stands.4 (omega arith)) in
+    let even : place % 8 ≡ 0 = omega (arith, h.memory.top.holds.variables slot stands.3, h.memory.top.slots.aligned slot stands.3 stands.4) in
     let u : State = state (next_pc m) m.regs (with_value m.memory place 8 value) in
     let step : step_of m ≡ (Done, u)
     = piece_done g (here + length front) put m code got.goes.pc ∙ sd_done sp a0 (within f slot 0) m ∙ ap (λ a. stores m 8 a (x m a0)) target ∙ ap (stores m 8 place) got.is
@@ -160,8 +241,16 @@ bind_runs addresses image p n st next w back slot q h there stands e =
     let to : LinearState = moved st (st.top.place + 1) (with_slot slot (address_word b) st.top.frame) st.world in
     let pc : u.pc ≡ address g (first_word p n + op_word (routine p n) (st.top.place + 1)) = next_is g (here + length front) put m code got.goes.pc ∙ omega (arith, stood.next, sum) in
     let memory : u.memory ≡ with_value s.memory place 8 value = ap (λ ps. with_value ps place 8 value) got.goes.memory in
-    let held = address_matches p n st.top.frame st.frames st.world s.memory (x s sp) back slot b h.memory stands.2 stands.3 below may_hold in
-    let there_u : Arrives p n to back u = record { runs = h.runs; registers = got.goes.registers; pc = pc; memory = memory_at p n to back (x s sp) (with_value s.memory place 8 value) u memory stack held } in
+    let held = address_matches p n st.top.frame st.frames st.world s.memory (x s sp) back slot b h.memory stands.3 stands.4 below may_hold in
+    let kept = slot_kept p n st.top.frame st.frames st.world s.memory (x s sp) back slot 8 value (address_word b) (saved_of s) h.memory stands.3 stands.4 (omega arith) h.kept in
+    let saved_u : saved_of u ≡ saved_of s = values_saved s m got.goes.kept in
+    let there_u : Arrives p n to back u = record {
+      runs = h.runs;
+      registers = got.goes.registers;
+      pc = pc;
+      memory = memory_at p n to back (x s sp) (with_value s.memory place 8 value) u memory stack held;
+      kept = kept_at p n to (x s sp) (with_value s.memory place 8 value) (saved_of s) u memory stack saved_u kept;
+    } in
     subst (λ y. IsMatched image p n (plain (bind slot q)) y w) went.next_is
     (matched image p n to w back (length (linear_code f (plain (bind slot q)))) k u (omega (arith, got.goes.most, sum))
     (λ some. omega arith) runs there_u h.runtime)
@@ -173,7 +262,7 @@ same_place : (image : Image) (p : Plan) (n : ℕ) (st : LinearState) (w : abi.Wo
 same_place image p n st w back o h there none =
     let stood = here_at p n st w back o h there in
     let to : LinearState = moved st (st.top.place + 1) st.top.frame st.world in
-    let there_u : Arrives p n to back w.hart = record { runs = h.runs; registers = h.registers; pc = h.pc ∙ omega (arith, stood.next, none); memory = h.memory } in
+    let there_u : Arrives p n to back w.hart = record { runs = h.runs; registers = h.registers; pc = h.pc ∙ omega (arith, stood.next, none); memory = h.memory; kept = h.kept } in
     matched image p n to w back (length (linear_code (shape p n) o)) 0 w.hart (omega arith) (λ some. absurd (omega (arith, some, none))) (no_steps w.hart) there_u h.runtime
 
 -- ---- jumps
@@ -197,7 +286,7 @@ jump_runs image p n st w back l h there =
     let u : State = state (address g (first_word p n + op_word (routine p n) place)) w.hart.regs w.hart.memory in
     let runs = jump_goes p n st w back l (word_here p n st) 0 w.hart h refl stood.code.0 h.pc (omega arith) (omega (arith, stood.inside)) in
     let to : LinearState = moved st place st.top.frame st.world in
-    let there_u : Arrives p n to back u = record { runs = h.runs; registers = h.registers; pc = refl; memory = h.memory } in
+    let there_u : Arrives p n to back u = record { runs = h.runs; registers = h.registers; pc = refl; memory = h.memory; kept = h.kept } in
     matched image p n to w back 1 1 u (omega arith) (λ some. omega arith) runs there_u h.runtime
 
 test_runs : (image : Image) (p : Plan) (n : ℕ) (st next : LinearState) (w : abi.World) (back l : ℕ) (v : Value) → Stands p n st w back → slice_get (function p n).ops st.top.place ≡ Some (jump_zero v l) →
@@ -232,6 +321,7 @@ test_runs image p n st next w back l v h there stands e =
           registers = first.registers;
           pc = pc;
           memory = memory_at p n to back (x w.hart sp) w.hart.memory u first.memory (first.kept sp (kept_low 0 sp (omega arith))) h.memory;
+          kept = kept_at p n to (x w.hart sp) w.hart.memory (saved_of w.hart) u first.memory (first.kept sp (kept_low 0 sp (omega arith))) (values_saved w.hart first.after first.kept) h.kept;
         } in
         matched image p n to w back (length (linear_code (shape p n) (jump_zero v l))) first.steps u (omega (arith, first.most, sum))
         (some_steps (setting p n).ground (word_here p n st) (length (linear_code (shape p n) (jump_zero v l))) first.steps w.hart u h.pc (pc ∙ omega (arith, stood.next)) first.runs) first.runs there_u h.runtime
@@ -249,6 +339,7 @@ test_runs image p n st next w back l v h there stands e =
           registers = first.registers;
           pc = refl;
           memory = memory_at p n to back (x w.hart sp) w.hart.memory u first.memory (first.kept sp (kept_low 0 sp (omega arith))) h.memory;
+          kept = kept_at p n to (x w.hart sp) w.hart.memory (saved_of w.hart) u first.memory (first.kept sp (kept_low 0 sp (omega arith))) (values_saved w.hart first.after first.kept) h.kept;
         } in
         matched image p n to w back (length (linear_code (shape p n) (jump_zero v l))) (first.steps + 1) u (omega (arith, first.most, sum)) (λ some. omega arith)
         (steps_then first.steps 1 w.hart m u first.runs second) there_u h.runtime
@@ -272,4 +363,4 @@ operation_runs places addresses image p n st next w back o h there quiet stands 
 pub operations_run : PlacesAreWritten → AddressesAreComputed → OperationsRun
 operations_run places addresses image p n st next w o h runs there quiet asked e =
     let stood = stands_by p n st w h runs in
-    operation_runs places addresses image p n st next w h.back o stood there quiet (operation_stands p n st.top.frame st.world w.hart.memory (x w.hart sp) h.back stood.memory.top o quiet asked) e
+    operation_runs places addresses image p n st next w h.back o stood there quiet (operation_stands p n st.top.frame st.world w.hart.memory (x w.hart sp) h.back stood.memory.top o quiet (free_at p n st.top.place o there) asked) e

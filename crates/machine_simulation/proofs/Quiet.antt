@@ -15,8 +15,8 @@ use Rattle.linear_forms.specs.Operation.{act, performed, jumped, jumped_zero}
 use Rattle.linear_forms.specs.UnitRun.{code_of}
 use Rattle.machine_forms.specs.Shape.{Shape}
 use Rattle.machine_forms.specs.Bounds.{ValueFits}
-use Rattle.machine_forms.specs.ValueCode.{needs, value_code}
-use Rattle.machine_forms.specs.OperationCode.{dropped_code, whole_value}
+use Rattle.machine_forms.specs.ValueCode.{needs, read_in, brought, operand}
+use Rattle.machine_forms.specs.OperationCode.{dropped_code, whole_value, whole_register}
 use Rattle.machine_simulation.specs.Plan.{Plan, function, slot_kinds}
 use Rattle.cxa_runtime.specs.World as abi
 use Rattle.machine_simulation.specs.Matches.{RuntimeMatches}
@@ -47,12 +47,19 @@ plain_valued kinds (unary o v) q frame w h = refl
 plain_valued kinds (binary o a b) q frame w h = refl
 plain_valued kinds (call_value c args) q frame w h = absurd h
 
-pub plain_whole : (f : Shape) (v : Value) → NoCall v → whole_value f v ≡ value_code f 0 v
+pub plain_whole : (f : Shape) (v : Value) → NoCall v → whole_value f v ≡ brought (operand f v) 0
 plain_whole f (number v) h = refl
 plain_whole f (load a) h = refl
 plain_whole f (unary o v) h = refl
 plain_whole f (binary o a b) h = refl
 plain_whole f (call_value c args) h = absurd h
+
+pub plain_register : (f : Shape) (v : Value) → NoCall v → whole_register f v ≡ read_in (operand f v) 0
+plain_register f (number v) h = refl
+plain_register f (load a) h = refl
+plain_register f (unary o v) h = refl
+plain_register f (binary o a b) h = refl
+plain_register f (call_value c args) h = absurd h
 
 pub plain_dropped : (f : Shape) (v : Value) → NoCall v → dropped_code f v ≡ []
 plain_dropped f (number v) h = refl

@@ -25,6 +25,11 @@ use Rattle.machine_forms.specs.LinearCode.{linear_code}
 use Rattle.machine_forms.specs.Routine.{op_word}
 use Rattle.machine_pieces.specs.Numbers.{IsInt, extended}
 use Rattle.machine_pieces.specs.Standing.{Ground, PiecesAt}
+use Rattle.machine_pieces.specs.Keeping.{saved_of}
+use Rattle.machine_pieces.proofs.Keeping.{kept_saved, same_saved}
+use Rattle.machine_forms.specs.KeptCode.{root_register}
+use Rattle.machine_forms.specs.OperationCode.{value_stored}
+use Rattle.machine_simulation.specs.KeptCalls.{RegistersMatch}
 use Rattle.machine_pieces.specs.Turning.{Turns, after_byte, after_step}
 use Rattle.machine_pieces.specs.Laws.{PlacesAreWritten, CallsAreTurns}
 use Rattle.machine_pieces.proofs.Fetching.{pieces_split}
@@ -32,7 +37,8 @@ use Rattle.machine_pieces.proofs.Registers.{set_length, read_same, read_other}
 use Rattle.machine_pieces.proofs.Framing.{not_zero}
 use Rattle.machine_pieces.proofs.Turning.{turns_then, executes_turns}
 use Rattle.machine_simulation.specs.Plan.{Plan, function, shape, slot_kinds, routine, first_word, setting}
-use Rattle.machine_simulation.specs.Calls.{stored_in}
+use Rattle.machine_simulation.specs.Calls.{given_in, stored_in}
+use Rattle.machine_forms.specs.Shape.{Shape}
 use Rattle.machine_simulation.specs.Matches.{MemoryMatches, Matches, RuntimeMatches}
 use Rattle.machine_simulation.specs.Operations.{Matched}
 use Rattle.machine_simulation.specs.Returns.{WantedStands}
@@ -43,7 +49,7 @@ use Rattle.machine_simulation.proofs.Matching.{Stands, stands_by, Arrives, runti
 use Rattle.machine_simulation.proofs.Quiet.{moved, step_is, plain_is}
 use Rattle.machine_simulation.proofs.Returning.{receives, runtime_finished}
 use Rattle.machine_simulation.proofs.Holding.{same_number}
-use Rattle.machine_simulation.proofs.Lines.{matches_alike}
+use Rattle.machine_simulation.proofs.Lines.{matches_alike, registers_alike, call_saved}
 use Rattle.region_forms.specs.Lives.{is_there}
 
 -- ---- the step
@@ -68,12 +74,17 @@ read_by p n wants st o own c runs there same is code does = record {
       ∙ does ∙ sym (plain_is p n st c runs) ∙ sym (step_is p n st (plain c) runs (there ∙ ap Some is)) ∙ e;
 }
 
+-- the value is stored behind the runtime call
+read_stored : (f : Shape) (o : Option ℕ) (q : Place) → value_stored f o q (call_value (builtin ReadByte) no_arguments) ≡ runtime_call 2 ++ given_in f o q
+read_stored f (Some rd) q = refl
+read_stored f None q = refl
+
 pub read_op : (p : Plan) (n : ℕ) (wants : Option Place) (st : LinearState) (o : LinearOp) → st.top.function ≡ compiled n → slice_get (function p n).ops st.top.place ≡ Some o → Reads wants o → ReadOp p n wants st o
 read_op p n wants st o runs there h = by h.is
   where
     by : ((q : Place) × (wants ≡ Some q) × (o ≡ plain (store q (call_value (builtin ReadByte) no_arguments)))) ⊎
         ((wants ≡ None) × (o ≡ plain (evaluate (call_value (builtin ReadByte) no_arguments)))) ⊎ ((wants ≡ None) × (o ≡ plain (call (builtin ReadByte) no_arguments))) → ReadOp p n wants st o
-    by (inl s) = read_by p n wants st o (Some s.0) (store s.0 (call_value (builtin ReadByte) no_arguments)) runs there s.1 s.2 refl refl
+    by (inl s) = read_by p n wants st o (Some s.0) (store s.0 (call_value (builtin ReadByte) no_arguments)) runs there s.1 s.2 (read_stored (shape p n) (root_register (shape p n) s.0.root) s.0) refl
     by (inr (inl s)) = read_by p n wants st o None (evaluate (call_value (builtin ReadByte) no_arguments)) runs there s.0 s.1 refl refl
     by (inr (inr s)) = read_by p n wants st o None (call (builtin ReadByte) no_arguments) runs there s.0 s.1 refl refl
 
@@ -176,8 +187,13 @@ read_runs places turns image p n st next w back o wants h there read bytes stand
     let held = matches_alike p n st.top.frame st.frames st.world (taken st.world) s.memory (x s sp) back refl refl (same_number st.world) h.memory in
     let held_t : MemoryMatches p n st.top.frame st.frames (taken st.world) t.memory (x t sp) back
     = subst (λ ps. MemoryMatches p n st.top.frame st.frames (taken st.world) ps (x t sp) back) (sym at.memory) (subst (λ a. MemoryMatches p n st.top.frame st.frames (taken st.world) s.memory a back) (sym stack) held) in
+    let kept = registers_alike p n st.top.frame st.frames st.world (taken st.world) s.memory (x s sp) back (saved_of s) refl h.memory h.kept in
+    let saved : saved_of t ≡ saved_of s = same_saved at.behind t (λ r k. read_other at.behind.regs a0 r value (kept_saved 0 r k 0 (omega arith) (omega arith))) ∙ call_saved g here 2 s at in
+    let kept_t : RegistersMatch p n st.top.frame st.frames (taken st.world) t.memory (x t sp) (saved_of t)
+    = subst (λ ps. RegistersMatch p n st.top.frame st.frames (taken st.world) ps (x t sp) (saved_of t)) (sym at.memory) (subst (λ a. RegistersMatch p n st.top.frame st.frames (taken st.world) s.memory a (saved_of t)) (sym stack)
+    (subst (λ rs. RegistersMatch p n st.top.frame st.frames (taken st.world) s.memory (x s sp) rs) (sym saved) kept)) in
     let code_t : PiecesAt t.memory g (here + 2) rear = subst (λ ps. PiecesAt ps g (here + 2) rear) (sym at.memory) parts.1 in
-    let got = receives places p n (here + 2) st.top.frame went.frame st.frames (taken st.world) went.world back wants (byte_of st.world.input) t held_t (set_length at.behind.regs a0 value ∙ at.registers) at.pc code_t turn.int
+    let got = receives places p n (here + 2) st.top.frame went.frame st.frames (taken st.world) went.world back wants (byte_of st.world.input) t held_t kept_t (set_length at.behind.regs a0 value ∙ at.registers) at.pc code_t turn.int
     (read_same at.behind.regs a0 value (not_zero a0 (omega arith)) (omega (arith, at.registers))) stands went.stored in
     let last = executes_turns image got.steps turn.after t got.after turn.hart got.runs in
     let end : abi.World = last.after in
@@ -187,6 +203,7 @@ read_runs places turns image p n st next w back o wants h there read bytes stand
       registers = got.registers;
       pc = got.pc ∙ omega (arith, stood.next, total);
       memory = got.memory;
+      kept = got.kept;
     }) in
     let runtime_end : RuntimeMatches p st.frames went.world end
     = runtime_finished p st.frames (slot_kinds p n) wants (byte_of st.world.input) st.top.frame went.frame (taken st.world) went.world end went.stored
@@ -197,7 +214,7 @@ read_runs places turns image p n st next w back o wants h there read bytes stand
       some = λ words. omega arith;
       after = end;
       runs = turns_then image (1 + 1) got.steps w turn.after end [] [] (turns_then image 1 1 w u turn.after [] [] ran.turns turn.turn) last.turns;
-      holds = record { number = n; back = back; runs = there_end.runs; registers = there_end.registers; pc = there_end.pc; memory = there_end.memory; runtime = runtime_end };
+      holds = record { number = n; back = back; runs = there_end.runs; registers = there_end.registers; pc = there_end.pc; memory = there_end.memory; kept = there_end.kept; runtime = runtime_end };
     })
 
 pub bytes_run : PlacesAreWritten → CallsAreTurns → BytesRun

@@ -1,6 +1,6 @@
 -- Open calls take little of the stack.
 use Rattle.std.proofs.Common.{◌≡◌, refl, ap, arith, ℕ, ◌+◌, ◌*◌, ◌^◌, ◌<◌, ◌≤◌, List, [], ◌∷◌, Option, Some, None}
-use Rattle.std.specs.Prelude.{slice_get, unwrap_or}
+use Rattle.std.specs.Prelude.{Bool, true, false, slice_get, unwrap_or}
 use Rattle.rv64_isa.specs.State.{Part}
 use Rattle.linear_forms.specs.Linear.{FunctionCode}
 use Rattle.linear_forms.specs.Stub.{Function, compiled, end_catch, terminating, call_unexpected}
@@ -9,6 +9,7 @@ use Rattle.linear_forms.specs.Activation.{Activation, counts, depth_of}
 use Rattle.machine_simulation.specs.Plan.{Plan, shape}
 use Rattle.machine_simulation.specs.Calls.{frame_of, open_bytes}
 use Rattle.machine_simulation.specs.Matches.{UnitStands}
+use Rattle.machine_simulation.specs.Entering.{begin_room}
 use Rattle.machine_simulation.specs.Room.{own_bytes, stub_bytes, StackHasRoom}
 use Rattle.machine_simulation.proofs.Slots.{got_inside}
 
@@ -33,5 +34,10 @@ all_bytes : (p : Plan) (memory : List Part) (fs : List Activation) → UnitStand
 all_bytes p memory [] h = omega arith
 all_bytes p memory (a ∷ fs) h = omega (arith, function_bytes p memory a.function h, all_bytes p memory fs h)
 
+begins_with : (leaf : Bool) (size : ℕ) → size < 2 ^ 11 → begin_room leaf size ≤ 2047 + 0x1000
+begins_with true size small = omega arith
+begins_with false size small = omega (arith, small)
+
 pub stack_has_room : StackHasRoom
-stack_has_room p st w m h room known = omega (arith, all_bytes p w.hart.memory (st.top ∷ st.frames) h.memory.unit, (h.memory.unit.frames m known).small, room)
+stack_has_room p st w m h room known =
+    omega (arith, all_bytes p w.hart.memory (st.top ∷ st.frames) h.memory.unit, begins_with (shape p m).leaf (shape p m).size (h.memory.unit.frames m known).small, room)

@@ -8,6 +8,7 @@ use Rattle.linear_forms.specs.Linear.{FunctionCode}
 use Rattle.linear_forms.specs.Frame.{rounded_up, slot_bytes}
 use Rattle.machine_forms.specs.Shape.{Shape, slot_offset}
 use Rattle.machine_forms.specs.Emitted.{shape_of}
+use Rattle.machine_forms.specs.KeptLaws.{IsKept}
 use Rattle.machine_simulation.specs.Matches.{SizeIs, FrameIs}
 use Rattle.machine_simulation.specs.Entering.{slot_room, WordFits, WordsFit}
 
@@ -71,6 +72,13 @@ plain_room g s h inside plain =
     by address_slot n e size = omega (arith, size)
     by object_slot n e size = absurd (cc e)
     by help_slot n e size = omega (arith, size)
+
+-- and so does a kept one
+pub kept_room : (g : FunctionCode) (s : ℕ) → IsKept g s → slot_room (shape_of g) s ≡ 8
+kept_room g s h =
+    let count : s + 1 ≡ suc s = omega arith in
+    let eight : rounded_up 7 h.slot.size ≡ 8 = omega (arith, h.size) in
+    omega (arith, ap (λ k. slot_bytes (take k g.slots)) count, bytes_next g.slots s h.slot h.there, eight)
 
 -- ---- slots of what is passed
 

@@ -1,5 +1,5 @@
 -- The fields of the pieces of values and places are in their ranges.
-use Rattle.std.proofs.Common.{arith, ℕ, zero, suc, ◌+◌, ◌<◌, ◌^◌, ℤ, pos, List, [], ◌∷◌, ◌++◌, length, length-append}
+use Rattle.std.proofs.Common.{◌≡◌, refl, arith, ℕ, zero, suc, ◌+◌, ◌<◌, ◌^◌, ℤ, pos, List, [], ◌∷◌, ◌++◌, length, length-append, Option, Some, None}
 use Rattle.std.specs.Prelude.{◌==◌, nat_le, Bool, true, false, slice_get, unwrap_or}
 use Rattle.std.specs.List.{AllByRecursion}
 use Rattle.std.proofs.lemmas.Bool.{cond_both}
@@ -14,9 +14,11 @@ use Rattle.machine_forms.specs.Registers.{zero_register, value_registers, regist
 use Rattle.machine_forms.specs.Piece.{Piece, instruction}
 use Rattle.machine_forms.specs.Shape.{Shape, slot_offset}
 use Rattle.machine_forms.specs.PlaceCode.{added, root_address, root_loaded, root_stored, number_set}
-use Rattle.machine_forms.specs.ValueCode.{needs, made_truth, unary_code, operator_code, unless_zero, if_zero, operands_code, binary_code, value_code, branch_truth, branch_operator, binary_test, test_code}
+use Rattle.machine_forms.specs.KeptCode.{register_of, root_register, int_read}
+use Rattle.machine_forms.specs.ValueCode.{needs, made_truth, unary_code, operator_code, unless_zero, if_zero, Operand, read_in, brought, operands_code, binary_code, addend, sum_code, held_in, value_code, operand, branch_truth, branch_operator, binary_test, test_code}
 use Rattle.machine_pieces.specs.Standing.{PieceFits}
 use Rattle.machine_pieces.proofs.Fetching.{immediate_small, upper_small}
+use Rattle.machine_pieces.proofs.Keeping.{register_is}
 
 abbrev pub AllFit : List Piece → Type 0
 AllFit ps = AllByRecursion PieceFits ps
@@ -50,8 +52,25 @@ address_fits f rd (in_slot s) n small = ((small, omega arith, immediate_small (p
 address_fits f rd (through s) n small = ((small, omega arith, immediate_small (pos (slot_offset f s + 0))), added_fits rd n small)
 address_fits f rd (in_global g) n small = (small, (small, tt))
 
+-- the register of a kept variable
+pub kept_small : (f : Shape) (s r : ℕ) → register_of f.kept s ≡ Some r → r < 32
+kept_small f s r e = (register_is f.kept s r e).below
+
+pub root_small : (f : Shape) (root : Root) (r : ℕ) → root_register f root ≡ Some r → r < 32
+root_small f (in_slot s) r e = kept_small f s r e
+root_small f (through s) r e = absurd (cc e)
+root_small f (in_global g) r e = absurd (cc e)
+
+-- an int is read from there or from memory
+pub read_fits : (f : Shape) (s rd n : ℕ) → rd < 32 → PieceFits (instruction (int_read (register_of f.kept s) rd (immediate (pos n))))
+read_fits f s rd n small = by (register_of f.kept s) refl
+  where
+    by : (o : Option ℕ) → register_of f.kept s ≡ o → PieceFits (instruction (int_read o rd (immediate (pos n))))
+    by None e = (small, omega arith, immediate_small (pos n))
+    by (Some r) e = (small, kept_small f s r e, omega arith)
+
 pub load_fits : (f : Shape) (rd : ℕ) (root : Root) (n : ℕ) → rd < 32 → AllFit (root_loaded f rd root n)
-load_fits f rd (in_slot s) n small = ((small, omega arith, immediate_small (pos (slot_offset f s + n))), tt)
+load_fits f rd (in_slot s) n small = (read_fits f s rd (slot_offset f s + n) small, tt)
 load_fits f rd (through s) n small = ((small, omega arith, immediate_small (pos (slot_offset f s + 0))), ((small, small, immediate_small (pos n)), tt))
 load_fits f rd (in_global g) n small = (small, (small, tt))
 
@@ -62,9 +81,9 @@ store_fits f value base (in_global g) n sv sb = (sb, ((sv, sb), tt))
 
 -- ---- operators
 
-unary_fits : (o : UnaryOp) (rd : ℕ) → rd < 32 → AllFit (unary_code o rd)
-unary_fits Minus rd small = ((small, omega arith, small), tt)
-unary_fits Not rd small = ((small, small, omega arith), tt)
+unary_fits : (o : UnaryOp) (rd a : ℕ) → rd < 32 → a < 32 → AllFit (unary_code o rd a)
+unary_fits Minus rd a sd sa = ((sd, omega arith, sa), tt)
+unary_fits Not rd a sd sa = ((sd, sa, omega arith), tt)
 
 operator_fits : (o : BinaryOp) (rd a b : ℕ) → rd < 32 → a < 32 → b < 32 → AllFit (operator_code o rd a b)
 operator_fits Add rd a b sd sa sb = ((sd, sa, sb), tt)
@@ -103,10 +122,6 @@ unless_fits rd code small short h = ((small, omega arith, omega arith), ((omega 
 if_fits : (rd : ℕ) (code : List Piece) → rd < 32 → length code < 2 ^ 18 → AllFit code → AllFit (if_zero rd code)
 if_fits rd code small short h = ((small, omega arith, omega arith), ((omega arith, omega (arith, short)), h))
 
--- code in whatever registers it works, if it is short
-abbrev Fits : (ℕ → List Piece) → Type 0
-Fits code = (k : ℕ) → length (code k) < 2 ^ 18 → AllFit (code k)
-
 -- parts of short code are short
 pub front_short : (xs ys : List Piece) → length (xs ++ ys) < 2 ^ 18 → length xs < 2 ^ 18
 front_short xs ys short = omega (arith, short, length-append xs ys)
@@ -114,89 +129,144 @@ front_short xs ys short = omega (arith, short, length-append xs ys)
 pub rear_short : (xs ys : List Piece) → length (xs ++ ys) < 2 ^ 18 → length ys < 2 ^ 18
 rear_short xs ys short = omega (arith, short, length-append xs ys)
 
+-- an operand is in a register of a kept variable, or its code is in whatever register it works, if it is short
+pub record OperandFits (x : Operand) : Type 0 where
+  pub code : (k : ℕ) → length (x.code k) < 2 ^ 18 → AllFit (x.code k)
+  pub held : (r : ℕ) → x.held ≡ Some r → r < 32
+
+pub brought_fits : (x : Operand) (k : ℕ) → OperandFits x → length (brought x k) < 2 ^ 18 → AllFit (brought x k)
+brought_fits x k h short = by x.held short
+  where
+    by : (o : Option ℕ) → length (brought (record { held = o; code = x.code }) k) < 2 ^ 18 → AllFit (brought (record { held = o; code = x.code }) k)
+    by None few = h.code k few
+    by (Some r) few = tt
+
+pub read_small : (x : Operand) (k : ℕ) → OperandFits x → read_in x k < 32
+read_small x k h = by x.held refl
+  where
+    by : (o : Option ℕ) → x.held ≡ o → unwrap_or o (register k) < 32
+    by None e = register_small k
+    by (Some r) e = h.held r e
+
 -- two operands, and what is done with them
-operands_fit : (left : Bool) (k : ℕ) (a b : ℕ → List Piece) (made : ℕ → ℕ → List Piece) → Fits a → Fits b → ((x y : ℕ) → x < 32 → y < 32 → AllFit (made x y)) → length (operands_code left k a b made) < 2 ^ 18 →
-    AllFit (operands_code left k a b made)
-operands_fit true k a b made fa fb fd short =
-    let last : List Piece = made (register k) (register (k + 1)) in
-    let front = front_short (a k ++ b (k + 1)) last short in
-    all_then (a k ++ b (k + 1)) last (all_then (a k) (b (k + 1)) (fa k (front_short (a k) (b (k + 1)) front)) (fb (k + 1) (rear_short (a k) (b (k + 1)) front)))
-    (fd (register k) (register (k + 1)) (register_small k) (register_small (k + 1)))
-operands_fit false k a b made fa fb fd short =
-    let last : List Piece = made (register (k + 1)) (register k) in
-    let front = front_short (b k ++ a (k + 1)) last short in
-    all_then (b k ++ a (k + 1)) last (all_then (b k) (a (k + 1)) (fb k (front_short (b k) (a (k + 1)) front)) (fa (k + 1) (rear_short (b k) (a (k + 1)) front)))
-    (fd (register (k + 1)) (register k) (register_small (k + 1)) (register_small k))
+operands_fit : (left : Bool) (k : ℕ) (x y : Operand) (made : ℕ → ℕ → List Piece) → OperandFits x → OperandFits y → ((a b : ℕ) → a < 32 → b < 32 → AllFit (made a b)) → length (operands_code left k x y made) < 2 ^ 18 →
+    AllFit (operands_code left k x y made)
+operands_fit true k x y made hx hy fits short =
+    let one : List Piece = brought x k in
+    let two : List Piece = brought y (k + 1) in
+    let last : List Piece = made (read_in x k) (read_in y (k + 1)) in
+    let front = front_short (one ++ two) last short in
+    all_then (one ++ two) last (all_then one two (brought_fits x k hx (front_short one two front)) (brought_fits y (k + 1) hy (rear_short one two front))) (fits (read_in x k) (read_in y (k + 1)) (read_small x k hx) (read_small y (k + 1) hy))
+operands_fit false k x y made hx hy fits short =
+    let one : List Piece = brought y k in
+    let two : List Piece = brought x (k + 1) in
+    let last : List Piece = made (read_in x (k + 1)) (read_in y k) in
+    let front = front_short (one ++ two) last short in
+    all_then (one ++ two) last (all_then one two (brought_fits y k hy (front_short one two front)) (brought_fits x (k + 1) hx (rear_short one two front))) (fits (read_in x (k + 1)) (read_in y k) (read_small x (k + 1) hx) (read_small y k hy))
 
-plain_fits : (o : BinaryOp) (left : Bool) (k : ℕ) (a b : ℕ → List Piece) → Fits a → Fits b → length (operands_code left k a b (operator_code o (register k))) < 2 ^ 18 →
-    AllFit (operands_code left k a b (operator_code o (register k)))
-plain_fits o left k a b fa fb short = operands_fit left k a b (operator_code o (register k)) fa fb (λ x y sx sy. operator_fits o (register k) x y (register_small k) sx sy) short
+plain_fits : (o : BinaryOp) (left : Bool) (rd k : ℕ) (x y : Operand) → rd < 32 → OperandFits x → OperandFits y → length (operands_code left k x y (operator_code o rd)) < 2 ^ 18 → AllFit (operands_code left k x y (operator_code o rd))
+plain_fits o left rd k x y small hx hy short = operands_fit left k x y (operator_code o rd) hx hy (λ a b sa sb. operator_fits o rd a b small sa sb) short
 
-binary_fits : (o : BinaryOp) (left : Bool) (k : ℕ) (a b : ℕ → List Piece) → Fits a → Fits b → length (binary_code o left k a b) < 2 ^ 18 → AllFit (binary_code o left k a b)
-binary_fits And left k a b fa fb short =
-    let over : List Piece = unless_zero (register k) (b k) in
-    let last : List Piece = made_truth (register k) in
-    let front = front_short (a k ++ over) last short in
-    let right : length (b k) < 2 ^ 18 = omega (arith, rear_short (a k) over front) in
-    all_then (a k ++ over) last (all_then (a k) over (fa k (front_short (a k) over front)) (unless_fits (register k) (b k) (register_small k) right (fb k right))) ((register_small k, omega arith, register_small k), tt)
-binary_fits Or left k a b fa fb short =
-    let over : List Piece = if_zero (register k) (b k) in
-    let last : List Piece = made_truth (register k) in
-    let front = front_short (a k ++ over) last short in
-    let right : length (b k) < 2 ^ 18 = omega (arith, rear_short (a k) over front) in
-    all_then (a k ++ over) last (all_then (a k) over (fa k (front_short (a k) over front)) (if_fits (register k) (b k) (register_small k) right (fb k right))) ((register_small k, omega arith, register_small k), tt)
-binary_fits Add left k a b fa fb short = plain_fits Add left k a b fa fb short
-binary_fits Subtract left k a b fa fb short = plain_fits Subtract left k a b fa fb short
-binary_fits Multiply left k a b fa fb short = plain_fits Multiply left k a b fa fb short
-binary_fits Divide left k a b fa fb short = plain_fits Divide left k a b fa fb short
-binary_fits Remainder left k a b fa fb short = plain_fits Remainder left k a b fa fb short
-binary_fits Less left k a b fa fb short = plain_fits Less left k a b fa fb short
-binary_fits Greater left k a b fa fb short = plain_fits Greater left k a b fa fb short
-binary_fits LessEqual left k a b fa fb short = plain_fits LessEqual left k a b fa fb short
-binary_fits GreaterEqual left k a b fa fb short = plain_fits GreaterEqual left k a b fa fb short
-binary_fits Equal left k a b fa fb short = plain_fits Equal left k a b fa fb short
-binary_fits NotEqual left k a b fa fb short = plain_fits NotEqual left k a b fa fb short
+-- a left operand, then a right one that may be passed over
+decided_fits : (rd k : ℕ) (x y : Operand) (over : List Piece → List Piece) → rd < 32 → OperandFits x → OperandFits y → ((code : List Piece) → length (over code) ≡ length code + 2) →
+    ((code : List Piece) → length code < 2 ^ 18 → AllFit code → AllFit (over code)) → length (x.code k ++ over (y.code k) ++ made_truth rd (register k)) < 2 ^ 18 → AllFit (x.code k ++ over (y.code k) ++ made_truth rd (register k))
+decided_fits rd k x y over small hx hy more fits short =
+    let one : List Piece = x.code k in
+    let two : List Piece = over (y.code k) in
+    let last : List Piece = made_truth rd (register k) in
+    let front = front_short (one ++ two) last short in
+    let right : length (y.code k) < 2 ^ 18 = omega (arith, rear_short one two front, more (y.code k)) in
+    all_then (one ++ two) last (all_then one two (hx.code k (front_short one two front)) (fits (y.code k) right (hy.code k right))) ((small, omega arith, register_small k), tt)
+
+binary_fits : (o : BinaryOp) (left : Bool) (rd k : ℕ) (x y : Operand) → rd < 32 → OperandFits x → OperandFits y → length (binary_code o left rd k x y) < 2 ^ 18 → AllFit (binary_code o left rd k x y)
+binary_fits And left rd k x y small hx hy short =
+    decided_fits rd k x y (unless_zero (register k)) small hx hy (λ code. omega arith) (λ code few h. unless_fits (register k) code (register_small k) few h) short
+binary_fits Or left rd k x y small hx hy short = decided_fits rd k x y (if_zero (register k)) small hx hy (λ code. omega arith) (λ code few h. if_fits (register k) code (register_small k) few h) short
+binary_fits Add left rd k x y small hx hy short = plain_fits Add left rd k x y small hx hy short
+binary_fits Subtract left rd k x y small hx hy short = plain_fits Subtract left rd k x y small hx hy short
+binary_fits Multiply left rd k x y small hx hy short = plain_fits Multiply left rd k x y small hx hy short
+binary_fits Divide left rd k x y small hx hy short = plain_fits Divide left rd k x y small hx hy short
+binary_fits Remainder left rd k x y small hx hy short = plain_fits Remainder left rd k x y small hx hy short
+binary_fits Less left rd k x y small hx hy short = plain_fits Less left rd k x y small hx hy short
+binary_fits Greater left rd k x y small hx hy short = plain_fits Greater left rd k x y small hx hy short
+binary_fits LessEqual left rd k x y small hx hy short = plain_fits LessEqual left rd k x y small hx hy short
+binary_fits GreaterEqual left rd k x y small hx hy short = plain_fits GreaterEqual left rd k x y small hx hy short
+binary_fits Equal left rd k x y small hx hy short = plain_fits Equal left rd k x y small hx hy short
+binary_fits NotEqual left rd k x y small hx hy short = plain_fits NotEqual left rd k x y small hx hy short
+
+-- a small number is added, or there is other code
+sum_fits : (n : Option ℤ) (rd k : ℕ) (x : Operand) (other : List Piece) → rd < 32 → OperandFits x → (length other < 2 ^ 18 → AllFit other) → length (sum_code n rd k x other) < 2 ^ 18 → AllFit (sum_code n rd k x other)
+sum_fits None rd k x other small hx fits short = fits short
+sum_fits (Some n) rd k x other small hx fits short =
+    let one : List Piece = brought x k in
+    let last : List Piece = instruction (Addiw rd (read_in x k) (immediate n)) ∷ [] in
+    all_then one last (brought_fits x k hx (front_short one last short)) ((small, read_small x k hx, immediate_small n), tt)
 
 -- ---- values
 
-pub value_fits : (f : Shape) (v : Value) (k : ℕ) → length (value_code f k v) < 2 ^ 18 → AllFit (value_code f k v)
-value_fits f (number v) k short = number_fits (register k) v (register_small k)
-value_fits f (load p) k short = load_fits f (register k) p.root p.offset (register_small k)
-value_fits f (unary o v) k short =
-    all_then (value_code f k v) (unary_code o (register k)) (value_fits f v k (front_short (value_code f k v) (unary_code o (register k)) short)) (unary_fits o (register k) (register_small k))
-value_fits f (binary o a b) k short =
-    binary_fits o (nat_le (needs b) (needs a)) k (λ n. value_code f n a) (λ n. value_code f n b) (λ n s. value_fits f a n s) (λ n s. value_fits f b n s) short
-value_fits f (call_value c args) k short = tt
+pub held_small : (f : Shape) (v : Value) (r : ℕ) → held_in f v ≡ Some r → r < 32
+held_small f (number v) r e = absurd (cc e)
+held_small f (load p) r e = root_small f p.root r e
+held_small f (unary o v) r e = absurd (cc e)
+held_small f (binary o a b) r e = absurd (cc e)
+held_small f (call_value c args) r e = absurd (cc e)
 
-truth_fits : AllFit (branch_truth (register 0))
-truth_fits = ((omega arith, omega arith, omega arith), tt)
+pub value_fits : (f : Shape) (v : Value) (rd k : ℕ) → rd < 32 → length (value_code f rd k v) < 2 ^ 18 → AllFit (value_code f rd k v)
+value_fits f (number v) rd k small short = number_fits rd v small
+value_fits f (load p) rd k small short = load_fits f rd p.root p.offset small
+value_fits f (unary o v) rd k small short =
+    let x : Operand = operand f v in
+    let hx : OperandFits x = record { code = λ n s. value_fits f v (register n) n (register_small n) s; held = λ r e. held_small f v r e } in
+    let one : List Piece = brought x k in
+    let last : List Piece = unary_code o rd (read_in x k) in
+    all_then one last (brought_fits x k hx (front_short one last short)) (unary_fits o rd (read_in x k) small (read_small x k hx))
+value_fits f (binary o a b) rd k small short =
+    let x : Operand = operand f a in
+    let y : Operand = operand f b in
+    let hx : OperandFits x = record { code = λ n s. value_fits f a (register n) n (register_small n) s; held = λ r e. held_small f a r e } in
+    let hy : OperandFits y = record { code = λ n s. value_fits f b (register n) n (register_small n) s; held = λ r e. held_small f b r e } in
+    sum_fits (addend o b) rd k x (binary_code o (nat_le (needs b) (needs a)) rd k x y) small hx (λ few. binary_fits o (nat_le (needs b) (needs a)) rd k x y small hx hy few) short
+value_fits f (call_value c args) rd k small short = tt
 
-test_plain : (o : BinaryOp) (left : Bool) (a b : ℕ → List Piece) → Fits a → Fits b → length (operands_code left 0 a b (branch_operator o (register 0))) < 2 ^ 18 → AllFit (operands_code left 0 a b (branch_operator o (register 0)))
-test_plain o left a b fa fb short = operands_fit left 0 a b (branch_operator o (register 0)) fa fb (λ x y sx sy. branch_fits o (register 0) x y (register_small 0) sx sy) short
+pub operand_fits : (f : Shape) (v : Value) → OperandFits (operand f v)
+operand_fits f v = record { code = λ n s. value_fits f v (register n) n (register_small n) s; held = λ r e. held_small f v r e }
 
-test_by : (o : BinaryOp) (left : Bool) (a b : ℕ → List Piece) → Fits a → Fits b → length (binary_test o left a b) < 2 ^ 18 → AllFit (binary_test o left a b)
-test_by And left a b fa fb short =
-    let code : List Piece = binary_code And left 0 a b in all_then code (branch_truth (register 0)) (binary_fits And left 0 a b fa fb (front_short code (branch_truth (register 0)) short)) truth_fits
-test_by Or left a b fa fb short =
-    let code : List Piece = binary_code Or left 0 a b in all_then code (branch_truth (register 0)) (binary_fits Or left 0 a b fa fb (front_short code (branch_truth (register 0)) short)) truth_fits
-test_by Add left a b fa fb short = test_plain Add left a b fa fb short
-test_by Subtract left a b fa fb short = test_plain Subtract left a b fa fb short
-test_by Multiply left a b fa fb short = test_plain Multiply left a b fa fb short
-test_by Divide left a b fa fb short = test_plain Divide left a b fa fb short
-test_by Remainder left a b fa fb short = test_plain Remainder left a b fa fb short
-test_by Less left a b fa fb short = test_plain Less left a b fa fb short
-test_by Greater left a b fa fb short = test_plain Greater left a b fa fb short
-test_by LessEqual left a b fa fb short = test_plain LessEqual left a b fa fb short
-test_by GreaterEqual left a b fa fb short = test_plain GreaterEqual left a b fa fb short
-test_by Equal left a b fa fb short = test_plain Equal left a b fa fb short
-test_by NotEqual left a b fa fb short = test_plain NotEqual left a b fa fb short
+-- ---- tests
 
-value_test : (f : Shape) (v : Value) → length (value_code f 0 v ++ branch_truth (register 0)) < 2 ^ 18 → AllFit (value_code f 0 v ++ branch_truth (register 0))
-value_test f v short = all_then (value_code f 0 v) (branch_truth (register 0)) (value_fits f v 0 (front_short (value_code f 0 v) (branch_truth (register 0)) short)) truth_fits
+truth_fits : (a : ℕ) → a < 32 → AllFit (branch_truth a)
+truth_fits a small = ((small, omega arith, omega arith), tt)
+
+test_plain : (o : BinaryOp) (left : Bool) (x y : Operand) → OperandFits x → OperandFits y → length (operands_code left 0 x y (branch_operator o (register 0))) < 2 ^ 18 → AllFit (operands_code left 0 x y (branch_operator o (register 0)))
+test_plain o left x y hx hy short = operands_fit left 0 x y (branch_operator o (register 0)) hx hy (λ a b sa sb. branch_fits o (register 0) a b (register_small 0) sa sb) short
+
+test_by : (o : BinaryOp) (left : Bool) (x y : Operand) → OperandFits x → OperandFits y → length (binary_test o left x y) < 2 ^ 18 → AllFit (binary_test o left x y)
+test_by And left x y hx hy short =
+    let code : List Piece = binary_code And left (register 0) 0 x y in
+    all_then code (branch_truth (register 0)) (binary_fits And left (register 0) 0 x y (register_small 0) hx hy (front_short code (branch_truth (register 0)) short)) (truth_fits (register 0) (register_small 0))
+test_by Or left x y hx hy short =
+    let code : List Piece = binary_code Or left (register 0) 0 x y in
+    all_then code (branch_truth (register 0)) (binary_fits Or left (register 0) 0 x y (register_small 0) hx hy (front_short code (branch_truth (register 0)) short)) (truth_fits (register 0) (register_small 0))
+test_by Add left x y hx hy short = test_plain Add left x y hx hy short
+test_by Subtract left x y hx hy short = test_plain Subtract left x y hx hy short
+test_by Multiply left x y hx hy short = test_plain Multiply left x y hx hy short
+test_by Divide left x y hx hy short = test_plain Divide left x y hx hy short
+test_by Remainder left x y hx hy short = test_plain Remainder left x y hx hy short
+test_by Less left x y hx hy short = test_plain Less left x y hx hy short
+test_by Greater left x y hx hy short = test_plain Greater left x y hx hy short
+test_by LessEqual left x y hx hy short = test_plain LessEqual left x y hx hy short
+test_by GreaterEqual left x y hx hy short = test_plain GreaterEqual left x y hx hy short
+test_by Equal left x y hx hy short = test_plain Equal left x y hx hy short
+test_by NotEqual left x y hx hy short = test_plain NotEqual left x y hx hy short
+
+value_test : (f : Shape) (v : Value) → length (brought (operand f v) 0 ++ branch_truth (read_in (operand f v) 0)) < 2 ^ 18 → AllFit (brought (operand f v) 0 ++ branch_truth (read_in (operand f v) 0))
+value_test f v short =
+    let code : List Piece = brought (operand f v) 0 in
+    let last : List Piece = branch_truth (read_in (operand f v) 0) in
+    all_then code last (brought_fits (operand f v) 0 (operand_fits f v) (front_short code last short)) (truth_fits (read_in (operand f v) 0) (read_small (operand f v) 0 (operand_fits f v)))
 
 pub test_fits : (f : Shape) (v : Value) → length (test_code f v) < 2 ^ 18 → AllFit (test_code f v)
 test_fits f (number v) short = value_test f (number v) short
 test_fits f (load p) short = value_test f (load p) short
 test_fits f (unary o v) short = value_test f (unary o v) short
-test_fits f (binary o a b) short = test_by o (nat_le (needs b) (needs a)) (λ n. value_code f n a) (λ n. value_code f n b) (λ n s. value_fits f a n s) (λ n s. value_fits f b n s) short
+test_fits f (binary o a b) short = test_by o (nat_le (needs b) (needs a)) (operand f a) (operand f b) (operand_fits f a) (operand_fits f b) short
 test_fits f (call_value c args) short = value_test f (call_value c args) short

@@ -1,10 +1,12 @@
 -- Where the words of an operation stand, and where those of the next one and of a label do.
-use Rattle.std.proofs.Common.{◌≡◌, ◌∙◌, refl, sym, ap, arith, ℕ, zero, suc, ◌+◌, ◌%◌, ◌^◌, ◌<◌, ◌≤◌, List, [], ◌∷◌, length, map, take, Some}
+use Rattle.std.proofs.Common.{◌≡◌, ◌∙◌, refl, sym, ap, arith, ℕ, zero, suc, ◌+◌, ◌%◌, ◌^◌, ◌<◌, ◌≤◌, List, [], ◌∷◌, length, length-append, map, take, Some}
 use Rattle.std.specs.Prelude.{slice_get}
 use Rattle.rv64_isa.specs.State.{Part}
 use Rattle.linear_forms.specs.Linear.{LinearOp}
 use Rattle.machine_forms.specs.Piece.{Piece}
-use Rattle.machine_forms.specs.Shape.{prologue}
+use Rattle.machine_forms.specs.Registers.{saved_registers}
+use Rattle.machine_forms.specs.Shape.{Shape, frame_taken, stack_tested, prologue}
+use Rattle.machine_forms.specs.KeptCode.{saves}
 use Rattle.machine_forms.specs.LinearCode.{linear_code}
 use Rattle.machine_forms.specs.Routine.{Routine, block_words, op_word, routine_words, routine_places}
 use Rattle.machine_forms.specs.Emitted.{stub_target}
@@ -57,6 +59,20 @@ end_below : (memory : List Part) (g : Ground) (here : ℕ) (xs : List Piece) →
 end_below memory g here [] some h = absurd (omega (arith, some))
 end_below memory g here (y ∷ ys) some h = pieces_end memory g here y ys h
 
+-- a function's beginning has words
+pub prologue_some : (f : Shape) → 2 ≤ length (prologue f)
+prologue_some f = omega (arith, length-append (frame_taken f) (stack_tested f.leaf))
+
+pub front_words : (p : Plan) (n : ℕ) → op_word (routine p n) 0 ≡ length (prologue (shape p n)) + length (saves (shape p n) (function p n).parameters saved_registers (shape p n).kept)
+front_words p n =
+    let sum : length (routine p n).front ≡ length (prologue (shape p n)) + length (saves (shape p n) (function p n).parameters saved_registers (shape p n).kept)
+    = length-append (prologue (shape p n)) (saves (shape p n) (function p n).parameters saved_registers (shape p n).kept) in
+    let none : block_words (take 0 (routine p n).blocks) ≡ 0 = refl in
+    omega (arith, sum, none)
+
+front_some : (p : Plan) (n : ℕ) → 0 < routine_words (routine p n)
+front_some p n = omega (arith, words_stand.inside (routine p n) 0, front_words p n, prologue_some (shape p n))
+
 -- every place of a function is at an address
 pub place_below : (p : Plan) (memory : List Part) (n place : ℕ) → UnitStands p memory → n < length p.unit.functions → address (setting p n).ground (first_word p n + op_word (routine p n) place) < 2 ^ 64
 place_below p memory n place h known =
@@ -66,7 +82,7 @@ place_below p memory n place h known =
     omega (arith, last, all, words_stand.inside r place)
   where
     front : 0 < routine_words (routine p n)
-    front = let six : length (prologue (shape p n)) ≡ 6 = refl in omega (arith, six)
+    front = omega (arith, front_some p n)
 
 -- the first word of all stands at a multiple of 4
 pub even_base : (p : Plan) (memory : List Part) → UnitStands p memory → p.base % 4 ≡ 0

@@ -9,13 +9,15 @@ use Rattle.region_forms.specs.WellFormed.{is_variable}
 use Rattle.region_forms.specs.Evaluation.{Location, in_memory, in_frame, locate, address_of, value_in}
 use Rattle.linear_forms.specs.Linear.{LinearOp, plain, jump_zero}
 use Rattle.machine_forms.specs.Shape.{slot_offset}
+use Rattle.machine_forms.specs.KeptCode.{register_of}
 use Rattle.machine_pieces.specs.Numbers.{IsInt}
 use Rattle.machine_pieces.specs.Frames.{SlotFits}
 use Rattle.machine_simulation.specs.Plan.{Plan, shape, slot_kinds}
 
 -- offsets are those of a slot, a member or a global
 abbrev pub RootAsked : Plan → ℕ → Frame → Root → ℕ → Type 0
-RootAsked p n frame (in_slot s) o = (s < length (shape p n).slots) × (slot_offset (shape p n) s + o < 2 ^ 11) × SlotFits (slot_kinds p n s) o
+RootAsked p n frame (in_slot s) o =
+    (s < length (shape p n).slots) × (slot_offset (shape p n) s + o < 2 ^ 11) × SlotFits (slot_kinds p n s) o × ((k : ℕ) → register_of (shape p n).kept s ≡ Some k → o ≡ 0)
 RootAsked p n frame (through s) o =
     (s < length (shape p n).slots) × (slot_offset (shape p n) s < 2 ^ 11) × (o < 2 ^ 11)
 RootAsked p n frame (in_global g) o = (g < length p.unit.globals) × (o ≡ 0)

@@ -9,8 +9,9 @@ use Rattle.linear_forms.specs.Operation.{wanted_by}
 use Rattle.linear_forms.specs.Activation.{Activation}
 use Rattle.linear_forms.specs.UnitRun.{code_at}
 use Rattle.machine_forms.specs.Registers.{register}
-use Rattle.machine_forms.specs.Piece.{Piece}
+use Rattle.machine_forms.specs.Piece.{Piece, instruction}
 use Rattle.machine_forms.specs.Shape.{Shape, return_offset}
+use Rattle.machine_forms.specs.KeptCode.{copied, root_register}
 use Rattle.machine_forms.specs.PlaceCode.{place_stored}
 use Rattle.machine_forms.specs.LinearCode.{linear_code}
 use Rattle.machine_forms.specs.Routine.{op_word}
@@ -18,6 +19,7 @@ use Rattle.machine_forms.specs.Emitted.{shape_of}
 use Rattle.machine_pieces.specs.Memory.{Apart}
 use Rattle.machine_pieces.specs.Standing.{address}
 use Rattle.machine_pieces.specs.Frames.{AddressAt, FrameHolds}
+use Rattle.machine_pieces.specs.Transfers.{lowest_sp}
 use Rattle.machine_stubs.specs.Stretches.{frame_size}
 use Rattle.machine_simulation.specs.Plan.{Plan, function, shape, slot_kinds, routine, first_word, setting}
 use Rattle.machine_simulation.specs.Extents.{newer, SlotsStand}
@@ -37,11 +39,11 @@ IsBegun v (of_variable c s) = c < v.calls
 IsBegun v (of_exception e) = e ≤ v.last_number
 
 -- A call of a function with its frame at sp: what its slots hold, and the address that it returns to, apart from all that is live. The
--- frame lies in the stack, above its lowest 4 KiB, and below it are newer calls alone.
+-- frame lies in the stack, where sp was far enough up when it began, and below it are newer calls alone.
 pub record CallStands (p : Plan) (n : ℕ) (frame : Frame) (w : World) (memory : List Part) (stack back : ℕ) : Type 0 where
   pub known : n < length p.unit.functions
   pub small : (shape p n).size < 2 ^ 11
-  pub above : 0x7000_1000 ≤ stack
+  pub above : lowest_sp (shape p n).leaf (shape p n).size ≤ stack + (shape p n).size
   pub below : stack + (shape p n).size ≤ 0x7100_0000
   pub holds : FrameHolds (setting p n) (shape p n) (slot_kinds p n) frame w memory stack
   pub slots : SlotsStand p (shape p n) (slot_kinds p n) frame
@@ -69,10 +71,15 @@ call_of o = None
 abbrev pub IsCalling : LinearOp → Type 0
 IsCalling o = ((c : CallOf) × (call_of o ≡ Some c)) ⊎ (o ≡ plain leave) ⊎ ((s : ℕ) × (t : ℕ) × (o ≡ unexpected s t))
 
--- the pieces that store a value in a place, if it is wanted there
+-- the pieces that put the value of a call in the register of a kept variable, or in a place of memory
+abbrev pub given_in : Shape → Option ℕ → Place → List Piece
+given_in f (Some rd) q = instruction (copied rd (register 0)) ∷ []
+given_in f None q = place_stored f (register 0) (register 1) q
+
+-- and where it is wanted, if anywhere
 abbrev pub stored_in : Shape → Option Place → List Piece
 stored_in f None = []
-stored_in f (Some q) = place_stored f (register 0) (register 1) q
+stored_in f (Some q) = given_in f (root_register f q.root) q
 
 -- where an operation wants the value of its call, and its pieces behind the call
 abbrev pub wanted : LinearOp → Option Place

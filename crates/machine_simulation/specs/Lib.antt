@@ -2,6 +2,7 @@ pub mod Plan
 pub mod Extents
 pub mod StubCalls
 pub mod Calls
+pub mod KeptCalls
 pub mod Exceptions
 pub mod Objects
 pub mod Matches

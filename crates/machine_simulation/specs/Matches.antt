@@ -14,12 +14,14 @@ use Rattle.machine_forms.specs.Registers.{sp}
 use Rattle.machine_forms.specs.Bounds.{LinearFits}
 use Rattle.machine_forms.specs.Routine.{op_word, routine_words}
 use Rattle.machine_pieces.specs.Memory.{MayWrite}
+use Rattle.machine_pieces.specs.Keeping.{saved_of}
 use Rattle.machine_pieces.specs.Standing.{address, PiecesAt}
 use Rattle.machine_pieces.specs.UnitAt.{routine_pieces, whole_words}
 use Rattle.machine_stubs.specs.Words.{AllStand}
 use Rattle.machine_simulation.specs.Plan.{Plan, function, shape, routine, first_word, setting}
 use Rattle.machine_simulation.specs.Extents.{newer, StandApart, IntsInside}
 use Rattle.machine_simulation.specs.Calls.{CallStands, CallsWait}
+use Rattle.machine_simulation.specs.KeptCalls.{RegistersMatch}
 use Rattle.machine_simulation.specs.Exceptions.{addresses_of, exceptions_in, kept_by, destroyed, ExceptionsMatch, PlanHas}
 
 -- the bytes of slots by their kinds
@@ -98,7 +100,7 @@ pub record MemoryMatches (p : Plan) (n : ℕ) (frame : Frame) (fs : List Activat
   pub objects : ObjectsStand p v memory
   pub unit : UnitStands p memory
 
--- The hart is at the first word of the next operation of the newest call, whose frame begins at sp.
+-- The hart is at the first word of the next operation of the newest call, whose frame begins at sp, with the ints of kept variables in registers.
 pub record Matches (p : Plan) (st : State) (w : abi.World) : Type 0 where
   pub number : ℕ
   pub back : ℕ
@@ -106,4 +108,5 @@ pub record Matches (p : Plan) (st : State) (w : abi.World) : Type 0 where
   pub registers : length w.hart.regs ≡ 32
   pub pc : w.hart.pc ≡ address (setting p number).ground (first_word p number + op_word (routine p number) st.top.place)
   pub memory : MemoryMatches p number st.top.frame st.frames st.world w.hart.memory (x w.hart sp) back
+  pub kept : RegistersMatch p number st.top.frame st.frames st.world w.hart.memory (x w.hart sp) (saved_of w.hart)
   pub runtime : RuntimeMatches p st.frames st.world w

@@ -13,7 +13,7 @@ use Rattle.machine_pieces.specs.Frames.{Setting}
 use Rattle.machine_pieces.specs.UnitAt.{routine_ground}
 
 -- A unit and the address of its first word; of what an address begins at, the first byte, whether it is live, how many bytes it has, and
--- whether these are ints that addresses reach. A global, a variable and an exception have such ints, any other slot of a call has not. The
+-- whether these are ints that addresses reach. A variable that is kept in a register is not live: no address means its bytes. A global, a variable and an exception have such ints, any other slot of a call has not. The
 -- address of each function's table of exceptions; and how many bytes lie between the frame of terminate, where it runs, and those of the calls
 -- below it: what a forced unwind has left that came to a call without a site.
 pub record Plan : Type 0 where

@@ -6,6 +6,7 @@ use Rattle.linear_forms.specs.Activation.{Activation, State, depth_of}
 use Rattle.machine_simulation.specs.Plan.{Plan, shape}
 use Rattle.machine_simulation.specs.Calls.{frame_of, open_bytes}
 use Rattle.machine_simulation.specs.Matches.{Matches}
+use Rattle.machine_simulation.specs.Entering.{begin_room}
 
 -- the bytes that the runtime's own functions take of the stack
 abbrev pub own_bytes : Plan → Function → ℕ
@@ -21,4 +22,4 @@ stub_bytes p (a ∷ fs) = own_bytes p a.function + stub_bytes p fs
 -- where none of the runtime's own functions waits.
 abbrev pub StackHasRoom : Type 0
 StackHasRoom = (p : Plan) (st : State) (w : abi.World) (m : ℕ) → Matches p st w → 2047 * (depth_of (st.top ∷ st.frames) + 1) + stub_bytes p (st.top ∷ st.frames) + 0x1000 ≤ 0x100_0000 →
-    m < length p.unit.functions → open_bytes p (st.top ∷ st.frames) + (shape p m).size + 0x1000 ≤ 0x100_0000
+    m < length p.unit.functions → open_bytes p (st.top ∷ st.frames) + begin_room (shape p m).leaf (shape p m).size ≤ 0x100_0000

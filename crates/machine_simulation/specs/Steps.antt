@@ -1,7 +1,6 @@
 -- Single steps without exceptions: what is asked of one, the most turns that it takes, and what it shows.
 use Rattle.std.specs.Prelude.{◌≡◌, ◌⊎◌, ℕ, ◌+◌, List, [], ◌∷◌, length, slice_get, Option, Some}
 use Rattle.run_items.specs.declared.item.Item.{Item}
-use Rattle.cxa_runtime.specs.World as abi
 use Rattle.region_forms.specs.Form.{Place, Value}
 use Rattle.region_forms.specs.World.{Word}
 use Rattle.linear_forms.specs.Linear.{LinearOp, return}
@@ -15,7 +14,7 @@ use Rattle.machine_simulation.specs.Calls.{CallOf, call_of, wanted, stored_behin
 use Rattle.machine_simulation.specs.Operations.{IsQuiet}
 use Rattle.machine_simulation.specs.Asked.{ValueAsked, WantedAsked, OperationAsked}
 use Rattle.machine_simulation.specs.Returns.{closed, ResultStands}
-use Rattle.machine_simulation.specs.Entering.{opened, frame_for, given_to, CallFits}
+use Rattle.machine_simulation.specs.Entering.{opened, frame_for, given_to, entry_turns, CallFits}
 use Rattle.machine_simulation.specs.Lines.{Writes, LineIs}
 use Rattle.machine_simulation.specs.Bytes.{Reads, AreBytes}
 
@@ -72,7 +71,7 @@ pub record CallStep (p : Plan) (st next : State) (q : Plan) (most : ℕ) (items 
   pub passed : given_to (slot_kinds p number) st.top.frame st.world call ≡ Some given
   pub fits : CallFits p number st.top.frame st.world (st.top ∷ st.frames) call given
   pub plan : q ≡ opened p call.number st.world.calls (frame_for p call.number (st.top ∷ st.frames))
-  pub turns : most ≡ length (linear_code (shape p number) operation) + 4
+  pub turns : most ≡ length (linear_code (shape p number) operation) + entry_turns p call.number
   pub nothing_shown : items ≡ []
 
 -- one that returns to a call that waits

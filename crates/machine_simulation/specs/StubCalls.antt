@@ -3,7 +3,7 @@
 use Rattle.std.specs.Prelude.{◌≡◌, ◌⊎◌, ℕ, ◌+◌, ◌≤◌, true, ℤ, pos, List, Some}
 use Rattle.rv64_isa.specs.State.{Part}
 use Rattle.region_forms.specs.World.{Base, of_exception, Word, number_word, unwinding, object_address, address_in, World}
-use Rattle.linear_forms.specs.Stub.{Function, end_catch, terminating, call_unexpected}
+use Rattle.linear_forms.specs.Stub.{Function, compiled, end_catch, terminating, call_unexpected}
 use Rattle.linear_forms.specs.Activation.{Activation}
 use Rattle.machine_forms.specs.Shape.{return_offset}
 use Rattle.machine_pieces.specs.Memory.{Apart}
@@ -13,9 +13,17 @@ use Rattle.machine_stubs.specs.EndCatch.{object_slot}
 use Rattle.machine_stubs.specs.CallUnexpected.{stopped_slot, list_slot, table_slot, thrown_slot}
 use Rattle.machine_simulation.specs.Plan.{Plan}
 
+-- How far up sp is at least where one of them is called: call_unexpected by functions that look at the stack, end_catch by these and by call_unexpected,
+-- and terminate by all. So a function that calls nothing has room below each.
+abbrev pub called_from : Function → ℕ
+called_from (compiled n) = 0x7000_1000
+called_from call_unexpected = 0x7000_1000
+called_from end_catch = 0x7000_0F00
+called_from terminating = 0x7000_0E00
+
 -- the frame of one of the runtime's own functions: it lies in the stack, apart from all that is live, and holds the return address
 pub record StubStands (p : Plan) (f : Function) (memory : List Part) (stack back : ℕ) : Type 0 where
-  pub above : 0x7000_0000 ≤ stack
+  pub above : called_from f ≤ stack + frame_size f
   pub below : stack + frame_size f ≤ 0x7100_0000
   pub saved : AddressAt memory (stack + return_offset) back
   pub alone : (b : Base) → p.live b ≡ true → Apart (p.at b) (p.size b) stack (frame_size f)
@@ -68,4 +76,4 @@ pub record TerminateWaits (base : ℕ) (a : Activation) (stack back : ℕ) : Typ
   pub callee : a.function ≡ terminating
   pub place : a.place ≡ 0
   pub returns : back ≡ stub_word base terminating 6
-  pub above : 0x7000_0000 ≤ stack
+  pub above : 0x7000_0800 ≤ stack

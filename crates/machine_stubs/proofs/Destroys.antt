@@ -15,6 +15,7 @@ use Rattle.linear_forms.specs.Stub.{end_catch}
 use Rattle.machine_pieces.specs.Memory.{MayWrite}
 use Rattle.machine_pieces.specs.Frames.{AddressAt}
 use Rattle.machine_pieces.specs.Turning.{Turns}
+use Rattle.machine_pieces.proofs.Keeping.{given_saved}
 use Rattle.machine_pieces.proofs.Turning.{turns_then}
 use Rattle.machine_stubs.specs.Stretches.{Beside, Stands}
 use Rattle.machine_stubs.specs.Calls.{asked}
@@ -93,6 +94,7 @@ end_catch_destroys = record {
           registers = h3.registers;
           returns = h3.holds.0;
           pointer = h3.pointer ∙ above;
+          variables = h3.variables ∙ (given_saved h1.behind s2 object destructor refl ∙ h1.variables);
           passed = subst (λ a. AddressAt m3 a object) (sym low_is) h3.holds.1;
           kept = subst (λ a. AddressAt m3 (a + 40) object) above h3.holds.2;
           saved = subst (λ a. AddressAt m3 (a + 8) (x s 1)) above (h3.holds.3 (x s 1) held2);
@@ -137,6 +139,7 @@ end_catch_destroys = record {
           pc = h3.there;
           registers = h3.registers;
           pointer = h3.pointer ∙ ap (λ a. a + 48) h1.pointer;
+          variables = h3.variables ∙ h1.variables;
           value = h3.holds.1;
           beside = beside_then low 48 s.memory s2.memory v3.hart.memory h1.kept.beside (subst (λ a. Beside a 48 s2.memory v3.hart.memory) h1.pointer h3.kept.beside);
           exceptions = r.exceptions ∙ ap (freed o.slot) q.exceptions;

@@ -33,7 +33,7 @@ leaves image u base w enough stands small =
     let w2 = walk_store p 1 13 2 1 8 8 (x s 1) file1 s.memory w1 (word_at stands 1 refl) (up low 8 (omega arith) (omega (arith, below))) refl refl (omega arith) in
     let w3 = walk_addi p 2 14 17 0 7 7 file1 parts (omega arith) (omega arith) w2 (word_at stands 2 refl) (small_number 7 (omega arith)) in
     let out = walk_out p 3 15 (update 17 7 file1) parts w3 (word_at stands 3 refl) in
-    ends_out image p u base end_catch w 3 3 7 4 low (update 17 7 file1) parts (λ t. AddressAt t.memory (low + 8) (x s 1)) refl refl stands.code (omega arith) out refl refl
+    ends_out image p u base end_catch w 3 3 7 4 low (update 17 7 file1) parts (λ t. AddressAt t.memory (low + 8) (x s 1)) refl refl stands.code (omega arith) out refl refl refl
     (subst (λ ps. AddressAt ps (low + 8) (x s 1)) (sym out.hart.memory) (slot_there p 1 (address p.ground 13) 8 (x s 1) file1 s.memory w1 refl (omega arith) small))
 
 -- ---- behind it: the object and its destructor are kept
@@ -99,7 +99,7 @@ end_catch_runs = record {
       let w3 = walk_not_other p 2 18 10 0 4 (λ r. x s r) parts k.walk (word_at stands 6 refl) (eq-eqb (x s 10) 0 given) in
       let w4 = walk_label p 3 19 3 (λ r. x s r) parts w3 (word_at stands 7 refl) (omega arith) (omega arith) (omega (arith, (word_at stands 16 refl).word.below)) in
       let w8 = back_from u base 4 low 4 back s (λ r. x s r) parts stands w4 refl (k.back back held) aligned small in
-      ends_at image p w 8 8 back (low + 48) (update 2 (low + 48) (update 1 back (update 10 0 (λ r. x s r)))) parts (λ t. x t 10 ≡ 0) refl (omega arith) w8 refl (w8.hart.regs 10);
+      ends_at image p w 8 8 back (low + 48) (update 2 (low + 48) (update 1 back (update 10 0 (λ r. x s r)))) parts (λ t. x t 10 ≡ 0) refl (omega arith) w8 refl refl (w8.hart.regs 10);
   destroys = λ image u base object destructor w enough stands given some object_small given_too some_too aligned small.
       let s : State = w.hart in
       let low : ℕ = x s 2 - 8 in
@@ -124,7 +124,7 @@ end_catch_runs = record {
       let still : AddressAt m3 (x s 2 + 40) object = subst (λ a. AddressAt m3 a object) (omega (arith, enough)) (slot_stays low 0 object 48 object m2 (inl (omega arith)) object_kept) in
       let same : m3 ≡ t.memory = sym {a = t.memory} w8.hart.memory in
       ends_at image p w 8 8 destructor (x s 2) (update 1 back file6) m3
-      (λ t. (x t 1 ≡ back) × AddressAt t.memory low object × AddressAt t.memory (x s 2 + 40) object × BackStays (x s 2) s.memory t.memory) refl (omega arith) w8 refl (
+      (λ t. (x t 1 ≡ back) × AddressAt t.memory low object × AddressAt t.memory (x s 2 + 40) object × BackStays (x s 2) s.memory t.memory) refl (omega arith) w8 refl refl (
         w8.hart.regs 1,
         subst (λ ps. AddressAt ps low object) same passed,
         subst (λ ps. AddressAt ps (x s 2 + 40) object) same still,
@@ -149,7 +149,7 @@ end_catch_runs = record {
       let w6 = walk_load p 5 25 10 2 40 (low + 40) object file4 parts (omega arith) (omega arith) w5 (word_at stands 13 refl) (up low 40 (omega arith) (omega (arith, below))) object_kept in
       let w7 = walk_addi p 6 26 17 0 4 4 file6 parts (omega arith) (omega arith) w6 (word_at stands 14 refl) (small_number 4 (omega arith)) in
       let out = walk_out p 7 27 file7 parts w7 (word_at stands 15 refl) in
-      ends_out image p u base end_catch w 7 7 4 16 low file7 parts (λ t. (x t 10 ≡ object) × BackStays low s.memory t.memory) refl refl stands.code (omega arith) out refl refl
+      ends_out image p u base end_catch w 7 7 4 16 low file7 parts (λ t. (x t 10 ≡ object) × BackStays low s.memory t.memory) refl refl stands.code (omega arith) out refl refl refl
       (out.hart.regs 10, λ b h. subst (λ ps. AddressAt ps (low + 8) b) (sym out.hart.memory) (k.back b h));
   frees = λ image u base object w stands held.
       let s : State = w.hart in
@@ -160,14 +160,14 @@ end_catch_runs = record {
       let w1 = walk_load p 0 25 10 2 40 (low + 40) object (λ r. x s r) s.memory (omega arith) (omega arith) w0 (word_at stands 13 refl) (up low 40 (omega arith) (omega (arith, stands.room.below))) held in
       let w2 = walk_addi p 1 26 17 0 4 4 (update 10 object (λ r. x s r)) s.memory (omega arith) (omega arith) w1 (word_at stands 14 refl) (small_number 4 (omega arith)) in
       let out = walk_out p 2 27 file2 s.memory w2 (word_at stands 15 refl) in
-      ends_out image p u base end_catch w 2 2 4 16 low file2 s.memory (λ t. (t.memory ≡ s.memory) × (x t 10 ≡ object)) refl refl stands.code (omega arith) out refl refl (out.hart.memory, out.hart.regs 10);
+      ends_out image p u base end_catch w 2 2 4 16 low file2 s.memory (λ t. (t.memory ≡ s.memory) × (x t 10 ≡ object)) refl refl stands.code (omega arith) out refl refl refl (out.hart.memory, out.hart.regs 10);
   returns = λ image u base back w stands held aligned small.
       let s : State = w.hart in
       let low : ℕ = x s 2 in
       let p = path u base end_catch low 48 s stands.room in
       let w0 = walk_begins p 28 stands.pc stands.registers in
       let w4 = back_from u base 16 low 0 back s (λ r. x s r) s.memory stands w0 refl held aligned small in
-      ends_at image p w 4 4 back (low + 48) (update 2 (low + 48) (update 1 back (update 10 0 (λ r. x s r)))) s.memory (λ t. (t.memory ≡ s.memory) × (x t 10 ≡ 0)) refl (omega arith) w4 refl (w4.hart.memory, w4.hart.regs 10);
+      ends_at image p w 4 4 back (low + 48) (update 2 (low + 48) (update 1 back (update 10 0 (λ r. x s r)))) s.memory (λ t. (t.memory ≡ s.memory) × (x t 10 ≡ 0)) refl (omega arith) w4 refl refl (w4.hart.memory, w4.hart.regs 10);
   frees_on_the_way = λ image u base object flying w stands given small held.
       let s : State = w.hart in
       let low : ℕ = x s 2 in
@@ -185,7 +185,7 @@ end_catch_runs = record {
       let w3 = walk_load p 2 34 10 2 40 (low + 40) object (λ r. x s r) m2 (omega arith) (omega arith) w2 (word_at stands 22 refl) (up low 40 (omega arith) (omega (arith, below))) object_kept in
       let w4 = walk_addi p 3 35 17 0 4 4 file3 m2 (omega arith) (omega arith) w3 (word_at stands 23 refl) (small_number 4 (omega arith)) in
       let out = walk_out p 4 36 file4 m2 w4 (word_at stands 24 refl) in
-      ends_out image p u base end_catch w 4 4 4 25 low file4 m2 (λ t. (x t 10 ≡ object) × AddressAt t.memory (low + 24) flying × BackStays low s.memory t.memory) refl refl stands.code (omega arith) out refl refl (
+      ends_out image p u base end_catch w 4 4 4 25 low file4 m2 (λ t. (x t 10 ≡ object) × AddressAt t.memory (low + 24) flying × BackStays low s.memory t.memory) refl refl stands.code (omega arith) out refl refl refl (
         out.hart.regs 10,
         subst (λ ps. AddressAt ps (low + 24) flying) (sym out.hart.memory) flying_kept,
         λ b h. subst (λ ps. AddressAt ps (low + 8) b) (sym out.hart.memory)
@@ -200,5 +200,5 @@ end_catch_runs = record {
       let w1 = walk_load p 0 37 10 2 24 (low + 24) flying (λ r. x s r) s.memory (omega arith) (omega arith) w0 (word_at stands 25 refl) (up low 24 (omega arith) (omega (arith, stands.room.below))) held in
       let w2 = walk_addi p 1 38 17 0 9 9 (update 10 flying (λ r. x s r)) s.memory (omega arith) (omega arith) w1 (word_at stands 26 refl) (small_number 9 (omega arith)) in
       let out = walk_out p 2 39 file2 s.memory w2 (word_at stands 27 refl) in
-      ends_out image p u base end_catch w 2 2 9 28 low file2 s.memory (λ t. (t.memory ≡ s.memory) × (x t 10 ≡ flying)) refl refl stands.code (omega arith) out refl refl (out.hart.memory, out.hart.regs 10);
+      ends_out image p u base end_catch w 2 2 9 28 low file2 s.memory (λ t. (t.memory ≡ s.memory) × (x t 10 ≡ flying)) refl refl stands.code (omega arith) out refl refl refl (out.hart.memory, out.hart.regs 10);
 }

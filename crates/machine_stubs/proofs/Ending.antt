@@ -1,5 +1,5 @@
 -- A walk over words as turns of the ABI machine.
-use Rattle.std.proofs.Common.{◌≡◌, ◌∙◌, sym, ap, subst, arith, ℕ, zero, suc, ◌+◌, ◌-◌, ◌≤◌, List, [], ◌∷◌, length, Some}
+use Rattle.std.proofs.Common.{◌≡◌, ◌∙◌, sym, ap, subst, arith, ℕ, zero, suc, ◌+◌, ◌-◌, ◌≤◌, List, [], ◌∷◌, length, map, refl, Some}
 use Rattle.std.specs.Prelude.{slice_get}
 use Rattle.rv64_isa.specs.declared.step.Step.TheVariants.{Ecall}
 use Rattle.rv64_isa.specs.State.{State, Part}
@@ -12,26 +12,35 @@ use Rattle.cxa_runtime.specs.Run.{Ran, called, stepped, turn, and_more, run}
 use Rattle.linear_forms.specs.Linear.{UnitCode}
 use Rattle.linear_forms.specs.Stub.{Function}
 use Rattle.machine_forms.specs.Piece.{Piece}
-use Rattle.machine_forms.specs.Registers.{sp, a7}
+use Rattle.machine_forms.specs.Registers.{sp, a7, saved_registers}
 use Rattle.machine_forms.specs.StubCode.{stub_first, stub_routine}
 use Rattle.machine_pieces.specs.Standing.{Ground, address, PieceAt, PiecesAt}
+use Rattle.machine_pieces.specs.Keeping.{saved_of}
 use Rattle.machine_pieces.specs.Turning.{Reaches}
 use Rattle.machine_pieces.proofs.Fetching.{pieces_still}
 use Rattle.machine_pieces.proofs.Turning.{executes_turns}
 use Rattle.machine_pieces.specs.UnitAt.{routine_pieces}
 use Rattle.machine_stubs.specs.Stretches.{stub_ground, StubAt, Room, Beside, Stands, AtRuntimeCall, AtAddress}
-use Rattle.machine_stubs.proofs.Walking.{Path, Walks, room_still}
+use Rattle.machine_stubs.proofs.Walking.{Hart, Path, Walks, room_still}
 use Rattle.machine_stubs.proofs.Jumping.{WalksOut}
 
 -- where one of the runtime's own functions stands
 abbrev pub path : (u : UnitCode) (base : ℕ) (f : Function) (low size : ℕ) (s : State) → Room low size s.memory → Path
 path u base f low size s room = record { ground = stub_ground u base f; first = s; low = low; size = size; room = room }
 
+-- the registers of kept variables, where the walk has written none of them
+map_file : (s : State) (file : ℕ → ℕ) (rs : List ℕ) → ((r : ℕ) → x s r ≡ file r) → map (x s) rs ≡ map file rs
+map_file s file [] h = refl
+map_file s file (r ∷ rs) h = ap (λ a. a ∷ map (x s) rs) (h r) ∙ ap (λ l. file r ∷ l) (map_file s file rs h)
+
+saved_there : (place : ℕ) (file : ℕ → ℕ) (parts : List Part) (s first : State) → Hart place file parts s → map file saved_registers ≡ saved_of first → saved_of s ≡ saved_of first
+saved_there place file parts s first h same = map_file s file saved_registers h.regs ∙ same
+
 -- ---- a walk that ends at an address
 
 pub ends_at : (image : Image) (p : Path) (w : World) (most n pc stack : ℕ) (file : ℕ → ℕ) (parts : List Part) (P : State → Type 0) → w.hart ≡ p.first → n ≤ most → (h : Walks p n pc file parts) → file sp ≡ stack →
-    P h.after → Reaches image most w [] (AtAddress pc stack p.low p.size w P)
-ends_at image p w most n pc stack file parts P is few h pointer holds =
+    map file saved_registers ≡ saved_of p.first → P h.after → Reaches image most w [] (AtAddress pc stack p.low p.size w P)
+ends_at image p w most n pc stack file parts P is few h pointer same holds =
     let ran = executes_turns image n w p.first h.after is h.runs in
     record {
       turns = n;
@@ -42,6 +51,7 @@ ends_at image p w most n pc stack file parts P is few h pointer holds =
         there = ap (λ (s : State). s.pc) ran.hart ∙ h.hart.pc;
         registers = subst (λ (s : State). length s.regs ≡ 32) (sym ran.hart) h.hart.all;
         pointer = subst (λ s. x s sp ≡ stack) (sym ran.hart) (h.hart.regs sp ∙ pointer);
+        variables = ap saved_of ran.hart ∙ (saved_there pc file parts h.after p.first h.hart same ∙ ap saved_of (sym is));
         kept = record {
           beside = subst (λ (s : State). Beside p.low p.size s.memory ran.after.hart.memory) (sym is)
               (subst (λ (s : State). Beside p.low p.size p.first.memory s.memory) (sym ran.hart) (subst (Beside p.low p.size p.first.memory) (sym h.hart.memory) h.beside));
@@ -54,9 +64,9 @@ ends_at image p w most n pc stack file parts P is few h pointer holds =
 -- ---- a walk that ends at an ECALL
 
 pub ends_out : (image : Image) (p : Path) (u : UnitCode) (base : ℕ) (f : Function) (w : World) (most n number k stack : ℕ) (file : ℕ → ℕ) (parts : List Part) (P : State → Type 0) → w.hart ≡ p.first →
-    p.ground ≡ stub_ground u base f → StubAt u base f p.first.memory → n ≤ most → (h : WalksOut p n (stub_first f + k) file parts) → file a7 ≡ number → file sp ≡ stack → P h.behind →
+    p.ground ≡ stub_ground u base f → StubAt u base f p.first.memory → n ≤ most → (h : WalksOut p n (stub_first f + k) file parts) → file a7 ≡ number → file sp ≡ stack → map file saved_registers ≡ saved_of p.first → P h.behind →
     Reaches image most w [] (AtRuntimeCall u base f number k stack p.low p.size w P)
-ends_out image p u base f w most n number k stack file parts P is ground code few h asks pointer holds =
+ends_out image p u base f w most n number k stack file parts P is ground code few h asks pointer same holds =
     let ran = executes_turns image n w p.first h.at is h.runs in
     let beside : Beside p.low p.size p.first.memory h.behind.memory = subst (Beside p.low p.size p.first.memory) (sym h.hart.memory) h.beside in
     record {
@@ -75,6 +85,7 @@ ends_out image p u base f w most n number k stack file parts P is ground code fe
           room = room_still p.low p.size p.first.memory h.behind.memory beside.written p.room;
         };
         pointer = h.hart.regs sp ∙ pointer;
+        variables = saved_there (address p.ground (stub_first f + k)) file parts h.behind p.first h.hart same ∙ ap saved_of (sym is);
         kept = record { beside = subst (λ (s : State). Beside p.low p.size s.memory h.behind.memory) (sym is) beside; runtime = ran.runtime };
         holds = holds;
       };

@@ -29,6 +29,7 @@ use Rattle.linear_forms.specs.Stub.{Function, end_catch}
 use Rattle.machine_pieces.specs.Frames.{AddressAt}
 use Rattle.machine_pieces.specs.Turning.{Turns}
 use Rattle.machine_pieces.proofs.Registers.{set_length, read_same, read_other}
+use Rattle.machine_pieces.proofs.Keeping.{given_saved}
 use Rattle.machine_pieces.proofs.Turning.{turns_then}
 use Rattle.machine_stubs.specs.Stretches.{Beside, Stands}
 use Rattle.machine_stubs.specs.Calls.{asked}
@@ -148,6 +149,7 @@ end_catch_frees image u base o type e w enough stands aligned small newest kind 
         pc = five.holds.there;
         registers = five.holds.registers;
         pointer = five.holds.pointer ∙ omega (arith, pointer4, enough);
+        variables = five.holds.variables ∙ (h3.variables ∙ (given_saved h1.behind s2 object 0 refl ∙ h1.variables));
         value = five.holds.holds.1;
         beside = beside_then low 48 w.hart.memory s2.memory v5.hart.memory h1.kept.beside
             (beside_then low 48 s2.memory s4.memory v5.hart.memory (subst (λ a. Beside a 48 s2.memory s4.memory) g2.pointer h3.kept.beside)

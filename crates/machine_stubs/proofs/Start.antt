@@ -11,6 +11,7 @@ use Rattle.machine_forms.specs.Emitted.{stub_target}
 use Rattle.machine_pieces.specs.Standing.{Ground, address}
 use Rattle.machine_pieces.specs.Frames.{Reached}
 use Rattle.machine_pieces.specs.UnitAt.{routine_ground}
+use Rattle.machine_pieces.proofs.Keeping.{same_saved}
 use Rattle.machine_pieces.proofs.Framing.{function_calls}
 use Rattle.machine_pieces.proofs.Turning.{executes_turns, exit_ends}
 use Rattle.machine_stubs.specs.Start.{StartRuns}
@@ -49,7 +50,7 @@ start_runs = record {
         beside = beside_none 0 0 s.memory;
       } in
       ends_at image (start_path u base s) w 2 2 (address g stub_words) (x s 2) file s.memory (λ t. (t.memory ≡ s.memory) × (x t 1 ≡ base + 8)) refl (omega arith) walk (call.kept 2 (λ e. absurd (omega (arith, e))))
-      (call.memory, call.back);
+      (same_saved s call.after (λ r saved. call.kept r (λ e. omega (arith, saved.above, e)))) (call.memory, call.back);
   exits = λ image pick n u base z w at regs code value int many.
       let s : State = w.hart in
       let p = start_path u base s in

@@ -47,7 +47,7 @@ terminate_runs = record {
       let w5 = walk_not_same p 4 8 10 0 4 file parts w4 (word_at stands 4 refl) (ne_eqb h 0 some) in
       let w6 = walk_call p 5 9 10 h file parts w5 (word_at stands 5 refl) refl aligned small in
       let back : ℕ = stub_word base terminating 6 in
-      ends_at image p w 6 6 h low (update 1 back file) parts (λ t. (x t 1 ≡ back) × (x t 10 ≡ h)) refl (omega arith) w6 refl (w6.hart.regs 1, w6.hart.regs 10);
+      ends_at image p w 6 6 h low (update 1 back file) parts (λ t. (x t 1 ≡ back) × (x t 10 ≡ h)) refl (omega arith) w6 refl refl (w6.hart.regs 1, w6.hart.regs 10);
   aborts_without = λ image pick n u base w enough stands is many.
       let s : State = w.hart in
       let low : ℕ = x s 2 - 32 in

@@ -78,7 +78,7 @@ unexpected_answers = record {
       let w4 = walk_label p 3 70 10 file parts w3 (word_at stands 30 refl) (omega arith) (omega arith) (omega (arith, (word_at stands 39 refl).word.below)) in
       let w5 = walk_addi p 4 79 17 0 8 8 file parts (omega arith) (omega arith) w4 (word_at stands 39 refl) (small_number 8 (omega arith)) in
       let out = walk_out p 5 80 file5 parts w5 (word_at stands 40 refl) in
-      ends_out image p u base call_unexpected w 5 5 8 41 low file5 parts (λ t. Beside (low + 24) 8 s.memory t.memory) refl refl stands.code (omega arith) out refl refl (subst (Beside (low + 24) 8 s.memory) (sym out.hart.memory) k.beside);
+      ends_out image p u base call_unexpected w 5 5 8 41 low file5 parts (λ t. Beside (low + 24) 8 s.memory t.memory) refl refl stands.code (omega arith) out refl refl refl (subst (Beside (low + 24) 8 s.memory) (sym out.hart.memory) k.beside);
   makes_a_bad_exception = λ image u base w stands given.
       let s : State = w.hart in
       let low : ℕ = x s 2 in
@@ -92,7 +92,7 @@ unexpected_answers = record {
       let w8 = walk_label p 7 75 11 file parts w7 (word_at stands 35 refl) (omega arith) (omega arith) (omega (arith, (word_at stands 41 refl).word.below)) in
       let w9 = walk_addi p 8 81 17 0 3 3 file parts (omega arith) (omega arith) w8 (word_at stands 41 refl) (small_number 3 (omega arith)) in
       let out = walk_out p 9 82 file9 parts w9 (word_at stands 42 refl) in
-      ends_out image p u base call_unexpected w 9 9 3 43 low file9 parts (λ t. Beside (low + 24) 8 s.memory t.memory) refl refl stands.code (omega arith) out refl refl (subst (Beside (low + 24) 8 s.memory) (sym out.hart.memory) k.beside);
+      ends_out image p u base call_unexpected w 9 9 3 43 low file9 parts (λ t. Beside (low + 24) 8 s.memory t.memory) refl refl stands.code (omega arith) out refl refl refl (subst (Beside (low + 24) 8 s.memory) (sym out.hart.memory) k.beside);
   terminates_unlisted = λ image u base stopped w stands given held.
       let s : State = w.hart in
       let low : ℕ = x s 2 in
@@ -108,7 +108,7 @@ unexpected_answers = record {
       let w8 = walk_load p 7 76 10 2 72 (low + 72) stopped file parts (omega arith) (omega arith) w7 (word_at stands 36 refl) (up low 72 (omega arith) (omega (arith, below))) (slot_stays low 24 (x s 10) 72 stopped s.memory (inl (omega arith)) held) in
       let w9 = walk_addi p 8 77 17 0 20 20 file8 parts (omega arith) (omega arith) w8 (word_at stands 37 refl) (small_number 20 (omega arith)) in
       let out = walk_out p 9 78 file9 parts w9 (word_at stands 38 refl) in
-      ends_out image p u base call_unexpected w 9 9 20 39 low file9 parts (λ t. x t 10 ≡ stopped) refl refl stands.code (omega arith) out refl refl (out.hart.regs 10);
+      ends_out image p u base call_unexpected w 9 9 20 39 low file9 parts (λ t. x t 10 ≡ stopped) refl refl stands.code (omega arith) out refl refl refl (out.hart.regs 10);
   throws_a_bad_exception = λ image u base bad w deep stands given small.
       let s : State = w.hart in
       let low : ℕ = x s 2 in
@@ -133,6 +133,6 @@ unexpected_answers = record {
       let w7 = walk_addi p 6 89 17 0 5 5 file6 parts (omega arith) (omega arith) w6 (word_at stands 49 refl) (small_number 5 (omega arith)) in
       let out = walk_out p 7 90 file7 parts w7 (word_at stands 50 refl) in
       let beside : Beside (low + 16) 8 s.memory parts = beside_at (low + 16) 8 (low + 16) bad s.memory s.memory (beside_none (low + 16) 8 s.memory) (omega arith) (omega arith) (slot_may p 0 (address p.ground 83) 16 (λ r. x s r) s.memory w0 (omega arith)) in
-      ends_out image p u base call_unexpected w 7 7 5 51 low file7 parts (λ t. (x t 10 ≡ bad) × (x t 11 ≡ there) × (x t 12 ≡ 0) × Beside (low + 16) 8 s.memory t.memory) refl refl stands.code (omega arith) out refl refl
+      ends_out image p u base call_unexpected w 7 7 5 51 low file7 parts (λ t. (x t 10 ≡ bad) × (x t 11 ≡ there) × (x t 12 ≡ 0) × Beside (low + 16) 8 s.memory t.memory) refl refl stands.code (omega arith) out refl refl refl
       (out.hart.regs 10, out.hart.regs 11, out.hart.regs 12, subst (Beside (low + 16) 8 s.memory) (sym out.hart.memory) beside);
 }

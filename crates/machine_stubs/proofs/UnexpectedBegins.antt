@@ -39,7 +39,7 @@ begins image u base stopped w enough stands small held =
     let out = walk_out p 4 44 file4 m1 w4 (word_at stands 4 refl) in
     let saved : AddressAt m1 (low + 8) (x s 1) = slot_there p 1 (address p.ground 41) 8 (x s 1) file1 s.memory w1 refl (omega arith) small in
     let beside : Beside (low + 8) 8 s.memory m1 = beside_at (low + 8) 8 (low + 8) (x s 1) s.memory s.memory (beside_none (low + 8) 8 s.memory) (omega arith) (omega arith) (slot_may p 1 (address p.ground 41) 8 file1 s.memory w1 (omega arith)) in
-    ends_out image p u base call_unexpected w 4 4 18 5 low file4 m1 (λ t. (x t 10 ≡ stopped) × AddressAt t.memory (low + 8) (x s 1) × Beside (low + 8) 8 s.memory t.memory) refl refl stands.code (omega arith) out refl refl
+    ends_out image p u base call_unexpected w 4 4 18 5 low file4 m1 (λ t. (x t 10 ≡ stopped) × AddressAt t.memory (low + 8) (x s 1) × Beside (low + 8) 8 s.memory t.memory) refl refl stands.code (omega arith) out refl refl refl
     (subst (λ ps. (x out.behind 10 ≡ stopped) × AddressAt ps (low + 8) (x s 1) × Beside (low + 8) 8 s.memory ps) (sym out.hart.memory) (out.hart.regs 10, saved, beside))
 
 -- ---- behind it: the handler and the table are kept
@@ -90,7 +90,7 @@ unexpected_begins = record {
       let w4 = walk_not_same p 3 48 10 0 4 file parts k.walk (word_at stands 8 refl) (ne_eqb (x s 10) 0 (λ e. some (sym given ∙ e))) in
       let w5 = walk_call p 4 49 10 handler file parts w4 (word_at stands 9 refl) given aligned small in
       let held : AddressAt parts (low + 56) table = subst (AddressAt parts (low + 56)) given_too (k.table (omega (arith, given_too, table_small))) in
-      ends_at image p w 5 5 handler low (update 1 back file) parts (λ t. (x t 1 ≡ back) × AddressAt t.memory (low + 56) table × Beside (low + 48) 16 s.memory t.memory) refl (omega arith) w5 refl
+      ends_at image p w 5 5 handler low (update 1 back file) parts (λ t. (x t 1 ≡ back) × AddressAt t.memory (low + 56) table × Beside (low + 48) 16 s.memory t.memory) refl (omega arith) w5 refl refl
       (subst (λ ps. (x w5.after 1 ≡ back) × AddressAt ps (low + 56) table × Beside (low + 48) 16 s.memory ps) (sym w5.hart.memory) (w5.hart.regs 1, held, k.beside));
   terminates_without = λ image u base stopped w stands given held.
       let s : State = w.hart in
@@ -106,7 +106,7 @@ unexpected_begins = record {
       let w5 = walk_load p 4 50 10 2 72 (low + 72) stopped file parts (omega arith) (omega arith) w4 (word_at stands 10 refl) (up low 72 (omega arith) (omega (arith, below))) (k.stopped stopped held) in
       let w6 = walk_addi p 5 51 17 0 20 20 file5 parts (omega arith) (omega arith) w5 (word_at stands 11 refl) (small_number 20 (omega arith)) in
       let out = walk_out p 6 52 file6 parts w6 (word_at stands 12 refl) in
-      ends_out image p u base call_unexpected w 6 6 20 13 low file6 parts (λ t. x t 10 ≡ stopped) refl refl stands.code (omega arith) out refl refl (out.hart.regs 10);
+      ends_out image p u base call_unexpected w 6 6 20 13 low file6 parts (λ t. x t 10 ≡ stopped) refl refl stands.code (omega arith) out refl refl refl (out.hart.regs 10);
   terminates_behind = λ image u base stopped w stands held.
       let s : State = w.hart in
       let low : ℕ = x s 2 in
@@ -118,5 +118,5 @@ unexpected_begins = record {
       let w1 = walk_load p 0 50 10 2 72 (low + 72) stopped (λ r. x s r) s.memory (omega arith) (omega arith) w0 (word_at stands 10 refl) (up low 72 (omega arith) (omega (arith, below))) held in
       let w2 = walk_addi p 1 51 17 0 20 20 file1 s.memory (omega arith) (omega arith) w1 (word_at stands 11 refl) (small_number 20 (omega arith)) in
       let out = walk_out p 2 52 file2 s.memory w2 (word_at stands 12 refl) in
-      ends_out image p u base call_unexpected w 2 2 20 13 low file2 s.memory (λ t. x t 10 ≡ stopped) refl refl stands.code (omega arith) out refl refl (out.hart.regs 10);
+      ends_out image p u base call_unexpected w 2 2 20 13 low file2 s.memory (λ t. x t 10 ≡ stopped) refl refl stands.code (omega arith) out refl refl refl (out.hart.regs 10);
 }

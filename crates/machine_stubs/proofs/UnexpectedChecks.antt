@@ -89,7 +89,7 @@ unexpected_checks = record {
       let w6 = walk_load p 5 59 10 2 40 (low + 40) thrown file parts (omega arith) (omega arith) w5 (word_at stands 19 refl) (up low 40 (omega arith) (omega (arith, below))) held in
       let w7 = walk_addi p 6 60 17 0 6 6 file6 parts (omega arith) (omega arith) w6 (word_at stands 20 refl) (small_number 6 (omega arith)) in
       let out = walk_out p 7 61 file7 parts w7 (word_at stands 21 refl) in
-      ends_out image p u base call_unexpected w 7 7 6 22 low file7 parts (λ t. (x t 10 ≡ thrown) × AddressAt t.memory (low + 40) thrown × Beside (low + 32) 16 s.memory t.memory) refl refl stands.code (omega arith) out refl refl
+      ends_out image p u base call_unexpected w 7 7 6 22 low file7 parts (λ t. (x t 10 ≡ thrown) × AddressAt t.memory (low + 40) thrown × Beside (low + 32) 16 s.memory t.memory) refl refl stands.code (omega arith) out refl refl refl
       (subst (λ ps. (x out.behind 10 ≡ thrown) × AddressAt ps (low + 40) thrown × Beside (low + 32) 16 s.memory ps) (sym out.hart.memory) (out.hart.regs 10, held, k.beside));
   leaves_canceled = λ image u base thrown w few stands given small none.
       let s : State = w.hart in
@@ -107,7 +107,7 @@ unexpected_checks = record {
       let w5 = walk_not_other p 4 57 10 11 4 file parts w4 (word_at stands 17 refl) refl in
       let w6 = walk_label p 5 58 16 file parts w5 (word_at stands 18 refl) (omega arith) (omega arith) (omega (arith, (word_at stands 55 refl).word.below)) in
       let w8 = walk_function p 6 95 callee (entry end_catch) file parts w6 (word_at stands 55 refl) (word_at stands 56 refl) (reached_word g (entry end_catch) 12 few (omega arith) refl) (omega (arith, (word_at stands 55 refl).word.aligned)) (omega (arith, (word_at stands 55 refl).word.below)) in
-      ends_at image p w 8 8 callee low (update 1 back file) parts (λ t. (x t 1 ≡ back) × AddressAt t.memory (low + 40) thrown × Beside (low + 32) 16 s.memory t.memory) refl (omega arith) w8 refl
+      ends_at image p w 8 8 callee low (update 1 back file) parts (λ t. (x t 1 ≡ back) × AddressAt t.memory (low + 40) thrown × Beside (low + 32) 16 s.memory t.memory) refl (omega arith) w8 refl refl
       (subst (λ ps. (x w8.after 1 ≡ back) × AddressAt ps (low + 40) thrown × Beside (low + 32) 16 s.memory ps) (sym w8.hart.memory) (w8.hart.regs 1, held, k.beside));
   checks = λ image u base thrown table list w stands table_held list_held thrown_held.
       let s : State = w.hart in
@@ -124,6 +124,6 @@ unexpected_checks = record {
       let w3 = walk_load p 2 64 12 2 40 (low + 40) thrown file2 s.memory (omega arith) (omega arith) w2 (word_at stands 24 refl) (up low 40 (omega arith) (omega (arith, below))) thrown_held in
       let w4 = walk_addi p 3 65 17 0 19 19 file3 s.memory (omega arith) (omega arith) w3 (word_at stands 25 refl) (small_number 19 (omega arith)) in
       let out = walk_out p 4 66 file4 s.memory w4 (word_at stands 26 refl) in
-      ends_out image p u base call_unexpected w 4 4 19 27 low file4 s.memory (λ t. (t.memory ≡ s.memory) × (x t 10 ≡ table) × (x t 11 ≡ extended list) × (x t 12 ≡ thrown)) refl refl stands.code (omega arith) out refl refl
+      ends_out image p u base call_unexpected w 4 4 19 27 low file4 s.memory (λ t. (t.memory ≡ s.memory) × (x t 10 ≡ table) × (x t 11 ≡ extended list) × (x t 12 ≡ thrown)) refl refl stands.code (omega arith) out refl refl refl
       (out.hart.memory, out.hart.regs 10, out.hart.regs 11, out.hart.regs 12);
 }

@@ -28,7 +28,7 @@ unexpected_ends = record {
       let back : ℕ = stub_word base call_unexpected 55 in
       let callee : ℕ = stub_word base end_catch 0 in
       let w4 = walk_function p 2 93 callee (entry end_catch) (λ r. x s r) parts k.walk (word_at stands 53 refl) (word_at stands 54 refl) (reached_word g (entry end_catch) 12 few (omega arith) refl) (omega (arith, (word_at stands 53 refl).word.aligned)) (omega (arith, (word_at stands 53 refl).word.below)) in
-      ends_at image p w 4 4 callee low (update 1 back (λ r. x s r)) parts (λ t. (x t 1 ≡ back) × AddressAt t.memory (low + 40) thrown × Beside (low + 32) 16 s.memory t.memory) refl (omega arith) w4 refl
+      ends_at image p w 4 4 callee low (update 1 back (λ r. x s r)) parts (λ t. (x t 1 ≡ back) × AddressAt t.memory (low + 40) thrown × Beside (low + 32) 16 s.memory t.memory) refl (omega arith) w4 refl refl
       (subst (λ ps. (x w4.after 1 ≡ back) × AddressAt ps (low + 40) thrown × Beside (low + 32) 16 s.memory ps) (sym w4.hart.memory) (w4.hart.regs 1, held, k.beside));
   leaves_the_stopped = λ image u base w few stands.
       let s : State = w.hart in
@@ -39,7 +39,7 @@ unexpected_ends = record {
       let callee : ℕ = stub_word base end_catch 0 in
       let w0 = walk_begins p 95 stands.pc stands.registers in
       let w2 = walk_function p 0 95 callee (entry end_catch) (λ r. x s r) s.memory w0 (word_at stands 55 refl) (word_at stands 56 refl) (reached_word g (entry end_catch) 12 few (omega arith) refl) (omega (arith, (word_at stands 55 refl).word.aligned)) (omega (arith, (word_at stands 55 refl).word.below)) in
-      ends_at image p w 2 2 callee low (update 1 back (λ r. x s r)) s.memory (λ t. (x t 1 ≡ back) × (t.memory ≡ s.memory)) refl (omega arith) w2 refl (w2.hart.regs 1, w2.hart.memory);
+      ends_at image p w 2 2 callee low (update 1 back (λ r. x s r)) s.memory (λ t. (x t 1 ≡ back) × (t.memory ≡ s.memory)) refl (omega arith) w2 refl refl (w2.hart.regs 1, w2.hart.memory);
   resumes = λ image u base thrown w stands held.
       let s : State = w.hart in
       let low : ℕ = x s 2 in
@@ -51,5 +51,5 @@ unexpected_ends = record {
       let w1 = walk_load p 0 97 10 2 40 (low + 40) thrown (λ r. x s r) s.memory (omega arith) (omega arith) w0 (word_at stands 57 refl) (up low 40 (omega arith) (omega (arith, below))) held in
       let w2 = walk_addi p 1 98 17 0 9 9 file1 s.memory (omega arith) (omega arith) w1 (word_at stands 58 refl) (small_number 9 (omega arith)) in
       let out = walk_out p 2 99 file2 s.memory w2 (word_at stands 59 refl) in
-      ends_out image p u base call_unexpected w 2 2 9 60 low file2 s.memory (λ t. (t.memory ≡ s.memory) × (x t 10 ≡ thrown)) refl refl stands.code (omega arith) out refl refl (out.hart.memory, out.hart.regs 10);
+      ends_out image p u base call_unexpected w 2 2 9 60 low file2 s.memory (λ t. (t.memory ≡ s.memory) × (x t 10 ≡ thrown)) refl refl stands.code (omega arith) out refl refl refl (out.hart.memory, out.hart.regs 10);
 }

@@ -14,6 +14,7 @@ use Rattle.linear_forms.specs.Linear.{UnitCode}
 use Rattle.linear_forms.specs.Stub.{end_catch}
 use Rattle.machine_forms.specs.Registers.{ra, sp, a0}
 use Rattle.machine_pieces.specs.Turning.{Reaches}
+use Rattle.machine_pieces.specs.Keeping.{saved_of}
 use Rattle.machine_stubs.specs.Stretches.{frame_size, Beside, Stands}
 
 -- what the runtime keeps beside the hart and the exceptions stays
@@ -26,11 +27,13 @@ pub record SameRest (w v : World) : Type 0 where
   pub replies : v.replies ≡ w.replies
   pub terminating : v.terminating ≡ w.terminating
 
--- a call has come back: the pc is the return address, sp is as before, a0 is 0, and memory is as before beside the frame
+-- a call has come back: the pc is the return address, sp and the registers of kept variables are as before, a0 is 0, and memory is as before beside
+-- the frame
 pub record CameBack (back stack low size : ℕ) (e : Exceptions) (w v : World) : Type 0 where
   pub pc : v.hart.pc ≡ back
   pub registers : length v.hart.regs ≡ 32
   pub pointer : x v.hart sp ≡ stack
+  pub variables : saved_of v.hart ≡ saved_of w.hart
   pub value : x v.hart a0 ≡ 0
   pub beside : Beside low size w.hart.memory v.hart.memory
   pub exceptions : v.exceptions ≡ e

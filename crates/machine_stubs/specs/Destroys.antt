@@ -19,6 +19,7 @@ use Rattle.machine_forms.specs.Registers.{ra, sp}
 use Rattle.machine_forms.specs.Shape.{return_offset}
 use Rattle.machine_pieces.specs.Frames.{AddressAt}
 use Rattle.machine_pieces.specs.Turning.{Reaches}
+use Rattle.machine_pieces.specs.Keeping.{saved_of}
 use Rattle.machine_stubs.specs.Stretches.{stub_word, frame_size, Beside, Stands}
 use Rattle.machine_stubs.specs.EndCatch.{object_slot}
 use Rattle.machine_stubs.specs.ComesBack.{SameRest, CameBack}
@@ -29,6 +30,7 @@ pub record AtDestructor (base destructor object back low size : ℕ) (e : Except
   pub registers : length v.hart.regs ≡ 32
   pub returns : x v.hart ra ≡ stub_word base end_catch 13
   pub pointer : x v.hart sp ≡ low + 8
+  pub variables : saved_of v.hart ≡ saved_of w.hart
   pub passed : AddressAt v.hart.memory low object
   pub kept : AddressAt v.hart.memory (low + 8 + object_slot) object
   pub saved : AddressAt v.hart.memory (low + 8 + return_offset) back

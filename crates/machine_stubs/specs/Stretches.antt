@@ -13,6 +13,7 @@ use Rattle.machine_forms.specs.StubCode.{stub_shape, stub_first, stub_routine}
 use Rattle.machine_forms.specs.Emitted.{stub_target}
 use Rattle.machine_pieces.specs.Memory.{Written, Holds, MayWrite, Apart}
 use Rattle.machine_pieces.specs.Standing.{Ground, PiecesAt}
+use Rattle.machine_pieces.specs.Keeping.{saved_of}
 use Rattle.machine_pieces.specs.Frames.{AddressAt}
 use Rattle.machine_pieces.specs.Turning.{SameRuntime}
 use Rattle.machine_pieces.specs.UnitAt.{routine_ground, routine_pieces}
@@ -63,14 +64,15 @@ pub record Kept (low size : ℕ) (memory : List Part) (w v : World) : Type 0 whe
   pub beside : Beside low size w.hart.memory memory
   pub runtime : SameRuntime w v
 
--- A stretch ends at the ECALL of a runtime call. Behind it the hart stands at the k-th word with sp where it is given, and something holds
--- of it.
+-- A stretch ends at the ECALL of a runtime call. Behind it the hart stands at the k-th word with sp where it is given, the registers of kept
+-- variables hold what they held, and something holds of it.
 pub record AtRuntimeCall (u : UnitCode) (base : ℕ) (f : Function) (number k stack low size : ℕ) (w : World) (P : State → Type 0) (v : World) : Type 0 where
   pub behind : State
   pub calls : step_of v.hart ≡ (Ecall, behind)
   pub asks : x behind a7 ≡ number
   pub stands : Stands u base f k low size behind
   pub pointer : x behind sp ≡ stack
+  pub variables : saved_of behind ≡ saved_of w.hart
   pub kept : Kept low size behind.memory w v
   pub holds : P behind
 
@@ -79,5 +81,6 @@ pub record AtAddress (pc stack low size : ℕ) (w : World) (P : State → Type 0
   pub there : v.hart.pc ≡ pc
   pub registers : length v.hart.regs ≡ 32
   pub pointer : x v.hart sp ≡ stack
+  pub variables : saved_of v.hart ≡ saved_of w.hart
   pub kept : Kept low size v.hart.memory w v
   pub holds : P v.hart

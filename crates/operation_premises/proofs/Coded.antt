@@ -115,7 +115,7 @@ module _ (r : Regions) (f : RegionFunction) (needs : Needs) (reach : Reach) (fra
 
   -- a word slot as a place for an int
   word_place : (s : ℕ) → IsWord (function_code f) s → kinds_of (code_slots f) s ≡ help_slot → RootStatic (unit_of r) (function_code f) (in_slot s) 0
-  word_place s w is = let near = w.near in (w.inside, omega (arith, near), subst (λ k. SlotFits k 0) (sym is) refl)
+  word_place s w is = let near = w.near in (w.inside, omega (arith, near), subst (λ k. SlotFits k 0) (sym is) refl, λ k e. refl)
 
   way_kind : has_pad f.body ≡ true → kinds_of (code_slots f) (emitting f).way ≡ help_slot
   way_kind padded = ap (λ b. kinds_of (f.slots ++ (if b then help ∷ help ∷ help ∷ [] else [])) (length f.slots + 2)) padded ∙ ap kind_of (helps_behind f.slots 2 (omega arith))

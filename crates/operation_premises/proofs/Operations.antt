@@ -119,6 +119,7 @@ module _ (r : Regions) (f : RegionFunction) (needs : Needs) (reach : Reach) (fra
       record {
         known = known.1;
         few = omega (arith, count, parameters, more, same);
+        taken = count ∙ sym (ap (λ g. g.parameters) slots);
         arguments = subst (λ g. ArgumentsStatic (unit_of r) (function_code f) (kinds_of g.slots) filled args) (sym slots)
             (arguments_static m callee.slots (needs m) filled args pads tests (both_right (filled + count_of args == callee.parameters) (fit callee.slots filled args) rest) h ints);
       }
@@ -156,6 +157,16 @@ module _ (r : Regions) (f : RegionFunction) (needs : Needs) (reach : Reach) (fra
         held = ap (λ g. holds_address (kinds_of g.slots 0)) slots ∙ ap (λ o. holds_address (kind_of o)) (in_front callee.slots pads 0 there) ∙ reference_holds (kinds_of callee.slots 0) (both_right (nat_lt 0 (length callee.slots)) (is_reference (kinds_of callee.slots 0)) first);
       }
 
+  -- what takes an object alone
+  object_alone : (m : ℕ) → takes_object r m no_arguments ≡ true → 1 ≡ (code_at (unit_of r) m).parameters
+  object_alone m e =
+      let call = both_left (call_test r m 1 no_arguments) (slot_test is_reference (function_at r m).slots 0) e in
+      let known = known_by m (both_left (nat_lt m (length r.functions)) _ call) in
+      let callee : RegionFunction = function_at r m in
+      let rest = both_right (nat_lt m (length r.functions)) _ call in
+      let count : 1 ≡ callee.parameters = let x = both_left (1 + count_of no_arguments == callee.parameters) (fit callee.slots 1 no_arguments) rest in grind (arith, nat_tests, x) in
+      count ∙ sym (ap (λ g. g.parameters) (unit_at r m known.0))
+
   top_static : every (function_test r) r.functions ≡ true → (v : Value) → value_test r f.slots v ≡ true → ValueReaches needs reach (code_slots f) v → HasInts v → TopStatic (unit_of r) (function_code f) v
   top_static all (call_value c args) e h ints = callee_static all c args (both_left (arguments_test r f.slots args) (callee_test r c args) e) (both_right (arguments_test r f.slots args) (callee_test r c args) e) h ints
   top_static all (number z) e h ints = value_static (number z) e h ints
@@ -186,7 +197,8 @@ module _ (r : Regions) (f : RegionFunction) (needs : Needs) (reach : Reach) (fra
       let takes = both_right (arguments_test r f.slots args) (takes_object r m args) rest in
       (address_static r f reach frame q place, call_static all m 1 args (both_left (call_test r m 1 args) _ takes) tests h.1 ints, object_static m args takes)
   op_static all (destroy q m) e h ints =
-      (address_static r f reach frame q (both_left (address_place r f.slots q) (takes_object r m no_arguments) e), object_static m no_arguments (both_right (address_place r f.slots q) (takes_object r m no_arguments) e))
+      let takes = both_right (address_place r f.slots q) (takes_object r m no_arguments) e in
+      (address_static r f reach frame q (both_left (address_place r f.slots q) (takes_object r m no_arguments) e), object_static m no_arguments takes, object_alone m takes)
   op_static all (make s) e h ints = help_word r f reach frame s e
   op_static all (throw s t d) e h ints =
       let rest = both_right (slot_test is_help f.slots s) _ e in

@@ -12,7 +12,12 @@ use Rattle.linear_forms.specs.Frame.{rounded_up, slot_bytes, code_slots, has_pad
 use Rattle.linear_forms.specs.Unit.{function_code, unit_of}
 use Rattle.machine_forms.specs.Shape.{slot_offset}
 use Rattle.machine_forms.specs.Emitted.{shape_of}
+use Rattle.machine_forms.specs.Kept.{kept_slots}
+use Rattle.machine_forms.specs.KeptCode.{register_of}
+use Rattle.machine_forms.specs.Registers.{saved_registers}
+use Rattle.machine_forms.proofs.Chosen.{variables_are_kept}
 use Rattle.machine_pieces.specs.Frames.{SlotFits}
+use Rattle.machine_pieces.proofs.Keeping.{among}
 use Rattle.machine_simulation.specs.Matches.{FrameIs}
 use Rattle.machine_simulation.specs.Entering.{slot_room}
 use Rattle.machine_simulation.proofs.Slots.{slot_place_of}
@@ -131,6 +136,16 @@ module _ (r : Regions) (f : RegionFunction) (reach : Reach) (frame : FrameIs (fu
       let a = both_left (nat_lt i (length r.globals)) (o == 0) e in let b = both_right (nat_lt i (length r.globals)) (o == 0) e in
       (grind (arith, nat_tests, a), grind (arith, nat_tests, b))
 
+  -- a kept variable has 4 bytes
+  kept_whole : (s k o : ℕ) (slot : Slot) → register_of (kept_slots (function_code f)) s ≡ Some k → slice_get (code_slots f) s ≡ Some slot → o + 4 ≤ slot.size → o ≡ 0
+  kept_whole s k o slot kept there room =
+      let a = among saved_registers (kept_slots (function_code f)) s k kept in
+      let is = (variables_are_kept (function_code f)).are a.place s a.slot in
+      let both : Some slot ≡ Some is.slot = sym there ∙ is.there in
+      let same : slot ≡ is.slot = cc both in
+      let four : slot.size ≡ 4 = ap (λ x. x.size) same ∙ is.size in
+      omega (arith, room, four)
+
   -- an int in a slot of its own or in one that is no variable
   slot_static : (test : SlotKind → Bool) (s o : ℕ) → ((k : SlotKind) → test k ≡ true → (slot : Slot) → k ≡ slot.kind → o + 4 ≤ ints_of slot → SlotFits k o) → slot_test test f.slots s && within (slice_get f.slots s) o ≡ true →
       ((slot : Slot) → slice_get (code_slots f) s ≡ Some slot → o + 4 ≤ ints_of slot) → RootStatic (unit_of r) (function_code f) (in_slot s) o
@@ -146,8 +161,12 @@ module _ (r : Regions) (f : RegionFunction) (reach : Reach) (frame : FrameIs (fu
           let inside : s < length (code_slots f) = omega (arith, more, below) in
           let there : slice_get (code_slots f) s ≡ Some slot = in_front f.slots (if has_pad f.body then help ∷ help ∷ help ∷ [] else []) s t.0 ∙ is in
           let size : o + 4 ≤ slot.size = grind (arith, nat_tests, e) in
-          let kind : kinds_of (code_slots f) s ≡ slot.kind = ap kind_of there in
-          (inside, inside_slot s o slot inside there size, fits (kinds_of (code_slots f) s) (ap test (same_kind s t.0) ∙ t.1) slot kind (room slot there))
+          let kind : kinds_of (code_slots f) s ≡ slot.kind = ap kind_of there in (
+            inside,
+            inside_slot s o slot inside there size,
+            fits (kinds_of (code_slots f) s) (ap test (same_kind s t.0) ∙ t.1) slot kind (room slot there),
+            λ k kept. kept_whole s k o slot kept there size,
+          )
 
   int_fits : (o : ℕ) (k : SlotKind) → holds_ints k ≡ true → (slot : Slot) → k ≡ slot.kind → o + 4 ≤ ints_of slot → SlotFits k o
   int_fits o int_slot e slot is room = tt

@@ -5,6 +5,8 @@ use Rattle.region_forms.specs.WellFormed.{is_variable, holds_address, count_of}
 use Rattle.linear_forms.specs.Linear.{FunctionCode, UnitCode, LinearOp, plain, label, jump, jump_zero, pad, jump_filter, free, resume, unexpected, return}
 use Rattle.linear_forms.specs.UnitRun.{code_at}
 use Rattle.machine_forms.specs.Shape.{slot_offset}
+use Rattle.machine_forms.specs.Kept.{kept_slots}
+use Rattle.machine_forms.specs.KeptCode.{register_of}
 use Rattle.machine_forms.specs.Emitted.{shape_of}
 use Rattle.machine_pieces.specs.Numbers.{IsInt}
 use Rattle.machine_pieces.specs.Frames.{SlotFits}
@@ -17,7 +19,8 @@ pub record IsWord (g : FunctionCode) (s : ℕ) : Type 0 where
 
 -- the root of a place, with an offset
 abbrev pub RootStatic : UnitCode → FunctionCode → Root → ℕ → Type 0
-RootStatic u g (in_slot s) o = (s < length g.slots) × (slot_offset (shape_of g) s + o < 2 ^ 11) × SlotFits (kinds_of g.slots s) o
+RootStatic u g (in_slot s) o =
+    (s < length g.slots) × (slot_offset (shape_of g) s + o < 2 ^ 11) × SlotFits (kinds_of g.slots s) o × ((k : ℕ) → register_of (kept_slots g) s ≡ Some k → o ≡ 0)
 RootStatic u g (through s) o = (s < length g.slots) × (slot_offset (shape_of g) s < 2 ^ 11) × (o < 2 ^ 11)
 RootStatic u g (in_global i) o = (i < length u.globals) × (o ≡ 0)
 
@@ -52,10 +55,11 @@ abbrev pub BuiltinArguments : UnitCode → FunctionCode → Arguments → Type 0
 BuiltinArguments u g no_arguments = ⊤
 BuiltinArguments u g (argument_then a args) = BuiltinArgument u g a × BuiltinArguments u g args
 
--- a call of function m of the unit, some of whose first slots are filled before the arguments
+-- a call of function m of the unit, some of whose first slots are filled before the arguments: these are its parameters
 pub record CallStatic (u : UnitCode) (g : FunctionCode) (m filled : ℕ) (args : Arguments) : Type 0 where
   pub known : m < length u.functions
   pub few : filled + count_of args ≤ length (code_at u m).slots
+  pub taken : filled + count_of args ≡ (code_at u m).parameters
   pub arguments : ArgumentsStatic u g (kinds_of (code_at u m).slots) filled args
 
 abbrev pub CalleeStatic : UnitCode → FunctionCode → Callee → Arguments → Type 0
@@ -86,7 +90,7 @@ OpStatic u g (store q v) = PlaceStatic u g q × TopStatic u g v
 OpStatic u g (bind s q) = IsWord g s × PlaceStatic u g q
 OpStatic u g (call c args) = CalleeStatic u g c args
 OpStatic u g (construct q m args) = PlaceStatic u g q × CallStatic u g m 1 args × ObjectStatic u m
-OpStatic u g (destroy q m) = PlaceStatic u g q × ObjectStatic u m
+OpStatic u g (destroy q m) = PlaceStatic u g q × ObjectStatic u m × (1 ≡ (code_at u m).parameters)
 OpStatic u g (make s) = IsWord g s
 OpStatic u g (throw s t d) = IsWord g s × (t < length u.types) × DestructorStatic u d
 OpStatic u g rethrow = ⊤

@@ -18,6 +18,7 @@ use Rattle.machine_forms.specs.Registers.{ra, sp, a0}
 use Rattle.machine_forms.specs.Shape.{return_offset}
 use Rattle.machine_pieces.specs.Memory.{Apart}
 use Rattle.machine_pieces.specs.Frames.{AddressAt}
+use Rattle.machine_pieces.specs.Keeping.{saved_of}
 use Rattle.machine_pieces.specs.Turning.{Reaches}
 use Rattle.machine_pieces.proofs.Turning.{no_turns}
 use Rattle.machine_stubs.specs.Stretches.{stub_word, frame_size, Room, Stands}
@@ -28,13 +29,15 @@ use Rattle.machine_simulation.specs.StubCalls.{KeepsFlying}
 use Rattle.machine_simulation.proofs.Words.{even_base}
 use Rattle.machine_simulation.proofs.Matching.{runtime_stays}
 use Rattle.machine_simulation.proofs.Freeing.{IsFree}
+use Rattle.machine_simulation.proofs.Floors.{stub_floor}
 use Rattle.machine_exceptions.specs.Leaves.{behind}
 use Rattle.machine_exceptions.proofs.EndCatching.{room_below}
 use Rattle.machine_exceptions.proofs.CatchSteps.{in_catch, no_words}
 use Rattle.machine_raises.specs.Pads.{PadGets}
-use Rattle.stub_landings.specs.Rests.{StubMemory, StubRests, LeavesBoth, LeavesOn}
+use Rattle.stub_landings.specs.Rests.{StubMemory, StubRegisters, StubRests, LeavesBoth, LeavesOn}
 use Rattle.own_ends.specs.Callers.{CalledBy}
 use Rattle.own_ends.specs.Leaving.{IsLeaving, CatchBegins, Leaving}
+use Rattle.own_ends.proofs.Registers.{registers_below, registers_at}
 use Rattle.own_ends.proofs.Memory.{stub_beside, Called, called_by, address_beside, flying_beside}
 
 -- ---- the steps
@@ -58,7 +61,7 @@ pub frame_room : (p : Plan) (f : Function) (fs : List Activation) (v : World) (m
 frame_room p f fs v memory stack back h = record {
   aligned = omega (arith, h.stands.saved.aligned);
   below = omega (arith, h.stands.below);
-  may = λ o n inside. h.may (stack + o) n (omega (arith, h.stands.above)) (omega (arith, h.stands.below, inside));
+  may = λ o n inside. h.may (stack + o) n (omega (arith, stub_floor f stack h.stands.above)) (omega (arith, h.stands.below, inside));
 }
 
 pub unexpected_stands : (p : Plan) (k : ℕ) (st : LinearState) (w : abi.World) → StubRests p call_unexpected k st w → Stands p.unit p.base call_unexpected k (x w.hart sp) (frame_size call_unexpected) w.hart
@@ -96,7 +99,9 @@ first_begins ends image p st w h =
     let t : abi.World = came.after in
     let at = came.holds in
     let b = at.holds in
-    let kept = stub_beside p call_unexpected st.frames st.world s.memory t.hart.memory low r.back (low + selector_slot) 16 m (record { low = omega (arith, m.stands.above); high = omega arith }) b.2
+    let floor = m.stands.above in
+    let free : IsFree (low + frame_size call_unexpected) (low + selector_slot) 16 = record { low = omega (arith, floor); high = omega arith } in
+    let kept = stub_beside p call_unexpected st.frames st.world s.memory t.hart.memory low r.back (low + selector_slot) 16 m free b.2
     (address_beside (low + selector_slot) 16 (low + return_offset) r.back s.memory t.hart.memory b.2 (λ i j hi hj e. omega (arith, hi, hj, e)) m.stands.saved) in
     record {
       turns = came.turns;
@@ -114,6 +119,8 @@ first_begins ends image p st w h =
         memory = subst (λ a. StubMemory p call_unexpected st.frames st.world t.hart.memory a r.back) (sym at.pointer) kept;
         runtime = runtime_stays p (st.top ∷ st.frames) st.world w t at.kept.runtime r.runtime;
         thrown = subst (λ a. KeepsFlying p word st.world t.hart.memory (a + thrown_slot)) (sym at.pointer) (gets_kept p st.world word (x s a0) t.hart.memory (low + thrown_slot) h.gets b.1);
+        kept = registers_at p call_unexpected st.frames st.world t.hart.memory low (saved_of s) t.hart refl at.pointer at.variables
+            (registers_below p call_unexpected st.frames st.world s.memory t.hart.memory low r.back (low + selector_slot) 16 (saved_of s) m free b.2 r.kept);
       };
     }
 
@@ -143,6 +150,7 @@ second_begins ends image p st w h =
         memory = subst (λ a. StubMemory p call_unexpected st.frames st.world t.hart.memory a r.back) (sym at.pointer) (subst (λ ps. StubMemory p call_unexpected st.frames st.world ps low r.back) (sym b.1) r.memory);
         runtime = runtime_stays p (st.top ∷ st.frames) st.world w t at.kept.runtime r.runtime;
         thrown = subst (λ a. KeepsFlying p word st.world t.hart.memory (a + thrown_slot)) (sym at.pointer) (subst (λ ps. KeepsFlying p word st.world ps (low + thrown_slot)) (sym b.1) h.thrown);
+        kept = registers_at p call_unexpected st.frames st.world s.memory low (saved_of s) t.hart b.1 at.pointer at.variables r.kept;
       };
     }
 
@@ -175,7 +183,8 @@ at_catch p place k st w b c =
     let base = even_base p s.memory m.unit in
     let code = (m.unit.functions c.number called.matches.top.known).0 in
     let last : k ≤ 57 = below_last b.which in
-    let low : 0x7000_0fb0 ≤ x s sp = omega (arith, called.matches.top.above) in
+    let floor = m.stands.above in
+    let low : 0x7000_0fb0 ≤ x s sp = omega (arith, floor) in
     let high : x s sp + 80 ≤ 0x7100_0000 = omega (arith, m.stands.below) in
     let even : x s sp % 8 ≡ 0 = omega (arith, m.stands.saved.aligned) in
     record {
@@ -198,6 +207,7 @@ pub record Back (p : Plan) (k : ℕ) (st : LinearState) (back : ℕ) (t : abi.Wo
   pub pc : t.hart.pc ≡ stub_word p.base call_unexpected k
   pub memory : StubMemory p call_unexpected st.frames st.world t.hart.memory (x t.hart sp) back
   pub thrown : KeepsFlying p (st.top.frame.slots 4) st.world t.hart.memory (x t.hart sp + thrown_slot)
+  pub kept : StubRegisters p call_unexpected st.frames st.world t.hart.memory (x t.hart sp) (saved_of t.hart)
 
 pub came_back : (p : Plan) (place k : ℕ) (st : LinearState) (w t : abi.World) (e : Exceptions) (b : CatchBegins p place k st w) (c : CalledBy st.frames) → AtCatch p place k st w b c → CameBack (x w.hart ra) (x w.hart sp) (x w.hart sp - 48) 48 e w t →
     Back p k st b.back t
@@ -215,4 +225,6 @@ came_back p place k st w t e b c at came =
       pc = came.pc ∙ b.returns;
       memory = subst (λ a. StubMemory p call_unexpected st.frames st.world t.hart.memory a b.back) (sym came.pointer) kept;
       thrown = subst (λ a. KeepsFlying p (st.top.frame.slots 4) st.world t.hart.memory (a + thrown_slot)) (sym came.pointer) thrown;
+      kept = registers_at p call_unexpected st.frames st.world t.hart.memory stack (saved_of s) t.hart refl came.pointer came.variables
+          (registers_below p call_unexpected st.frames st.world s.memory t.hart.memory stack b.back low 48 (saved_of s) b.memory free came.beside b.kept);
     }

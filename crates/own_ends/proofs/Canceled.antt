@@ -21,8 +21,12 @@ use Rattle.machine_simulation.specs.Matches.{RuntimeMatches}
 use Rattle.machine_simulation.proofs.Matching.{runtime_stays}
 use Rattle.stub_landings.specs.Rests.{StubMemory, ChecksThrown}
 use Rattle.own_ends.specs.Canceled.{at_second, CanceledLeaves}
+use Rattle.own_ends.proofs.Registers.{registers_below, registers_at}
 use Rattle.own_ends.proofs.Memory.{stub_beside, address_beside}
 use Rattle.own_ends.proofs.Calling.{unexpected_stands, gets_below, gets_kept}
+use Rattle.machine_pieces.specs.Keeping.{saved_of}
+use Rattle.machine_stubs.specs.Stretches.{frame_size}
+use Rattle.machine_simulation.proofs.Freeing.{IsFree}
 
 jumps : (p : Plan) (st : LinearState) (w : abi.World) → (h : ChecksThrown p st w) → h.filter ≡ pos 0 → step (code_of p.unit) st ≡ goes_to (at_second st)
 jumps p st w h none =
@@ -49,7 +53,9 @@ canceled_leaves checks image p st w h none =
     let t : abi.World = came.after in
     let at = came.holds in
     let b = at.holds in
-    let kept = stub_beside p call_unexpected st.frames st.world s.memory t.hart.memory low r.back (low + selector_slot) 16 m (record { low = omega (arith, m.stands.above); high = omega arith }) b.2
+    let floor = m.stands.above in
+    let free : IsFree (low + frame_size call_unexpected) (low + selector_slot) 16 = record { low = omega (arith, floor); high = omega arith } in
+    let kept = stub_beside p call_unexpected st.frames st.world s.memory t.hart.memory low r.back (low + selector_slot) 16 m free b.2
     (address_beside (low + selector_slot) 16 (low + return_offset) r.back s.memory t.hart.memory b.2 (λ i j hi hj e. omega (arith, hi, hj, e)) m.stands.saved) in (
       jumps p st w h none,
       record {
@@ -68,6 +74,8 @@ canceled_leaves checks image p st w h none =
           memory = subst (λ a. StubMemory p call_unexpected st.frames st.world t.hart.memory a r.back) (sym at.pointer) kept;
           runtime = runtime_at p st t (runtime_stays p (st.top ∷ st.frames) st.world w t at.kept.runtime r.runtime);
           thrown = subst (λ a. KeepsFlying p word st.world t.hart.memory (a + thrown_slot)) (sym at.pointer) (gets_kept p st.world word (x s a0) t.hart.memory (low + thrown_slot) h.gets b.1);
+          kept = registers_at p call_unexpected st.frames st.world t.hart.memory low (saved_of s) t.hart refl at.pointer at.variables
+              (registers_below p call_unexpected st.frames st.world s.memory t.hart.memory low r.back (low + selector_slot) 16 (saved_of s) m free b.2 r.kept);
         };
       },
     )

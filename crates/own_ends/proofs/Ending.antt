@@ -16,6 +16,7 @@ use Rattle.region_forms.specs.World.{of_exception, World, Exception, native, exc
 use Rattle.region_forms.specs.Lives.{is_live}
 use Rattle.region_forms.specs.Evaluation.{value_in}
 use Rattle.region_forms.specs.Effect.{freed, finished}
+use Rattle.linear_forms.specs.Linear.{return}
 use Rattle.linear_forms.specs.Stub.{Function, compiled, end_catch, terminating, call_unexpected}
 use Rattle.linear_forms.specs.Activation.{Activation, State as LinearState, goes_to, next_if, fetch, kinds}
 use Rattle.linear_forms.specs.Machine.{step}
@@ -23,11 +24,13 @@ use Rattle.linear_forms.specs.Operation.{settled, wanted_by}
 use Rattle.linear_forms.specs.UnitRun.{code_of}
 use Rattle.flight_homes.specs.Nest.{newest_call}
 use Rattle.machine_forms.specs.Registers.{sp}
+use Rattle.machine_forms.specs.LinearCode.{linear_code}
 use Rattle.machine_forms.specs.Shape.{return_offset}
 use Rattle.machine_pieces.specs.Memory.{Apart}
 use Rattle.machine_pieces.specs.Frames.{AddressAt}
 use Rattle.machine_pieces.specs.Turning.{Turns, Reaches}
 use Rattle.machine_pieces.proofs.Turning.{turns_then, executes_turns}
+use Rattle.machine_pieces.specs.Keeping.{saved_of}
 use Rattle.machine_stubs.specs.Stretches.{StubAt, stub_word, frame_size, Room, Stands as StubStands, Beside}
 use Rattle.machine_stubs.specs.EndCatch.{object_slot}
 use Rattle.machine_stubs.specs.CallUnexpected.{thrown_slot}
@@ -36,27 +39,31 @@ use Rattle.machine_simulation.specs.Plan.{Plan, shape, slot_kinds}
 use Rattle.machine_simulation.specs.StubCalls.{DestructorWaits, UnexpectedWaits, LeavingWaits, KeepsFlying, StubStands as StubFrame}
 use Rattle.machine_simulation.specs.Calls.{CallsWait}
 use Rattle.machine_simulation.specs.Exceptions.{Addresses, KeptExceptions, addresses_of, exceptions_in, kept_by, destroyed_by, destroyed, ExceptionsMatch}
+use Rattle.machine_simulation.specs.KeptCalls.{KeptCalls}
 use Rattle.machine_simulation.specs.Returns.{closed}
 use Rattle.machine_simulation.specs.Objects.{without_object}
 use Rattle.machine_simulation.proofs.Words.{even_base}
 use Rattle.machine_simulation.proofs.Matching.{Stands, stands_by, runtime_stays}
 use Rattle.machine_simulation.proofs.Holding.{same_number}
 use Rattle.machine_simulation.proofs.Closing.{plan_popped}
-use Rattle.machine_simulation.proofs.Returning.{result_value}
+use Rattle.machine_simulation.proofs.Freeing.{IsFree}
+use Rattle.machine_simulation.proofs.KeptCalls.{behind_stub}
+use Rattle.machine_simulation.proofs.KeptClosed.{before_small}
+use Rattle.machine_simulation.proofs.Returning.{result_value, comes_back}
 use Rattle.machine_exceptions.proofs.Enters.{live_is}
 use Rattle.machine_exceptions.proofs.Finding.{live_header, object_found}
 use Rattle.machine_exceptions.proofs.Freed.{freed_match, building_out}
 use Rattle.machine_exceptions.proofs.Frees.{plan_without}
 use Rattle.machine_exceptions.proofs.EndCatching.{room_below}
 use Rattle.machine_exceptions.proofs.ComingBack.{runtime_then}
-use Rattle.machine_exceptions.proofs.GivingBack.{gives_back_frame}
 use Rattle.machine_exceptions.proofs.DestructorsEnd.{in_waiting, CameBack, returns_value}
 use Rattle.machine_raises.proofs.OnStack.{Around}
-use Rattle.stub_landings.specs.Rests.{StubMemory, LeavesOn}
-use Rattle.stub_landings.proofs.Closed.{stub_memory}
+use Rattle.stub_landings.specs.Rests.{StubMemory, StubRegisters, LeavesOn}
+use Rattle.stub_landings.proofs.Closed.{registers_closed, stub_memory}
 use Rattle.own_ends.specs.Leaving.{IsLeaving}
 use Rattle.own_ends.specs.Destroying.{AtOwnReturn, OwnDestructorsEnd}
 use Rattle.own_ends.proofs.Memory.{stub_beside, stub_alike, stub_without, address_beside, flying_beside, flying_kept}
+use Rattle.own_ends.proofs.Registers.{registers_below, registers_gone, registers_at}
 use Rattle.own_ends.proofs.Calling.{own_leave}
 use Rattle.own_ends.proofs.Freeing.{is_first, counts_building}
 
@@ -170,9 +177,12 @@ around_call p n st w back h =
     let newest = h.memory.newest in
     record { newest = omega (arith, newest); apart = h.memory.apart; inside = h.memory.inside; may = h.memory.may; fresh = h.memory.fresh; objects = h.memory.objects; unit = h.memory.unit }
 
+few_both : (a b c d : ℕ) → a ≤ c → b ≤ d → a + b ≤ c + d
+few_both a b c d h i = omega (arith, h, i)
+
 destructor_ends : EndCatchDestroys → (image : Image) (p : Plan) (n place k e : ℕ) (st middle : LinearState) (waiting a : Activation) (fs : List Activation) (r : Option ℕ) (w : abi.World) (back : ℕ) (z : ℤ) → Stands p n st w back →
     AtOwnReturn p n place k e st middle waiting a fs r → BothWait p k waiting a fs st.world w.hart.memory (x w.hart sp + (shape p n).size) back st.top.frame.call → value_in (slot_kinds p n) st.top.frame st.world (result_value r) ≡ Some z →
-    Reaches image 11 w (Free e ∷ [])
+    Reaches image (length (linear_code (shape p n) (return r)) + 7) w (Free e ∷ [])
     (λ u. LeavesOn (without_object (closed p (newest_call fs)) e) k (place + 1) (record { top = record { function = a.function; place = a.place + 1; frame = a.frame }; frames = fs; world = freed e st.world }) u)
 destructor_ends destroys image p n place k e st middle waiting a fs r w back z h at cw value_is =
     let v : World = st.world in
@@ -182,7 +192,7 @@ destructor_ends destroys image p n place k e st middle waiting a fs r w back z h
     let code = (h.memory.unit.functions n h.memory.top.known).0 in
     let back_is : back ≡ stub_word p.base end_catch 13 = cw.destructor.returns in
     let last : k ≤ 57 = below_last at.which in
-    let gave = gives_back_frame p n st w back r z h at.at.there at.result value_is (omega (arith, back_is, even)) (omega (arith, back_is, code.word.below)) in
+    let gave = comes_back p n st w back r z h at.at.there at.result value_is (omega (arith, back_is, even)) (omega (arith, back_is, code.word.below)) in
     let ran = executes_turns image gave.steps w s gave.after refl gave.runs in
     let w1 : abi.World = ran.after in
     let memory1 : w1.hart.memory ≡ s.memory = ap (λ (u : State). u.memory) ran.hart ∙ gave.memory in
@@ -223,11 +233,24 @@ destructor_ends destroys image p n place k e st middle waiting a fs r w back z h
     let u : World = freed e v in
     let low : ℕ = mid + 48 in
     let held1 = stub_memory p call_unexpected st.top.frame.call st.top.frame.call fs v v s.memory low cw.beyond (around_call p n st w back h) (omega arith) refl refl (same_number v) cw.unexpected cw.rest in
+    let before : List ℕ = h.kept.before in
+    let calls : KeptCalls p (waiting ∷ a ∷ fs) v s.memory mid before = subst (λ gs. KeptCalls p gs v s.memory mid before) at.frames h.kept.waiting in
+    let in_catch = behind_stub p waiting.frame v s.memory mid before (λ next others. KeptCalls p (a ∷ fs) v s.memory next others) waiting.function (inl at.catch) calls in
+    let above_catch : KeptCalls p (a ∷ fs) v s.memory low before = subst (λ f. KeptCalls p (a ∷ fs) v s.memory (mid + frame_size f) before) at.catch in_catch in
+    let in_own = behind_stub p a.frame v s.memory low before (λ next others. KeptCalls p fs v s.memory next others) a.function (inr at.caller) above_catch in
+    let above_own : KeptCalls p fs v s.memory (low + 80) before = subst (λ f. KeptCalls p fs v s.memory (low + frame_size f) before) at.caller in_own in
+    let small = before_small p n st.top.frame v s.memory (x s sp) (saved_of s) before h.kept.top h.kept.small refl in
+    let regs1 : StubRegisters p1 call_unexpected fs v s.memory low before
+    = record { small = small.0; waiting = registers_closed p c fs v v s.memory (low + 80) cw.beyond st.top.frame.call before refl cw.rest above_own } in
     let held2 : StubMemory p1 call_unexpected fs v w1.hart.memory low cw.beyond = subst (λ ps. StubMemory p1 call_unexpected fs v ps low cw.beyond) (sym memory1) held1 in
     let beside : Beside mid 48 w1.hart.memory t.hart.memory = subst (λ i. Beside i 48 w1.hart.memory t.hart.memory) stack1 b.beside in
     let out : (i : ℕ) → Apart mid 48 (low + i) 8 = λ i j l hj hl same. omega (arith, hj, hl, same) in
-    let held3 = stub_beside p1 call_unexpected fs v w1.hart.memory t.hart.memory low cw.beyond mid 48 held2 (record { low = omega (arith, cw.catch.above); high = omega arith }) beside
+    let floor = cw.catch.above in
+    let free : IsFree (low + 80) mid 48 = record { low = omega (arith, floor); high = omega arith } in
+    let held3 = stub_beside p1 call_unexpected fs v w1.hart.memory t.hart.memory low cw.beyond mid 48 held2 free beside
     (address_beside mid 48 (low + return_offset) cw.beyond w1.hart.memory t.hart.memory beside (out return_offset) held2.stands.saved) in
+    let regs4 = registers_gone p1 call_unexpected fs v u t.hart.memory low cw.beyond e before refl refl (same_number v) held3
+    (registers_below p1 call_unexpected fs v w1.hart.memory t.hart.memory low cw.beyond mid 48 before held2 free beside (subst (λ ps. StubRegisters p1 call_unexpected fs v ps low before) (sym memory1) regs1)) in
     let held4 : StubMemory q call_unexpected fs u t.hart.memory low cw.beyond
     = stub_without p1 call_unexpected fs u t.hart.memory low cw.beyond e (stub_alike p1 call_unexpected fs v u t.hart.memory low cw.beyond refl refl (same_number v) held3) in
     let thrown1 : KeepsFlying p (a.frame.slots 4) v w1.hart.memory (low + thrown_slot) = subst (λ ps. KeepsFlying p (a.frame.slots 4) v ps (low + thrown_slot)) (sym memory1) cw.thrown in
@@ -239,7 +262,7 @@ destructor_ends destroys image p n place k e st middle waiting a fs r w back z h
     let next : Activation = record { function = a.function; place = a.place + 1; frame = a.frame } in
     record {
       turns = gave.steps + come.turns;
-      few = omega (arith, gave.most, come.few);
+      few = few_both gave.steps come.turns (length (linear_code (shape p n) (return r))) 7 gave.most come.few;
       after = t;
       runs = subst (λ i. Turns image (gave.steps + come.turns) w t (Free i ∷ [])) live.has.number (turns_then image gave.steps come.turns w w1 t [] (Free header.number ∷ []) ran.turns come.runs);
       holds = record {
@@ -249,6 +272,7 @@ destructor_ends destroys image p n place k e st middle waiting a fs r w back z h
           registers = b.registers;
           pc = b.pc ∙ cw.returns;
           memory = subst (λ i. StubMemory q call_unexpected fs u t.hart.memory i cw.beyond) (sym stack_t) held4;
+          kept = registers_at q call_unexpected fs u t.hart.memory low before t.hart refl stack_t (b.variables ∙ ap saved_of ran.hart ∙ gave.saved) regs4;
           runtime = runtime_then p q st.frames (next ∷ fs) v u w1 t (slot_freed slot w1.exceptions) r1 b.rest b.exceptions refl refl refl refl m3 (plan_without p1 e v.live (plan_popped p c v.live r1.plan));
         };
         there = ap (λ i. i + 1) at.there;

@@ -51,9 +51,12 @@ use Rattle.stub_landings.specs.Rests.{StubMemory, StubRests, FreesOnTheWay}
 use Rattle.stub_landings.specs.OwnCalls.{GoesOnInOwn}
 use Rattle.stub_landings.proofs.Own.{end_catch_resumes}
 use Rattle.own_ends.specs.Resumes.{held_back, freed_on_the_way}
+use Rattle.own_ends.proofs.Registers.{registers_below, registers_gone, registers_at}
 use Rattle.own_ends.proofs.Memory.{stub_beside, stub_alike, stub_without}
 use Rattle.own_ends.proofs.Calling.{frame_room, gets_below}
 use Rattle.own_ends.proofs.Running.{running_on, ComesToResume}
+use Rattle.machine_pieces.specs.Keeping.{saved_of}
+use Rattle.machine_simulation.proofs.Freeing.{IsFree}
 
 -- ---- the exception that is freed
 
@@ -159,7 +162,11 @@ catch_comes catches made keeps i p st w h running =
     let stack : x b3 sp ≡ low = h3.pointer ∙ h1.pointer in
     let runs : Turns image (one.turns + 1 + three.turns) w v3 (Free e ∷ []) = subst (λ n. Turns image (one.turns + 1 + three.turns) w v3 (Free n ∷ [])) live.has.number
     (turns_then image (one.turns + 1) three.turns w v2 v3 (Free header.number ∷ []) [] (turns_then image one.turns 1 w v1 v2 [] (Free header.number ∷ []) one.runs two) three.runs) in
-    let memory1 = stub_beside p end_catch st.frames v s.memory b1.memory low r.back low 48 r.memory (record { low = omega (arith, r.memory.stands.above); high = omega arith }) h1.kept.beside (h1.holds.2 r.back r.memory.stands.saved) in
+    let floor = r.memory.stands.above in
+    let free : IsFree (low + 48) low 48 = record { low = omega (arith, floor); high = omega arith } in
+    let memory1 = stub_beside p end_catch st.frames v s.memory b1.memory low r.back low 48 r.memory free h1.kept.beside (h1.holds.2 r.back r.memory.stands.saved) in
+    let regs2 = registers_gone p end_catch st.frames v u b1.memory low r.back e (saved_of s) refl refl (same_number v) memory1
+    (registers_below p end_catch st.frames v s.memory b1.memory low r.back low 48 (saved_of s) r.memory free h1.kept.beside r.kept) in
     let memory2 : StubMemory q end_catch st.frames u b1.memory low r.back = stub_without p end_catch st.frames u b1.memory low r.back e (stub_alike p end_catch st.frames v u b1.memory low r.back refl refl (same_number v) memory1) in
     let memory3 : StubMemory q end_catch st.frames u b3.memory (x b3 sp) r.back
     = subst (λ a. StubMemory q end_catch st.frames u b3.memory a r.back) (sym stack) (subst (λ ps. StubMemory q end_catch st.frames u ps low r.back) (sym h3.holds.0) memory2) in
@@ -194,6 +201,7 @@ catch_comes catches made keeps i p st w h running =
             registers = h3.stands.registers;
             goes_on = subst (λ n. GoesOnInOwn q end_catch n b3.pc) (sym (ap (λ n. n + 1) h.place)) (end_catch_resumes q b3.pc h3.stands.pc);
             memory = memory3;
+            kept = registers_at q end_catch st.frames u b1.memory low (saved_of s) b3 h3.holds.0 stack (h3.variables ∙ h1.variables) regs2;
           };
           runtime = runtime_stays q st.frames u v2 v3 h3.kept.runtime runtime2;
         };

@@ -17,7 +17,7 @@ use Rattle.cxa_runtime.specs.Terminate.{at_stub, terminates}
 use Rattle.cxa_runtime.specs.Call.{call_effect}
 use Rattle.eh_run.specs.Program.{program_of}
 use Rattle.region_forms.specs.World.{unwinding, World}
-use Rattle.linear_forms.specs.Stub.{Function, compiled, end_catch, terminating, call_unexpected}
+use Rattle.linear_forms.specs.Stub.{Function, terminating}
 use Rattle.linear_forms.specs.Activation.{Activation, State, goes_to, finishes, by_program}
 use Rattle.linear_forms.specs.Machine.{step}
 use Rattle.linear_forms.specs.Forced.{forced_above}
@@ -35,6 +35,8 @@ use Rattle.machine_simulation.specs.Plan.{Plan, first_word, setting}
 use Rattle.machine_simulation.specs.Calls.{open_bytes, frame_of, frames_bytes}
 use Rattle.machine_simulation.specs.Exceptions.{addresses_of, exceptions_in, kept_by, IsFunction, ExceptionsMatch}
 use Rattle.machine_simulation.specs.Matches.{RuntimeMatches}
+use Rattle.machine_simulation.specs.Entering.{entry_turns}
+use Rattle.machine_simulation.proofs.Floors.{stub_floor}
 use Rattle.machine_exceptions.specs.Terminates.{waiting_terminate}
 use Rattle.machine_exceptions.proofs.EndCatching.{room_below}
 use Rattle.flight_homes.specs.Nest.{waits_terminate}
@@ -44,10 +46,10 @@ use Rattle.stack_bounds.specs.Overflow.{FunctionsOverflow}
 use Rattle.raise_ends.specs.Ends.{RunEnds, LinearEnds, HandlerFits}
 use Rattle.raise_ends.specs.Barriers.{barred_state}
 use Rattle.raise_ends.proofs.Steps.{over_at_once, handler_in_two}
-use Rattle.raise_ends.proofs.Comes.{aborts_again}
+use Rattle.raise_ends.proofs.Sent.{handler_sent}
+use Rattle.raise_ends.proofs.Comes.{aborts_again, few_all}
 use Rattle.raise_ends.proofs.Aborting.{aborts_both}
 use Rattle.raise_ends.proofs.Barring.{pad_no_end, pad_lives, IsBarred, barred_at, passed_calls, bytes_alike, bytes_split, waits_rest}
-use Rattle.stub_landings.specs.OwnCalls.{IsOwn}
 use Rattle.stub_landings.specs.OwnRaises.{ResumesAt}
 use Rattle.stub_landings.proofs.Own.{own_on_stack}
 use Rattle.own_ends.specs.Callers.{CalledBelow}
@@ -57,7 +59,7 @@ use Rattle.own_ends.proofs.Bytes.{waiting_end}
 use Rattle.own_ends.proofs.Running.{ComesToResume}
 use Rattle.own_ends.proofs.Unwinding.{unwinds_from, Answers, unwound}
 use Rattle.own_ends.proofs.Newest.{newest_found}
-use Rattle.own_ends.proofs.Sent.{handler_sent, handler_overflows}
+use Rattle.own_ends.proofs.Sent.{handler_overflows}
 use Rattle.own_ends.proofs.Finishing.{unwinds_so, ends_behind, exit_turn, no_exit, one_exit, not_both, no_abort, quiet_of, running_of, none_waits}
 
 module _ (made : CallsAreMade) (runs : TerminateRuns) (agree : ForcedAgree) (i : CleanImage) (q : Plan) (f : Function) (place slot : ℕ) (k : ℤ) (last : State) (w : abi.World) (most : ℕ) (items : List Item) (kept : Exceptions)
@@ -145,20 +147,8 @@ module _ (made : CallsAreMade) (runs : TerminateRuns) (agree : ForcedAgree) (i :
   own_bytes (inr (is, at, with_slot)) = ap (frame_of q.unit q.hidden) is ∙ sym (ap frame_size is)
 
   module _ (called : CalledBelow last.frames) (named : image.places.terminate ≡ stub_word q.base terminating 0) where
-    low : (0x7000_0f40 ≤ x c.behind sp) × (x c.behind sp ≤ 0x7100_0000) × (x c.behind sp % 8 ≡ 0)
-    low =
-        let m = c.call.inside.memory in
-        let n = newest_found q f last.frames v c.behind.memory (x c.behind sp) c.call.back m called in
-        let size = frame_is f c.call.inside.own in
-        let top = n.matches.top.above in
-        let near = n.near in
-        (omega (arith, top, near, size), omega (arith, m.stands.below), omega (arith, m.stands.saved.aligned))
-      where
-        frame_is : (g : Function) → IsOwn g → frame_size g ≤ 80
-        frame_is (compiled n) own = absurd own
-        frame_is end_catch own = omega arith
-        frame_is terminating own = omega arith
-        frame_is call_unexpected own = omega arith
+    low : (0x7000_0d00 ≤ x c.behind sp) × (x c.behind sp ≤ 0x7100_0000) × (x c.behind sp % 8 ≡ 0)
+    low = let m = c.call.inside.memory in (stub_floor f (x c.behind sp) m.stands.above, omega (arith, m.stands.below), omega (arith, m.stands.saved.aligned))
 
     may : MayTerminate q.unit q.base image y
     may =
@@ -185,7 +175,7 @@ module _ (made : CallsAreMade) (runs : TerminateRuns) (agree : ForcedAgree) (i :
 
     -- ---- its handler begins
 
-    pub begins_there : (m : ℕ) (next : State) → step (code_of q.unit) last ≡ goes_to next → next.top.function ≡ terminating → CallsStand last → v.installed.terminate_handler ≡ Some m → HandlerFits q m last → OwnBarred q i m last w (most + 11) items
+    pub begins_there : (m : ℕ) (next : State) → step (code_of q.unit) last ≡ goes_to next → next.top.function ≡ terminating → CallsStand last → v.installed.terminate_handler ≡ Some m → HandlerFits q m last → OwnBarred q i m last w (most + 7 + entry_turns q m) items
     begins_there m next goes begins stand installed fits =
         let barred = barred_if_begins next goes begins in
         let b = barred_at (code_of q.unit) k last.frames v next (sym (steps.0 ∙ steps.1) ∙ goes) begins in
@@ -226,18 +216,18 @@ module _ (made : CallsAreMade) (runs : TerminateRuns) (agree : ForcedAgree) (i :
           may = may;
           memory = n.matches;
           above = omega (arith, above);
-          low = omega (arith, deep);
           even = bounds.2;
+          small = c.call.inside.kept.small;
           runtime = runtime;
           end = omega (arith, end_at, sum, alike, frame_is);
-        }) known.1 (omega (arith, fits, sum, alike, frame_is)) in
+        }) known.1 (record { taken = fits.taken; room = omega (arith, fits.room, sum, alike, frame_is) }) in
         let few = c.few in
         let all : Turns image (c.turns + 1 + reached.turns) w reached.after items = subst (Turns image (c.turns + 1 + reached.turns) w reached.after) (append-nil (items ++ []) ∙ append-nil items)
         (turns_then image (c.turns + 1) reached.turns w begun reached.after (items ++ []) [] (turns_then image c.turns 1 w c.at begun items [] c.runs one) reached.runs) in
         record {
           left = record { calls = b.inner; own = gone.1; barring = b.barring; outer = b.outer; split = b.split };
           begins = handler_in_two q m last waiting v.installed.terminate_handler [] (steps.0 ∙ (steps.1 ∙ b.terminates)) quiet installed (sym (append-nil v.items));
-          ran = record { turns = c.turns + 1 + reached.turns; few = omega (arith, few, reached.few); after = reached.after; runs = all; holds = reached.holds };
+          ran = record { turns = c.turns + 1 + reached.turns; few = few_all c.turns reached.turns most (entry_turns q m) few reached.few; after = reached.after; runs = all; holds = reached.holds.0 };
         }
 
     -- it finds no room
@@ -266,7 +256,7 @@ module _ (made : CallsAreMade) (runs : TerminateRuns) (agree : ForcedAgree) (i :
         let one : Turns image 1 c.at begun [] = made.goes_on image 9 c.at next_world c.behind c.call.calls c.call.asks goes_there refl in
         let few = c.few in
         let front : Turns image (c.turns + 1) w begun items = subst (Turns image (c.turns + 1) w begun) (append-nil items) (turns_then image c.turns 1 w c.at begun items [] c.runs one) in
-        let over = handler_overflows overflow runs image pick (j - (c.turns + 1)) q m y may memory.unit memory.may (omega (arith, deep)) bounds.1 bounds.2 known.1 (omega (arith, end_at, frame_is, hidden, lacks.lacks)) (omega (arith, few, many)) in
+        let over = handler_overflows overflow runs image pick (j - (c.turns + 1)) q m y may memory.unit memory.may (omega (arith, deep)) bounds.1 bounds.2 known.1 lacks.looks (omega (arith, end_at, frame_is, hidden, lacks.lacks)) (omega (arith, few, many)) in
         record {
           left = record { calls = b.inner; own = gone.1; barring = b.barring; outer = b.outer; split = b.split };
           begins = handler_in_two q m last waiting v.installed.terminate_handler [] (steps.0 ∙ (steps.1 ∙ b.terminates)) quiet installed (sym (append-nil v.items));

@@ -16,6 +16,7 @@ use Rattle.linear_forms.specs.Stub.{call_unexpected}
 use Rattle.linear_forms.specs.Activation.{State as LinearState}
 use Rattle.machine_forms.specs.Registers.{ra, sp}
 use Rattle.machine_pieces.specs.Turning.{Turns, Reaches}
+use Rattle.machine_pieces.specs.Keeping.{saved_of}
 use Rattle.machine_stubs.specs.CallUnexpected.{thrown_slot}
 use Rattle.machine_stubs.specs.ComesBack.{TellsNothing, CameBack, EndCatchComesBack}
 use Rattle.machine_simulation.specs.Plan.{Plan}
@@ -26,9 +27,10 @@ use Rattle.machine_exceptions.proofs.CatchSteps.{in_catch, no_words}
 use Rattle.machine_exceptions.proofs.Left.{left_match, ended_still}
 use Rattle.machine_exceptions.proofs.ComingBack.{runtime_then}
 use Rattle.machine_exceptions.proofs.Leaves.{Leaving as Newest, leaving}
-use Rattle.stub_landings.specs.Rests.{StubMemory, LeavesOn}
+use Rattle.stub_landings.specs.Rests.{StubMemory, StubRegisters, LeavesOn}
 use Rattle.own_ends.specs.Callers.{CalledBy}
 use Rattle.own_ends.specs.Leaving.{CatchBegins}
+use Rattle.own_ends.proofs.Registers.{registers_alike}
 use Rattle.own_ends.proofs.Memory.{stub_alike, flying_kept}
 use Rattle.own_ends.proofs.Calling.{at_catch, came_back}
 
@@ -41,8 +43,10 @@ newest_left p st y ys w m caught = leaving p (in_catch st 0 no_words st.world) y
 pub goes_on : (p q : Plan) (place k : ℕ) (st : LinearState) (u : World) (w t : abi.World) (e : Exceptions) (b : CatchBegins p place k st w) → CalledBy st.frames → CameBack (x w.hart ra) (x w.hart sp) (x w.hart sp - 48) 48 e w t → q.base ≡ p.base →
     ((d : ℕ) → q.at (of_exception d) ≡ p.at (of_exception d)) → u.last_number ≡ st.world.last_number → u.input ≡ st.world.input → u.replies ≡ st.world.replies → u.ending ≡ st.world.ending →
     (StubMemory p call_unexpected st.frames st.world t.hart.memory (x t.hart sp) b.back → StubMemory q call_unexpected st.frames u t.hart.memory (x t.hart sp) b.back) →
+    (StubMemory p call_unexpected st.frames st.world t.hart.memory (x t.hart sp) b.back → StubRegisters p call_unexpected st.frames st.world t.hart.memory (x t.hart sp) (saved_of t.hart) →
+    StubRegisters q call_unexpected st.frames u t.hart.memory (x t.hart sp) (saved_of t.hart)) →
     ExceptionsMatch (addresses_of q) (destroyed (st.top ∷ st.frames)) (exceptions_in u) (record { exceptions = e; terminate_handler = w.terminate_handler; unexpected_handler = w.unexpected_handler }) → PlanHas q u.live → LeavesOn q k (place + 1) (behind st u) t
-goes_on p q place k st u w t e b c came base at number input replies ending memory m plan =
+goes_on p q place k st u w t e b c came base at number input replies ending memory registers m plan =
     let back = came_back p place k st w t e b c (at_catch p place k st w b c) came in
     record {
       rests = record {
@@ -51,6 +55,7 @@ goes_on p q place k st u w t e b c came base at number input replies ending memo
         registers = back.registers;
         pc = back.pc ∙ omega (arith, base);
         memory = memory back.memory;
+        kept = registers back.memory back.kept;
         runtime = runtime_then p q (st.top ∷ st.frames) ((behind st u).top ∷ st.frames) st.world u w t e b.runtime came.rest came.exceptions input replies number ending m plan;
       };
       there = ap (λ n. n + 1) b.there;
@@ -83,5 +88,6 @@ still_left comes image p place k st y ys w b c caught last =
       after = t;
       runs = subst (λ i. Turns image come.turns w t (Leave i ∷ [])) l.new.here.0.number come.runs;
       holds = goes_on p p place k st u w t e b c come.holds refl (λ d. refl) refl refl refl refl
-          (λ h. stub_alike p call_unexpected st.frames v u t.hart.memory (x t.hart sp) b.back refl refl (same_number v) h) m b.runtime.plan;
+          (λ h. stub_alike p call_unexpected st.frames v u t.hart.memory (x t.hart sp) b.back refl refl (same_number v) h)
+          (λ h rs. registers_alike p call_unexpected st.frames v u t.hart.memory (x t.hart sp) b.back (saved_of t.hart) refl h rs) m b.runtime.plan;
     }

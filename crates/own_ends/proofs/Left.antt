@@ -29,6 +29,7 @@ use Rattle.linear_forms.specs.UnitRun.{code_of}
 use Rattle.machine_forms.specs.Registers.{sp}
 use Rattle.machine_pieces.specs.Turning.{Turns, Reaches}
 use Rattle.machine_pieces.proofs.Turning.{turns_then}
+use Rattle.machine_pieces.specs.Keeping.{saved_of}
 use Rattle.machine_stubs.specs.Calls.{CallsAreMade}
 use Rattle.machine_stubs.specs.CallUnexpected.{UnexpectedEnds}
 use Rattle.machine_stubs.specs.EndCatch.{EndCatchRuns}
@@ -54,6 +55,7 @@ use Rattle.own_ends.specs.Callers.{CalledBy}
 use Rattle.own_ends.specs.Leaving.{CatchBegins, Leaving, AtOwnLeave}
 use Rattle.own_ends.specs.Left.{OwnHandlersLeft}
 use Rattle.own_ends.proofs.Memory.{stub_alike, stub_without}
+use Rattle.own_ends.proofs.Registers.{registers_gone}
 use Rattle.own_ends.proofs.Calling.{own_leave, call_step, return_step, catch_begins, at_catch}
 use Rattle.own_ends.proofs.Leaving.{newest_left, goes_on, still_left}
 
@@ -88,7 +90,8 @@ foreign_gone catches made image p place k st y ys number token w b c caught last
       after = t;
       runs = subst (λ i. Turns image come.turns w t (Leave i ∷ Clean number token ∷ [])) l.new.here.0.number come.runs;
       holds = goes_on p (without_object p e) place k st u w t (slot_freed slot es) b c come.holds refl (λ d. refl) refl refl refl refl
-          (λ h. stub_without p call_unexpected st.frames u t.hart.memory (x t.hart sp) b.back e (stub_alike p call_unexpected st.frames v u t.hart.memory (x t.hart sp) b.back refl refl (same_number v) h)) m2
+          (λ h. stub_without p call_unexpected st.frames u t.hart.memory (x t.hart sp) b.back e (stub_alike p call_unexpected st.frames v u t.hart.memory (x t.hart sp) b.back refl refl (same_number v) h))
+          (λ h rs. registers_gone p call_unexpected st.frames v u t.hart.memory (x t.hart sp) b.back e (saved_of t.hart) refl refl (same_number v) h rs) m2
           (plan_without p e v.live b.runtime.plan);
     }
 
@@ -147,7 +150,8 @@ freed_then frees image p place k st y ys type kept w d b c caught last there ali
       runs = subst (λ i. Turns image come.turns w t (Leave i ∷ Destroy i ∷ Free i ∷ [])) l.new.here.0.number come.runs;
       holds = goes_on p (without_object p e) place k st u w t (slot_freed slot again) b c come.holds refl (λ n. refl) numbers alike.input alike.replies alike.ending
           (λ h. stub_without p call_unexpected st.frames u t.hart.memory (x t.hart sp) b.back e
-          (stub_alike p call_unexpected st.frames v u t.hart.memory (x t.hart sp) b.back alike.memory alike.calls (omega (arith, numbers)) h)) m4 (plan_without p e d.live (subst (PlanHas p) (sym lives) b.runtime.plan));
+          (stub_alike p call_unexpected st.frames v u t.hart.memory (x t.hart sp) b.back alike.memory alike.calls (omega (arith, numbers)) h))
+          (λ h rs. registers_gone p call_unexpected st.frames v u t.hart.memory (x t.hart sp) b.back e (saved_of t.hart) alike.memory alike.calls (omega (arith, numbers)) h rs) m4 (plan_without p e d.live (subst (PlanHas p) (sym lives) b.runtime.plan));
     }
 
 -- ---- the steps, and what they show

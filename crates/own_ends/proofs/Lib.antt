@@ -1,4 +1,5 @@
 pub mod Memory
+pub mod Registers
 pub mod Calling
 pub mod Leaving
 pub mod Left

@@ -1,5 +1,5 @@
 -- The destructor of an exception's object finds no room for its frame.
-use Rattle.std.proofs.Common.{◌≡◌, ◌∙◌, refl, sym, ap, subst, arith, ℕ, ◌+◌, ◌-◌, ◌%◌, ◌^◌, ◌<◌, ◌≤◌, true, List, [], ◌∷◌, ◌++◌, length, Some}
+use Rattle.std.proofs.Common.{◌≡◌, ◌∙◌, refl, sym, ap, subst, arith, ℕ, ◌+◌, ◌-◌, ◌%◌, ◌^◌, ◌<◌, ◌≤◌, true, List, [], ◌∷◌, ◌++◌, length, Some, false}
 use Rattle.meaning_forms.specs.World.{Installed}
 use Rattle.run_items.specs.declared.item.Item.{Item}
 use Rattle.run_items.specs.declared.item.Item.TheVariants.{Leave, Destroy}
@@ -79,9 +79,9 @@ record AtFirst (p : Plan) (w : abi.World) : Type 0 where
   may : StackMay w.hart.memory
 
 overflows_there : EndCatchDestroys → FunctionsOverflow → (image : Image) (pick : ℕ → ℕ) (j : ℕ) (p : Plan) (st : LinearState) (y : Entry) (ys : List Entry) (type d : ℕ) (kept : Installed) (w : abi.World) → AtFirst p w →
-    ExceptionsMatch (addresses_of p) (destroyed st.frames) (exceptions_in st.world) (kept_by w) → st.world.caught ≡ y ∷ ys → is_last y ≡ true → live_in st.world.live y.number ≡ Some (native type (Some d) kept) → d < length p.unit.functions →
+    ExceptionsMatch (addresses_of p) (destroyed st.frames) (exceptions_in st.world) (kept_by w) → st.world.caught ≡ y ∷ ys → is_last y ≡ true → live_in st.world.live y.number ≡ Some (native type (Some d) kept) → d < length p.unit.functions → (shape p d).leaf ≡ false →
     x w.hart sp < 0x7000_1000 + (shape p d).size + 48 → 18 ≤ j → RunEnds image pick j w (Leave y.number ∷ Destroy y.number ∷ []) Stack
-overflows_there destroys overflow image pick j p st y ys type d kept w at m caught last there known short many =
+overflows_there destroys overflow image pick j p st y ys type d kept w at m caught last there known looks short many =
     let v : World = st.world in
     let e : ℕ = y.number in
     let s : State = w.hart in
@@ -109,6 +109,7 @@ overflows_there destroys overflow image pick j p st y ys type d kept w at m caug
     let few = come.few in
     let no_room : FindsNoRoom p d t = record {
       known = known;
+      looks = looks;
       registers = ad.registers;
       pc = ad.pc;
       aligned = omega (arith, pointer, at.even, at.low);
@@ -158,7 +159,7 @@ destructors_overflow ends destroys overflow = record {
         unit = subst (UnitStands p) (sym c.memory) stood.memory.unit;
         may = c.may;
       } in
-      let over = overflows_there destroys overflow image pick (j - 2) p st y ys type d kept w1 first r.exceptions at.caught last there lacks.known (omega (arith, c.stack, end_at, lacks.lacks)) (omega (arith, many)) in
+      let over = overflows_there destroys overflow image pick (j - 2) p st y ys type d kept w1 first r.exceptions at.caught last there lacks.known lacks.looks (omega (arith, c.stack, end_at, lacks.lacks)) (omega (arith, many)) in
       (steps.0, steps.1, ends_later image pick j 2 w w1 [] (Leave e ∷ Destroy e ∷ []) Stack c.runs (omega (arith, many)) over);
   own = λ image pick j p place k st y ys type d kept w h last there lacks many.
       let e : ℕ = y.number in
@@ -181,7 +182,7 @@ destructors_overflow ends destroys overflow = record {
         unit = b.memory.unit;
         may = b.memory.may;
       } in
-      let over = overflows_there destroys overflow image pick (j - begins.turns) p (in_catch st 0 no_words st.world) y ys type d kept w1 first b.runtime.exceptions h.caught last there lacks.known
+      let over = overflows_there destroys overflow image pick (j - begins.turns) p (in_catch st 0 no_words st.world) y ys type d kept w1 first b.runtime.exceptions h.caught last there lacks.known lacks.looks
       (omega (arith, end_at, frame80, lacks.lacks)) (omega (arith, few, many)) in
       (steps.0, steps.1, ends_later image pick j begins.turns w w1 [] (Leave e ∷ Destroy e ∷ []) Stack begins.runs (omega (arith, few, many)) over);
 }

@@ -29,7 +29,9 @@ use Rattle.runtime_invariant.specs.Memory.{RunsKeepMemory}
 use Rattle.stub_landings.specs.Rests.{StubMemory, LeavesOn}
 use Rattle.stub_landings.specs.OwnCalls.{GoesOnInOwn, AtOwnCall}
 use Rattle.stub_landings.proofs.Own.{unexpected_resumes}
+use Rattle.own_ends.proofs.Registers.{registers_at}
 use Rattle.own_ends.proofs.Calling.{unexpected_stands}
+use Rattle.machine_pieces.specs.Keeping.{saved_of}
 
 -- no turn changes what may not be written, nor does the ECALL
 pub running_on : RunsKeepMemory → (p : Plan) (i : CleanImage) (n : ℕ) (w v : abi.World) (items : List Item) (behind : hart.State) → Turns (program_of i).image n w v items → step_of v.hart ≡ (Ecall, behind) → IsRunning p i w.hart → IsRunning p i behind
@@ -93,6 +95,7 @@ unexpected_comes ends keeps i p value st w h running there =
           registers = a.stands.registers;
           goes_on = subst (λ n. GoesOnInOwn p call_unexpected n a.behind.pc) (sym h.there) (unexpected_resumes p a.behind.pc a.stands.pc);
           memory = memory;
+          kept = registers_at p call_unexpected st.frames st.world s.memory low (saved_of s) a.behind a.holds.0 a.pointer a.variables r.kept;
         };
         runtime = runtime_stays p st.frames st.world w v a.kept.runtime (runtime_without p st w r.runs r.runtime);
       };

@@ -25,6 +25,7 @@ use Rattle.machine_stubs.specs.Stretches.{stub_word}
 use Rattle.machine_stubs.specs.Terminate.{TerminateRuns}
 use Rattle.raise_simulation.specs.Resumes.{ForcedAgree}
 use Rattle.machine_simulation.specs.Plan.{Plan}
+use Rattle.machine_simulation.specs.Entering.{entry_turns}
 use Rattle.machine_simulation.specs.Objects.{without_object}
 use Rattle.machine_exceptions.specs.Terminates.{waiting_terminate}
 use Rattle.flight_homes.specs.OpenCalls.{CallsStand}
@@ -70,7 +71,7 @@ module _ (ends : UnexpectedEnds) (catches : EndCatchRuns) (made : CallsAreMade) 
 
   begins : (i : CleanImage) (p : Plan) (f : Function) (m : ℕ) (k : ℤ) (st next : State) (w : abi.World) → OwnUnwind f p st w k → IsRunning p i w.hart → CalledBelow st.frames → let last = last_state f st in let q = last_plan f p st in
       step (code_of p.unit) last ≡ goes_to next → next.top.function ≡ terminating → CallsStand last → (program_of i).image.places.terminate ≡ stub_word p.base terminating 0 → last.world.installed.terminate_handler ≡ Some m → HandlerFits q m last →
-      OwnBarred q i m last w (last_turns f + 10) (last_items f st)
+      OwnBarred q i m last w (last_turns f + 6 + entry_turns q m) (last_items f st)
   begins i p (compiled n) m k st next w h running called goes is stand named installed fits = absurd h
   begins i p terminating m k st next w h running called goes is stand named installed fits = absurd h
   begins i p end_catch m k st next w h running called goes is stand named installed fits =

@@ -6,12 +6,13 @@ use Rattle.region_forms.specs.Caught.{Entry}
 use Rattle.linear_forms.specs.Stub.{end_catch, call_unexpected}
 use Rattle.linear_forms.specs.Activation.{State}
 use Rattle.machine_forms.specs.Registers.{ra, sp}
+use Rattle.machine_pieces.specs.Keeping.{saved_of}
 use Rattle.machine_stubs.specs.Stretches.{stub_word}
 use Rattle.machine_stubs.specs.CallUnexpected.{thrown_slot}
 use Rattle.machine_simulation.specs.Plan.{Plan}
 use Rattle.machine_simulation.specs.StubCalls.{KeepsFlying}
 use Rattle.machine_simulation.specs.Matches.{RuntimeMatches}
-use Rattle.stub_landings.specs.Rests.{StubMemory, LeavesBoth, LeavesOn}
+use Rattle.stub_landings.specs.Rests.{StubMemory, StubRegisters, LeavesBoth, LeavesOn}
 use Rattle.own_ends.specs.Callers.{CalledBy}
 
 -- at its first or its second `leave`, and the word behind that one's call
@@ -30,6 +31,7 @@ pub record CatchBegins (p : Plan) (place k : ℕ) (st : State) (w : abi.World) :
   pub memory : StubMemory p call_unexpected st.frames st.world w.hart.memory (x w.hart sp) back
   pub runtime : RuntimeMatches p (st.top ∷ st.frames) st.world w
   pub thrown : KeepsFlying p (st.top.frame.slots 4) st.world w.hart.memory (x w.hart sp + thrown_slot)
+  pub kept : StubRegisters p call_unexpected st.frames st.world w.hart.memory (x w.hart sp) (saved_of w.hart)
 
 -- it is at one of them, or end_catch is called there
 abbrev pub Leaving : Plan → (place k : ℕ) → State → abi.World → Type 0

@@ -1,5 +1,5 @@
 -- The destructor of an exception's object finds no room for its frame.
-use Rattle.std.specs.Prelude.{◌≡◌, ℕ, ◌+◌, ◌<◌, ◌≤◌, true, List, [], ◌∷◌, length, Some}
+use Rattle.std.specs.Prelude.{◌≡◌, ℕ, ◌+◌, ◌<◌, ◌≤◌, true, false, List, [], ◌∷◌, length, Some}
 use Rattle.meaning_forms.specs.World.{Installed}
 use Rattle.run_items.specs.declared.item.Item.TheVariants.{Leave, Destroy}
 use Rattle.cxa_runtime.specs.declared.effect.End.TheVariants.{Stack}
@@ -19,9 +19,10 @@ use Rattle.machine_exceptions.specs.Destroys.{waiting_catch, in_destructor}
 use Rattle.raise_ends.specs.Ends.{RunEnds}
 use Rattle.own_ends.specs.Leaving.{AtOwnLeave}
 
--- a function of the unit, for which the stack has no room below these calls
+-- a function of the unit, for which the stack has no room below these calls; it looks for it, since it calls something
 pub record LacksRoom (p : Plan) (d : ℕ) (active : List Activation) : Type 0 where
   pub known : d < length p.unit.functions
+  pub looks : (shape p d).leaf ≡ false
   pub lacks : 0x100_0000 < open_bytes p active + (shape p d).size + 0x1000
 
 -- Three steps lead to the destructor's first operation. The run of the ABI machine shows the same items, and ends for want of stack.

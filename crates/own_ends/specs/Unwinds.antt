@@ -18,6 +18,7 @@ use Rattle.machine_stubs.specs.Stretches.{stub_word}
 use Rattle.machine_simulation.specs.Plan.{Plan}
 use Rattle.machine_simulation.specs.Calls.{open_bytes}
 use Rattle.machine_simulation.specs.Matches.{Matches}
+use Rattle.machine_simulation.specs.Entering.{entry_turns}
 use Rattle.machine_simulation.specs.Objects.{without_object}
 use Rattle.machine_exceptions.specs.Terminates.{waiting_terminate, in_handler}
 use Rattle.flight_homes.specs.OpenCalls.{CallsStand}
@@ -82,7 +83,7 @@ pub record OwnUnwindsEnd : Type 0 where
       step (code_of p.unit) last ≡ finishes (by_program (exit z)) v → last_turns f ≤ j → (z ≡ k) × (v ≡ last.world) × RunEnds (program_of i).image pick j w (last_items f st) (Exit k)
   pub calls_the_handler : (i : CleanImage) (p : Plan) (f : Function) (m : ℕ) (k : ℤ) (st next : State) (w : abi.World) → OwnUnwind f p st w k → IsRunning p i w.hart → CalledBelow st.frames → let last = last_state f st in let q = last_plan f p st in
       step (code_of p.unit) last ≡ goes_to next → next.top.function ≡ terminating → CallsStand last → (program_of i).image.places.terminate ≡ stub_word p.base terminating 0 → last.world.installed.terminate_handler ≡ Some m → HandlerFits q m last →
-      OwnBarred q i m last w (last_turns f + 10) (last_items f st)
+      OwnBarred q i m last w (last_turns f + 6 + entry_turns q m) (last_items f st)
   pub handlers_overflow : (i : CleanImage) (pick : ℕ → ℕ) (j : ℕ) (p : Plan) (f : Function) (m : ℕ) (k : ℤ) (st next : State) (w : abi.World) → OwnUnwind f p st w k → IsRunning p i w.hart → CalledBelow st.frames → let last = last_state f st in
       let q = last_plan f p st in step (code_of p.unit) last ≡ goes_to next → next.top.function ≡ terminating → (program_of i).image.places.terminate ≡ stub_word p.base terminating 0 → last.world.installed.terminate_handler ≡ Some m → q.hidden ≡ 0 →
       LacksRoom q m (waiting_terminate m ∷ last.top ∷ last.frames) → last_turns f + 12 ≤ j → OwnOverflows q i pick j m last w (last_items f st)

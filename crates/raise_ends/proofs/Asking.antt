@@ -1,6 +1,6 @@
 -- An operation makes a runtime call.
-use Rattle.std.proofs.Common.{◌≡◌, ◌∙◌, sym, ap, subst, arith, ℕ, ◌+◌, ◌-◌, ◌≤◌, List, [], ◌∷◌, length, inl, inr}
-use Rattle.std.specs.Prelude.{◌⊎◌}
+use Rattle.std.proofs.Common.{◌≡◌, ◌∙◌, sym, ap, subst, arith, ℕ, ◌+◌, ◌-◌, ◌%◌, ◌≤◌, false, List, [], ◌∷◌, length, Some, inl, inr}
+use Rattle.std.specs.Prelude.{◌⊎◌, slice_get}
 use Rattle.eh_bytes.specs.declared.unit.RuntimeRecord.{RuntimeRecord}
 use Rattle.run_items.specs.declared.item.Item.{Item}
 use Rattle.rv64_isa.specs.declared.step.Step.TheVariants.{Ecall}
@@ -13,20 +13,25 @@ use Rattle.cxa_runtime.specs.declared.object.Object.{Object}
 use Rattle.cxa_runtime.specs.World as abi
 use Rattle.cxa_runtime.specs.Raising.{Image, raised_as, unhandled}
 use Rattle.region_forms.specs.World.{World}
+use Rattle.linear_forms.specs.Linear.{LinearOp}
 use Rattle.linear_forms.specs.Stub.{terminating}
 use Rattle.linear_forms.specs.Activation.{Activation, State as LinearState}
 use Rattle.machine_forms.specs.Registers.{sp, a7}
+use Rattle.machine_forms.specs.Leaf.{linear_stays}
 use Rattle.machine_pieces.specs.Standing.{Ground}
 use Rattle.machine_pieces.specs.Turning.{Turns, SameRuntime}
+use Rattle.machine_pieces.specs.Keeping.{saved_of, AreSmall}
 use Rattle.machine_stubs.specs.Calls.{asked}
 use Rattle.machine_stubs.specs.Stretches.{Room, StubAt, stub_word}
 use Rattle.machine_stubs.specs.Terminates.{MayTerminate}
-use Rattle.machine_simulation.specs.Plan.{Plan}
+use Rattle.machine_simulation.specs.Plan.{Plan, function}
 use Rattle.machine_simulation.specs.Calls.{open_bytes, frames_bytes, stack_end}
 use Rattle.machine_simulation.specs.Matches.{RuntimeMatches, MemoryMatches}
-use Rattle.machine_simulation.proofs.Matching.{Stands, runtime_stays}
+use Rattle.machine_simulation.specs.KeptCalls.{RegistersMatch}
+use Rattle.machine_simulation.proofs.Matching.{Stands, runtime_stays, kept_at}
 use Rattle.machine_simulation.proofs.Lines.{matches_alike}
 use Rattle.machine_simulation.proofs.Calling.{stack_at}
+use Rattle.machine_simulation.proofs.Floors.{caller_above}
 use Rattle.machine_exceptions.proofs.Ecalls.{AtEcall}
 use Rattle.machine_exceptions.proofs.Terminates.{call_may}
 use Rattle.raise_ends.proofs.Comes.{Comes}
@@ -43,14 +48,20 @@ pub record AtCall (image : Image) (p : Plan) (n : ℕ) (st : LinearState) (w : a
   pub registers : length behind.regs ≡ 32
   pub memory_is : behind.memory ≡ w.hart.memory
   pub stack : x behind sp ≡ x w.hart sp
+  pub high : 0x7000_1000 ≤ x w.hart sp
   pub kept : SameRuntime w at
   pub memory : MemoryMatches p n st.top.frame st.frames st.world behind.memory (x behind sp) back
+  pub variables : RegistersMatch p n st.top.frame st.frames st.world behind.memory (x behind sp) (saved_of behind)
   pub runtime : RuntimeMatches p st.frames st.world (asked behind at)
   pub end : x behind sp + open_bytes p (st.top ∷ st.frames) ≡ stack_end
 
-abbrev pub at_call : (image : Image) (p : Plan) (n : ℕ) (st : LinearState) (w : abi.World) (back : ℕ) (g : Ground) (here words number most : ℕ) (m : State) → Stands p n st w back → AtEcall image g here words number w m → words + 1 ≤ most →
+-- an operation that makes a runtime call is none that is done inside its function, so its frame lies above the lowest 4 KiB
+pub high_at : (p : Plan) (n : ℕ) (st : LinearState) (w : abi.World) (back : ℕ) (o : LinearOp) → Stands p n st w back → slice_get (function p n).ops st.top.place ≡ Some o → linear_stays o ≡ false → 0x7000_1000 ≤ x w.hart sp
+high_at p n st w back o h there calls = caller_above p n st.top.place st.top.frame st.world w.hart.memory (x w.hart sp) back o there calls h.memory.top
+
+abbrev pub at_call : (image : Image) (p : Plan) (n : ℕ) (st : LinearState) (w : abi.World) (back : ℕ) (g : Ground) (here words number most : ℕ) (m : State) → Stands p n st w back → AtEcall image g here words number w m → words + 1 ≤ most → 0x7000_1000 ≤ x w.hart sp →
     AtCall image p n st w back number most
-at_call image p n st w back g here words number most m h ec few =
+at_call image p n st w back g here words number most m h ec few high =
     let q = runtime_stays p st.frames st.world w ec.at ec.runtime h.runtime in
     record {
       turns = ec.turns;
@@ -63,9 +74,11 @@ at_call image p n st w back g here words number most m h ec few =
       registers = ec.registers;
       memory_is = ec.memory;
       stack = ec.stack;
+      high = high;
       kept = ec.runtime;
       memory = subst (λ ps. MemoryMatches p n st.top.frame st.frames st.world ps (x ec.behind sp) back) (sym ec.memory)
           (subst (λ a. MemoryMatches p n st.top.frame st.frames st.world w.hart.memory a back) (sym ec.stack) h.memory);
+      variables = kept_at p n st (x w.hart sp) w.hart.memory (saved_of w.hart) ec.behind ec.memory ec.stack ec.saved h.kept;
       runtime = record { input = q.input; replies = q.replies; last_number = q.last_number; terminating = q.terminating; exceptions = q.exceptions; plan = q.plan };
       end = ap (λ a. a + open_bytes p (st.top ∷ st.frames)) ec.stack ∙ stack_at p n st w back h;
     }
@@ -73,7 +86,7 @@ at_call image p n st w back g here words number most m h ec few =
 -- terminate may be called from there
 pub may_terminate : (image : Image) (p : Plan) (n : ℕ) (st : LinearState) (w : abi.World) (back number most : ℕ) → Stands p n st w back → image.places.terminate ≡ stub_word p.base terminating 0 →
     (c : AtCall image p n st w back number most) → MayTerminate p.unit p.base image (asked c.behind c.at)
-may_terminate image p n st w back number most h named c = call_may image p n st w back c.behind c.at h named c.registers c.memory_is c.stack
+may_terminate image p n st w back number most h named c = call_may image p n st w back c.behind c.at h c.high named c.registers c.memory_is c.stack
 
 -- from a world whose hart is the same
 pub may_from : (image : Image) (p : Plan) (t to : abi.World) → to.hart ≡ t.hart → MayTerminate p.unit p.base image t → MayTerminate p.unit p.base image to
@@ -103,6 +116,9 @@ comes image p n st w back number most c may below v hidden handler to items same
   from = record {
     may = may_from image p (asked c.behind c.at) to same may;
     memory = subst (λ (s : State). MemoryMatches p n st.top.frame st.frames v s.memory (x s sp) back) (sym same) (matches_alike p n st.top.frame st.frames st.world v c.behind.memory (x c.behind sp) back ints calls later c.memory);
+    above = omega arith;
+    even = subst (λ (s : State). x s sp % 8 ≡ 0) (sym same) (omega (arith, c.memory.top.saved.aligned));
+    small = subst (λ (s : State). AreSmall (saved_of s)) (sym same) c.variables.small;
     runtime = runtime;
     end = ap (λ (s : State). x s sp + hidden + frames_bytes p.unit hidden below) same ∙ end;
   };

@@ -170,7 +170,7 @@ module _ (turns : CallsAreTurns) (made : CallsAreMade) (values : ValuesAreComput
       let u = unwind_sends turns values agree i p n m k st next w h running at steps is stand named installed in
       let s = u.sends in
       let waiting : LinearState = barred_state u.left.barring u.left.outer st.world in
-      let reached = handler_unwound made runs (program_of i).image p n m st.top.frame st.frames waiting w h.back (open_bytes p u.left.calls) (length (linear_code (shape p n) at.operation)) [] s.comes s.quiet s.known (omega (arith, fits, u.taken))
+      let reached = handler_unwound made runs (program_of i).image p n m st.top.frame st.frames waiting w h.back (open_bytes p u.left.calls) (length (linear_code (shape p n) at.operation)) [] s.comes s.quiet s.known (record { taken = fits.taken; room = omega (arith, fits.room, u.taken) })
       (λ wish. s.effect wish tt) in
       record {
         left = u.left;

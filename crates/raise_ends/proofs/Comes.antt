@@ -16,21 +16,21 @@ use Rattle.cxa_runtime.specs.Terminate.{at_stub, terminates}
 use Rattle.region_forms.specs.World.{Frame, World}
 use Rattle.linear_forms.specs.Linear.{UnitCode}
 use Rattle.linear_forms.specs.Activation.{Activation, State as LinearState}
-use Rattle.machine_forms.specs.Registers.{a7}
+use Rattle.machine_forms.specs.Registers.{sp, a7}
 use Rattle.machine_pieces.specs.Standing.{address}
 use Rattle.machine_pieces.specs.Turning.{with_items, Turns, ForcedTurns, Reaches, ForcedReaches, SameRuntime}
 use Rattle.machine_pieces.proofs.Turning.{turns_then, forced_then, as_forced}
 use Rattle.machine_stubs.specs.Calls.{asked, CallsAreMade}
 use Rattle.machine_stubs.specs.Terminate.{TerminateRuns}
 use Rattle.machine_stubs.specs.Terminates.{MayTerminate, sent}
-use Rattle.machine_simulation.specs.Plan.{Plan, shape, first_word, setting}
-use Rattle.machine_simulation.specs.Calls.{open_bytes}
+use Rattle.machine_simulation.specs.Plan.{Plan, first_word, setting}
 use Rattle.machine_simulation.specs.Exceptions.{addresses_of, IsFunction}
 use Rattle.machine_simulation.specs.Matches.{Matches}
+use Rattle.machine_simulation.specs.Entering.{entry_turns}
 use Rattle.machine_exceptions.specs.Picks.{TurnsFor, MatchedFor}
-use Rattle.machine_exceptions.specs.Terminates.{waiting_terminate, in_handler}
+use Rattle.machine_exceptions.specs.Terminates.{in_handler}
 use Rattle.machine_exceptions.proofs.Picking.{turns_for, then_for, call_for}
-use Rattle.raise_ends.specs.Ends.{RunEnds, plan_in_handler, hiding}
+use Rattle.raise_ends.specs.Ends.{RunEnds, HandlerFits, plan_in_handler, hiding}
 use Rattle.raise_ends.proofs.Sent.{SentFrom, handler_sent, sent_aborts}
 
 -- A runtime call, reached from a world, and the world in which it calls terminate with a handler.
@@ -45,7 +45,7 @@ pub record Comes (image : Image) (p : Plan) (n : ℕ) (frame : Frame) (fs below 
   pub asks : x behind a7 ≡ number
   pub handler : ℕ
   pub to : abi.World
-  pub from : SentFrom image p n frame fs below v to back hidden
+  pub from : SentFrom image p n frame fs below v to (x to.hart sp) back hidden
   pub shown : to.shown ≡ items
 
 -- It calls terminate with a handler that is a function of the unit, while terminate does not run yet: whichever slot is wished for, of some.
@@ -125,13 +125,16 @@ aborts_without made runs image pick k turns number handler u base w at t behind 
 
 -- ---- the handler begins
 
+pub few_all : (c t most e : ℕ) → c ≤ most → t ≤ 6 + e → c + 1 + t ≤ most + 7 + e
+few_all c t most e few more = omega (arith, few, more)
+
 -- its address
 first_of : (p : Plan) (m handler : ℕ) → IsFunction (addresses_of p) (Some m) handler → handler ≡ address (setting p m).ground (first_word p m)
 first_of p m handler h = h.0
 
 module _ (made : CallsAreMade) (runs : TerminateRuns) (image : Image) (p : Plan) (n m : ℕ) (frame : Frame) (fs : List Activation) (waiting : LinearState) (w : abi.World) (back hidden most : ℕ) (items : List Item)
     (c : Comes image p n frame fs (waiting.top ∷ waiting.frames) waiting.world w back hidden most items) (quiet : waiting.world.ending ≡ false) (known : IsFunction (addresses_of p) (Some m) c.handler)
-    (fits : open_bytes (hiding p hidden) (waiting_terminate m ∷ waiting.top ∷ waiting.frames) + (shape p m).size + 0x1000 ≤ 0x100_0000) where
+    (fits : HandlerFits (hiding p hidden) m waiting) where
   abbrev first : ℕ
   first = address (setting p m).ground (first_word p m)
 
@@ -141,19 +144,19 @@ module _ (made : CallsAreMade) (runs : TerminateRuns) (image : Image) (p : Plan)
   there : (wish : ℕ) → call_effect c.number image wish (asked c.behind c.at) ≡ terminates image.places c.handler c.to → call_effect c.number image wish (asked c.behind c.at) ≡ abi.goes (next_of image first c.to)
   there wish effect = effect ∙ ap (λ h. terminates image.places h c.to) (first_of p m c.handler known) ∙ goes_there image first c.to (c.from.runtime.terminating ∙ quiet)
 
-  reached : Reaches image 10 begins [] (λ u. Matches (plan_in_handler (hiding p hidden) m waiting) (in_handler p m waiting) u × SameRuntime begins u)
-  reached = handler_sent runs image p n m frame fs waiting c.to back hidden c.from known.1 fits
+  reached : Reaches image (6 + entry_turns p m) begins [] (λ u. Matches (plan_in_handler (hiding p hidden) m waiting) (in_handler p m waiting) u × SameRuntime begins u)
+  reached = handler_sent runs image p n m frame fs waiting c.to (x c.to.hart sp) back hidden c.from known.1 fits
 
   -- whatever slot is wished for, and no forced unwind begins
   pub handler_called : ((wish : ℕ) → call_effect c.number image wish (asked c.behind c.at) ≡ terminates image.places c.handler c.to) → c.to.unwinding ≡ c.at.unwinding →
-      Reaches image (most + 11) w items (λ u. Matches (plan_in_handler (hiding p hidden) m waiting) (in_handler p m waiting) u)
+      Reaches image (most + 7 + entry_turns p m) w items (λ u. Matches (plan_in_handler (hiding p hidden) m waiting) (in_handler p m waiting) u)
   handler_called effect kept =
       let one : Turns image 1 c.at begins c.to.shown = made.goes_on image c.number c.at (next_of image first c.to) c.behind c.calls c.asks (λ wish. there wish (effect wish)) kept in
       let front = turns_then image c.turns 1 w c.at begins [] c.to.shown c.runs one in
       let all = turns_then image (c.turns + 1) reached.turns w begins reached.after c.to.shown [] front reached.runs in
       record {
         turns = c.turns + 1 + reached.turns;
-        few = omega (arith, c.few, reached.few);
+        few = few_all c.turns reached.turns most (entry_turns p m) c.few reached.few;
         after = reached.after;
         runs = subst (Turns image (c.turns + 1 + reached.turns) w reached.after) (append-nil c.to.shown ∙ c.shown) all;
         holds = reached.holds.0;
@@ -161,14 +164,14 @@ module _ (made : CallsAreMade) (runs : TerminateRuns) (image : Image) (p : Plan)
 
   -- a forced unwind may begin
   pub handler_unwound : ((wish : ℕ) → call_effect c.number image wish (asked c.behind c.at) ≡ terminates image.places c.handler c.to) →
-      ForcedReaches image (most + 11) w items (λ u. Matches (plan_in_handler (hiding p hidden) m waiting) (in_handler p m waiting) u × (u.exceptions ≡ c.to.exceptions) × (u.unwinding ≡ c.to.unwinding))
+      ForcedReaches image (most + 7 + entry_turns p m) w items (λ u. Matches (plan_in_handler (hiding p hidden) m waiting) (in_handler p m waiting) u × (u.exceptions ≡ c.to.exceptions) × (u.unwinding ≡ c.to.unwinding))
   handler_unwound effect =
       let one : ForcedTurns image 1 c.at begins c.to.shown = made.unwinds image c.number c.at (next_of image first c.to) c.behind c.calls c.asks (λ wish. there wish (effect wish)) in
       let front = forced_then image c.turns 1 w c.at begins [] c.to.shown (as_forced image c.turns w c.at [] c.runs) one in
       let all = forced_then image (c.turns + 1) reached.turns w begins reached.after c.to.shown [] front (as_forced image reached.turns begins reached.after [] reached.runs) in
       record {
         turns = c.turns + 1 + reached.turns;
-        few = omega (arith, c.few, reached.few);
+        few = few_all c.turns reached.turns most (entry_turns p m) c.few reached.few;
         after = reached.after;
         runs = subst (ForcedTurns image (c.turns + 1 + reached.turns) w reached.after) (append-nil c.to.shown ∙ c.shown) all;
         holds = (reached.holds.0, reached.holds.1.exceptions, reached.holds.1.unwinding);
@@ -176,14 +179,14 @@ module _ (made : CallsAreMade) (runs : TerminateRuns) (image : Image) (p : Plan)
 
   -- for the slot that is picked
   pub handler_picked : (pick : ℕ → ℕ) → call_effect c.number image (pick (c.at.last_number + 1)) (asked c.behind c.at) ≡ terminates image.places c.handler c.to → c.to.unwinding ≡ c.at.unwinding →
-      MatchedFor image pick (most + 11) w items (λ u. Matches (plan_in_handler (hiding p hidden) m waiting) (in_handler p m waiting) u)
+      MatchedFor image pick (most + 7 + entry_turns p m) w items (λ u. Matches (plan_in_handler (hiding p hidden) m waiting) (in_handler p m waiting) u)
   handler_picked pick effect kept =
       let one : TurnsFor image pick 1 c.at begins c.to.shown = call_for made image pick c.number c.at (next_of image first c.to) c.behind c.calls c.asks (there (pick (c.at.last_number + 1)) effect) kept in
       let front = then_for image pick c.turns 1 w c.at begins [] c.to.shown (turns_for image pick c.turns w c.at [] c.runs) one in
       let all = then_for image pick (c.turns + 1) reached.turns w begins reached.after c.to.shown [] front (turns_for image pick reached.turns begins reached.after [] reached.runs) in
       record {
         turns = c.turns + 1 + reached.turns;
-        few = omega (arith, c.few, reached.few);
+        few = few_all c.turns reached.turns most (entry_turns p m) c.few reached.few;
         some = λ some. omega arith;
         after = reached.after;
         runs = subst (TurnsFor image pick (c.turns + 1 + reached.turns) w reached.after) (append-nil c.to.shown ∙ c.shown) all;

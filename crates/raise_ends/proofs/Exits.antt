@@ -43,7 +43,7 @@ pub unwound_here : ForcedAgree → (i : CleanImage) (p : Plan) (n : ℕ) (k : �
     EntersPad (code_of p.unit) st.world next ⊎ (IsBarred st.world next × (result ≡ (Terminate, c.call.behind))) ⊎ ((next ≡ finishes (by_program (exit k)) st.world) × (result ≡ (NoHandler, c.call.behind)))
 unwound_here agree i p n k st w back words h running c =
     let there = running_still p i w.hart c.call.behind c.call.memory_is running in
-    let incall : InCall p n back st.top st.frames st.world c.call.behind = record { runs = h.runs; registers = c.call.registers; goes_on = c.goes_on; memory = c.call.memory } in
+    let incall : InCall p n back st.top st.frames st.world c.call.behind = record { runs = h.runs; registers = c.call.registers; goes_on = c.goes_on; memory = c.call.memory; kept = c.call.variables } in
     unwound p i n back st.top st.frames st.world c.call.behind there incall agree k
 
 -- ---- ends that are not alike

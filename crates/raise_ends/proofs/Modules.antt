@@ -111,7 +111,7 @@ raise_lost turns agree i pick p n k token left st w back h running at free none 
     let up : abi.World = with_exceptions (one_uncaught made.exceptions) made in
     let o : Object = foreign_object (left_in y k left) k token slot in
     let there = running_still p i w.hart c.behind c.memory_is running in
-    let incall : InCall p n back st.top st.frames v c.behind = record { runs = h.runs; registers = c.registers; goes_on = r.goes_on; memory = c.memory } in
+    let incall : InCall p n back st.top st.frames v c.behind = record { runs = h.runs; registers = c.registers; goes_on = r.goes_on; memory = c.memory; kept = c.variables } in
     let lost = agree.lost (code_of p.unit) (image_operation_at p.unit) image.fdes (thrown_as (records_end p.unit) p.unit.types None) None c.behind (x c.behind sp) (all_opens p i n back st.top st.frames v c.behind there incall)
     (all_tail p i n back st.top st.frames v c.behind there incall) (stack_raised p i n back st.top st.frames v c.behind there incall None tt)
     (ap (found_above (code_of p.unit) None) (opens_are p i n back st.top st.frames v c.behind there incall) ∙ none) in
@@ -163,6 +163,9 @@ raise_sends turns agree i pick p n m k token left st w h running at free lost qu
       from = record {
         may = record { named = may.named; registers = may.registers; code = may.code; deep = may.deep; room = may.room };
         memory = matches_made p e r.slot v u (making_in p st.frames v y r.slot k token left c.runtime r.vacant) n st.top.frame st.frames c.behind.memory (x c.behind sp) h.back c.memory;
+        above = omega arith;
+        even = omega (arith, c.memory.top.saved.aligned);
+        small = c.variables.small;
         runtime = record { input = pushed.input; replies = pushed.replies; last_number = pushed.last_number; terminating = pushed.terminating; exceptions = pushed.exceptions; plan = pushed.plan };
         end = all_open image p n st w h.back 14 most c hidden;
       };
@@ -190,7 +193,7 @@ modules_doom turns made runs agree = record {
         all.1,
         all.2,
         handler_picked made runs (program_of i).image (with_object p e all.1) n m st.top.frame st.frames (raising_state k token left st) w h.back p.hidden (length (linear_code (shape p n) at.operation)) (Foreign e k token ∷ []) s.comes s.quiet s.known
-            fits pick (s.effect (pick (s.comes.at.last_number + 1)) refl) all.4,
+            (record { taken = fits.taken; room = fits.room }) pick (s.effect (pick (s.comes.at.last_number + 1)) refl) all.4,
       );
   aborts = λ i pick j p n k token left st w h running at free lost none many.
       let image : Image = (program_of i).image in

@@ -1,5 +1,5 @@
 -- A module is called that raises: the step, and the runtime call.
-use Rattle.std.proofs.Common.{◌≡◌, ◌∙◌, refl, sym, ap, subst, arith, ℕ, ◌+◌, ◌%◌, ◌^◌, pos, List, ◌∷◌, ◌++◌, length, length-append, Option, Some, inl, inr}
+use Rattle.std.proofs.Common.{◌≡◌, ◌∙◌, refl, sym, ap, subst, arith, ℕ, ◌+◌, ◌%◌, ◌^◌, pos, false, List, ◌∷◌, ◌++◌, length, length-append, Option, Some, inl, inr}
 use Rattle.std.specs.Prelude.{slice_get, slice_set}
 use Rattle.cxx_ast.specs.declared.name.Builtin.{Builtin}
 use Rattle.cxx_ast.specs.declared.name.Builtin.TheVariants.{Module}
@@ -26,6 +26,7 @@ use Rattle.linear_forms.specs.UnitRun.{code_of}
 use Rattle.machine_forms.specs.Registers.{a0}
 use Rattle.machine_forms.specs.Piece.{Piece}
 use Rattle.machine_forms.specs.RuntimeCall.{runtime_call}
+use Rattle.machine_forms.specs.Leaf.{linear_stays}
 use Rattle.machine_forms.specs.LinearCode.{linear_code}
 use Rattle.machine_forms.specs.Routine.{op_word}
 use Rattle.machine_pieces.specs.Numbers.{extended}
@@ -44,7 +45,7 @@ use Rattle.machine_exceptions.proofs.Ecalls.{ecall_reached}
 use Rattle.machine_exceptions.proofs.ModuleCalls.{words_are, module_begins}
 use Rattle.machine_raises.specs.Stacks.{GoesOnIn}
 use Rattle.raise_ends.specs.Modules.{AtRaise}
-use Rattle.raise_ends.proofs.Asking.{AtCall, at_call}
+use Rattle.raise_ends.proofs.Asking.{AtCall, high_at, at_call}
 use Rattle.raise_ends.proofs.ForeignMade.{left_in}
 
 module_is : (image : Image) (wish : ℕ) (t : abi.World) → call_effect 14 image wish t ≡ module_call image wish t
@@ -82,6 +83,12 @@ raise_step i p n k token left st at =
 
 -- ---- the runtime call
 
+-- a call of a module leaves its function
+module_leaves : (args : Arguments) (wants : Option Place) (o : LinearOp) → CallsBuiltin Module args wants o → linear_stays o ≡ false
+module_leaves args wants o (inl h) = ap linear_stays h.2
+module_leaves args wants o (inr (inl h)) = ap linear_stays h.1
+module_leaves args wants o (inr (inr h)) = ap linear_stays h.1
+
 -- an exception is raised from the slot that is wished for, or the first that is vacant
 pub record RaiseAsked (i : CleanImage) (p : Plan) (n k token : ℕ) (left : List Reply) (st : LinearState) (w : abi.World) (back words : ℕ) : Type 0 where
   pub call : AtCall (program_of i).image p n st w back 14 words
@@ -107,7 +114,7 @@ raise_asked turns i p n k token left st w back h at =
     let parts = pieces_split w.hart.memory g here front rear own.code in
     let ecall = pieces_split w.hart.memory g (here + length front) (runtime_call 14) rest parts.1 in
     let ec = ecall_reached turns image g here (length front) 0 14 w begins.value.computes.goes (omega arith) ecall.0 in
-    let c = at_call image p n st w back g here (length front) 14 (length (linear_code (shape p n) o)) begins.value.computes.goes.after h ec (omega (arith, total)) in
+    let c = at_call image p n st w back g here (length front) 14 (length (linear_code (shape p n) o)) begins.value.computes.goes.after h ec (omega (arith, total)) (high_at p n st w back o h at.there (module_leaves (both_ints at.calls.number at.calls.other) at.wants o at.calls.calls)) in
     let y : abi.World = asked c.behind c.at in
     let is0 : argument y 10 ≡ extended (pos k) = ec.kept a0 (λ b. absurd (omega (arith, b))) ∙ begins.value.computes.is in
     let low = small_pos k begins.value.int in

@@ -52,7 +52,7 @@ use Rattle.machine_raises.proofs.AtCalls.{running_still}
 use Rattle.machine_raises.proofs.Onward.{type_base, thrown_known}
 use Rattle.machine_raises.proofs.Rethrowing.{NewestKept}
 use Rattle.raise_ends.specs.Rethrows.{AtRethrow}
-use Rattle.raise_ends.proofs.Asking.{AtCall, at_call, lost_as}
+use Rattle.raise_ends.proofs.Asking.{AtCall, high_at, at_call, lost_as}
 use Rattle.raise_ends.proofs.Again.{again_world}
 
 rethrow_is : (image : Image) (wish : ℕ) (t : abi.World) → call_effect 8 image wish t ≡ rethrow_effect image t
@@ -121,7 +121,7 @@ rethrow_lost turns agree i p n e others st w back h running at =
     let own = operation_at p w.hart.memory n st.top.place (plain rethrow) h.memory.unit h.memory.top.known at.there in
     let goes = goes_none g here 0 w.hart h.pc h.registers in
     let ec = ecall_reached turns image g here 0 0 8 w goes (omega arith) (subst (λ k. PiecesAt w.hart.memory g k (runtime_call 8)) (omega arith) own.code) in
-    let c = at_call image p n st w back g here 0 8 (length (linear_code (shape p n) (plain rethrow))) goes.after h ec (omega arith) in
+    let c = at_call image p n st w back g here 0 8 (length (linear_code (shape p n) (plain rethrow))) goes.after h ec (omega arith) (high_at p n st w back (plain rethrow) h at.there refl) in
     let y : abi.World = asked c.behind c.at in
     let there_live = built_live v.live e.number at.travels in
     let newest = newest_kept (addresses_of p) (destroyed st.frames) (exceptions_in v) (kept_by y) e others c.runtime.exceptions at.caught at.still in
@@ -139,6 +139,7 @@ rethrow_lost turns agree i p n e others st w back h running at =
       registers = ec.registers;
       goes_on = record { operation = plain rethrow; there = at.there; word = 1; inside = omega arith; is = ec.pc ∙ omega arith };
       memory = c.memory;
+      kept = c.variables;
     } in
     let lost = agree.lost (code_of p.unit) (image_operation_at p.unit) image.fdes (thrown_as (records_end p.unit) p.unit.types t) t ec.behind (x ec.behind sp) (all_opens p i n back st.top st.frames v ec.behind there incall)
     (all_tail p i n back st.top st.frames v ec.behind there incall) (stack_raised p i n back st.top st.frames v ec.behind there incall t (type_base p t at.type))

@@ -1,5 +1,5 @@
 -- An exception is thrown, and nothing stops it: what the runtime call does.
-use Rattle.std.proofs.Common.{◌≡◌, ◌∙◌, sym, ap, arith, ℕ, ◌+◌, ◌^◌, ◌<◌, ◌∷◌, length, map, Option, Some, None}
+use Rattle.std.proofs.Common.{◌≡◌, ◌∙◌, refl, sym, ap, arith, ℕ, ◌+◌, ◌^◌, ◌<◌, ◌∷◌, length, map, Option, Some, None}
 use Rattle.std.specs.Prelude.{slice_get}
 use Rattle.meaning_forms.specs.Class.{contains}
 use Rattle.rv64_isa.specs.Step.{x}
@@ -47,7 +47,7 @@ use Rattle.machine_raises.proofs.Stacks.{all_opens, all_tail, opens_are, stack_r
 use Rattle.machine_raises.proofs.ThrowWords.{throw_given}
 use Rattle.machine_raises.proofs.Throwing.{throw_is, throws_as, throw_words}
 use Rattle.machine_raises.proofs.AtCalls.{running_still}
-use Rattle.raise_ends.proofs.Asking.{AtCall, at_call, lost_as}
+use Rattle.raise_ends.proofs.Asking.{AtCall, high_at, at_call, lost_as}
 
 -- the exception that was being built is native now, and the runtime is left with it
 pub record ThrowLost (i : CleanImage) (p : Plan) (n s e t : ℕ) (d : Option ℕ) (st : LinearState) (w : abi.World) (back : ℕ) : Type 0 where
@@ -72,7 +72,7 @@ throw_lost turns agree i p n s e t d st w back h running at may being none =
     let own = operation_at p w.hart.memory n st.top.place (plain (throw s t d)) h.memory.unit h.memory.top.known at in
     let given = throw_given p i n here s e t d st w back h running may.holds may.type may.destructor own.code h.pc low in
     let ec = ecall_reached turns image g here words 0 5 w given.goes (omega arith) given.call in
-    let c = at_call image p n st w back g here words 5 (length (linear_code (shape p n) (plain (throw s t d)))) given.goes.after h ec (omega (arith, all)) in
+    let c = at_call image p n st w back g here words 5 (length (linear_code (shape p n) (plain (throw s t d)))) given.goes.after h ec (omega (arith, all)) (high_at p n st w back (plain (throw s t d)) h at refl) in
     let y : abi.World = asked c.behind c.at in
     let live = live_header (addresses_of p) (destroyed st.frames) (exceptions_in v) (kept_by y) e building c.runtime.exceptions being in
     let slot : ℕ = live.slot in
@@ -93,6 +93,7 @@ throw_lost turns agree i p n s e t d st w back h running at may being none =
       registers = ec.registers;
       goes_on = record { operation = plain (throw s t d); there = at; word = words + 1; inside = omega (arith, all); is = ec.pc ∙ omega arith };
       memory = c.memory;
+      kept = c.variables;
     } in
     let lost = agree.lost (code_of p.unit) (image_operation_at p.unit) image.fdes (thrown_as (records_end p.unit) p.unit.types (Some t)) (Some t) ec.behind (x ec.behind sp) (all_opens p i n back st.top st.frames v ec.behind there incall)
     (all_tail p i n back st.top st.frames v ec.behind there incall) (stack_raised p i n back st.top st.frames v ec.behind there incall (Some t) may.type)

@@ -1,5 +1,5 @@
 -- A forced unwind begins or goes on: the step, and the runtime call.
-use Rattle.std.proofs.Common.{◌≡◌, ◌∙◌, refl, sym, ap, subst, arith, ℕ, ◌+◌, ◌^◌, ◌<◌, ◌≤◌, ◌==◌, ℤ, pos, List, [], ◌∷◌, ◌++◌, length, length-append, append-nil, Option, Some, inl, inr}
+use Rattle.std.proofs.Common.{◌≡◌, ◌∙◌, refl, sym, ap, subst, arith, ℕ, ◌+◌, ◌^◌, ◌<◌, ◌≤◌, ◌==◌, false, ℤ, pos, List, [], ◌∷◌, ◌++◌, length, length-append, append-nil, Option, Some, inl, inr}
 use Rattle.std.specs.Prelude.{◌⊎◌, slice_get, if◌then◌else◌}
 use Rattle.cxx_ast.specs.declared.name.Builtin.TheVariants.{Cancel}
 use Rattle.rv64_isa.specs.Arithmetic.{add}
@@ -29,12 +29,13 @@ use Rattle.linear_forms.specs.Forced.{forced_above}
 use Rattle.linear_forms.specs.UnitRun.{code_of}
 use Rattle.machine_forms.specs.Bounds.{LinearFits}
 use Rattle.machine_forms.specs.Immediate.{immediate}
-use Rattle.machine_forms.specs.Registers.{sp, a0}
+use Rattle.machine_forms.specs.Registers.{sp, a0, register}
 use Rattle.machine_forms.specs.Piece.{Piece, instruction}
 use Rattle.machine_forms.specs.PlaceCode.{within, slot_loaded}
 use Rattle.machine_forms.specs.Shape.{Shape, slot_offset}
 use Rattle.machine_forms.specs.ValueCode.{needs as registers_needed, value_code}
 use Rattle.machine_forms.specs.RuntimeCall.{runtime_call}
+use Rattle.machine_forms.specs.Leaf.{linear_stays}
 use Rattle.machine_forms.specs.LinearCode.{linear_code}
 use Rattle.machine_forms.specs.Routine.{op_word}
 use Rattle.machine_pieces.specs.Numbers.{extended}
@@ -59,7 +60,7 @@ use Rattle.machine_raises.specs.Forced.{ForcedAsked}
 use Rattle.machine_raises.specs.Stacks.{GoesOnIn}
 use Rattle.machine_raises.proofs.Resuming.{resume_is}
 use Rattle.raise_ends.specs.Unwinds.{BeginsUnwind, GoesOnUnwinding, AtUnwind}
-use Rattle.raise_ends.proofs.Asking.{AtCall, at_call}
+use Rattle.raise_ends.proofs.Asking.{AtCall, high_at, at_call}
 
 cancel_is : (image : Image) (wish : ℕ) (t : abi.World) → call_effect 15 image wish t ≡ cancel image t
 unfolding call_effect numbered
@@ -96,13 +97,18 @@ cancel_step p n k st o v runs there is number = step_is p n st o runs there ∙ 
     by (inl h) = ap does h ∙ plain_is p n st (call (builtin Cancel) (argument_then (int_argument v) no_arguments)) runs
     by (inr h) = ap does h ∙ plain_is p n st (evaluate (call_value (builtin Cancel) (argument_then (int_argument v) no_arguments))) runs
 
-cancel_pieces : (p : Plan) (n : ℕ) (o : LinearOp) (v : Value) → Cancels v o → linear_code (shape p n) o ≡ (value_code (shape p n) 0 v ++ []) ++ runtime_call 15
+cancel_pieces : (p : Plan) (n : ℕ) (o : LinearOp) (v : Value) → Cancels v o → linear_code (shape p n) o ≡ (value_code (shape p n) (register 0) 0 v ++ []) ++ runtime_call 15
 cancel_pieces p n o v (inl is) = ap (linear_code (shape p n)) is
 cancel_pieces p n o v (inr is) = ap (linear_code (shape p n)) is
 
 cancel_fits : (o : LinearOp) (v : Value) → Cancels v o → LinearFits o → 0 + registers_needed v ≤ 15
 cancel_fits o v (inl is) few = (subst LinearFits is few).0
 cancel_fits o v (inr is) few = (subst LinearFits is few).0
+
+-- a forced unwind leaves the function
+cancel_leaves : (o : LinearOp) (v : Value) → Cancels v o → linear_stays o ≡ false
+cancel_leaves o v (inl is) = ap linear_stays is
+cancel_leaves o v (inr is) = ap linear_stays is
 
 cancel_asked : CallsAreTurns → ValuesAreComputed → (i : CleanImage) (p : Plan) (n : ℕ) (k : ℤ) (st : LinearState) (w : abi.World) (back : ℕ) (o : LinearOp) → Stands p n st w back → slice_get (function p n).ops st.top.place ≡ Some o → BeginsUnwind p n st o k →
     UnwindAsked i p n k st w back (length (linear_code (shape p n) o))
@@ -112,7 +118,7 @@ cancel_asked turns values i p n k st w back o h there b =
     let g : Ground = (setting p n).ground in
     let here : ℕ = first_word p n + op_word (routine p n) st.top.place in
     let v : Value = b.value in
-    let front : List Piece = value_code f 0 v in
+    let front : List Piece = value_code f (register 0) 0 v in
     let rear : List Piece = runtime_call 15 in
     let pieces : linear_code f o ≡ front ++ rear = cancel_pieces p n o v b.is ∙ ap (λ ps. ps ++ rear) (append-nil front) in
     let own : OperationAt p w.hart.memory n st.top.place (front ++ rear) = subst (OperationAt p w.hart.memory n st.top.place) pieces (operation_at p w.hart.memory n st.top.place o h.memory.unit h.memory.top.known there) in
@@ -123,7 +129,7 @@ cancel_asked turns values i p n k st w back o h there b =
     let stands = value_stands p n st.top.frame st.world w.hart.memory (x w.hart sp) back h.memory.top v b.asked in
     let value = values.value (setting p n) f (slot_kinds p n) st.top.frame st.world v k 0 here w.hart stands b.number (cancel_fits o v b.is (h.memory.unit.registers n st.top.place o there)) short parts.0 h.pc (ready_here p n st w back h) in
     let ec = ecall_reached turns image g here (length front) 0 15 w value.computes.goes (omega arith) parts.1 in
-    let c = at_call image p n st w back g here (length front) 15 (length (linear_code f o)) value.computes.goes.after h ec (omega (arith, total)) in
+    let c = at_call image p n st w back g here (length front) 15 (length (linear_code f o)) value.computes.goes.after h ec (omega (arith, total)) (high_at p n st w back o h there (cancel_leaves o v b.is)) in
     let y : abi.World = asked c.behind c.at in
     let is0 : argument y 10 ≡ extended k = ec.kept a0 (λ e. absurd (omega (arith, e))) ∙ value.computes.is in
     let number : as_int (argument y 10) ≡ k = ap as_int is0 ∙ as_int_extended k value.int in
@@ -168,7 +174,7 @@ resume_asked turns i p n s k st w back h there asks =
     let own = operation_at p w.hart.memory n st.top.place (resume s) h.memory.unit h.memory.top.known there in
     let first = zero_loaded p n st w back here s k h asks own.code.0 h.pc in
     let ec = ecall_reached turns image g here 1 0 9 w first.goes (omega arith) own.code.1 in
-    let c = at_call image p n st w back g here 1 9 (length (linear_code (shape p n) (resume s))) first.goes.after h ec (omega arith) in
+    let c = at_call image p n st w back g here 1 9 (length (linear_code (shape p n) (resume s))) first.goes.after h ec (omega arith) (high_at p n st w back (resume s) h there refl) in
     let y : abi.World = asked c.behind c.at in
     let is0 : argument y 10 ≡ 0 = ec.kept a0 (λ b. absurd (omega (arith, b))) ∙ first.is in
     record {

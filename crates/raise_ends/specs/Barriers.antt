@@ -16,6 +16,7 @@ use Rattle.machine_stubs.specs.Stretches.{stub_word}
 use Rattle.machine_simulation.specs.Plan.{Plan, shape}
 use Rattle.machine_simulation.specs.Calls.{open_bytes}
 use Rattle.machine_simulation.specs.Matches.{Matches}
+use Rattle.machine_simulation.specs.Entering.{entry_turns}
 use Rattle.machine_exceptions.specs.Terminates.{in_handler}
 use Rattle.flight_homes.specs.OpenCalls.{CallsStand}
 use Rattle.machine_raises.specs.Stacks.{IsRunning}
@@ -44,7 +45,7 @@ pub record Barred (p : Plan) (i : CleanImage) (m : ℕ) (st : State) (w : abi.Wo
   pub left : Left st
   pub begins : HandlerBegins p m st (barred_state left.barring left.outer st.world) []
   pub ran : let waiting = barred_state left.barring left.outer st.world in
-      ForcedReaches (program_of i).image (words + 11) w [] (λ u. Matches (plan_in_handler (hiding p (open_bytes p left.calls)) m waiting) (in_handler p m waiting) u × (u.exceptions ≡ w.exceptions) × (u.unwinding ≡ Some k))
+      ForcedReaches (program_of i).image (words + 7 + entry_turns p m) w [] (λ u. Matches (plan_in_handler (hiding p (open_bytes p left.calls)) m waiting) (in_handler p m waiting) u × (u.exceptions ≡ w.exceptions) × (u.unwinding ≡ Some k))
 
 -- A step comes to terminate: two steps lead to the first operation of the handler in effect, and are matched. Without a handler both machines
 -- abort, and so they do where terminate runs already.

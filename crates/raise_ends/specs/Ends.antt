@@ -1,5 +1,5 @@
 -- How runs of both machines end, and where a terminate handler begins.
-use Rattle.std.specs.Prelude.{◌≡◌, ◌⊎◌, ℕ, ◌+◌, ◌≤◌, true, List, [], ◌∷◌, ◌++◌, Option, None, if◌then◌else◌}
+use Rattle.std.specs.Prelude.{◌≡◌, ◌⊎◌, ℕ, true, List, [], ◌∷◌, ◌++◌, Option, None, if◌then◌else◌}
 use Rattle.run_items.specs.declared.item.Item.{Item}
 use Rattle.meaning_forms.specs.Outcome as meaning
 use Rattle.meaning_forms.specs.Outcome.{aborted}
@@ -12,11 +12,11 @@ use Rattle.region_forms.specs.World.{World}
 use Rattle.linear_forms.specs.Activation.{State, by_program}
 use Rattle.linear_forms.specs.Machine.{over, exec}
 use Rattle.linear_forms.specs.UnitRun.{code_of}
-use Rattle.machine_simulation.specs.Plan.{Plan, shape}
-use Rattle.machine_simulation.specs.Calls.{open_bytes}
+use Rattle.machine_simulation.specs.Plan.{Plan}
 use Rattle.machine_simulation.specs.Entering.{opened, frame_for}
 use Rattle.machine_simulation.specs.Objects.{Shows}
 use Rattle.machine_exceptions.specs.Leaves.{StepsTo}
+use Rattle.machine_exceptions.specs.Terminates as handlers
 use Rattle.machine_exceptions.specs.Terminates.{waiting_terminate, in_handler}
 
 -- a run of so many turns shows these items and ends so
@@ -39,9 +39,9 @@ NoneIsCalled v h = (v.ending ≡ true) ⊎ (h ≡ None)
 abbrev pub unless_ending : World → List Item → List Item
 unless_ending v items = if v.ending then [] else items
 
--- the stack has room for the frames of terminate and of its handler
+-- the handler has no parameter, and the stack has room for the frames of terminate and of the handler
 abbrev pub HandlerFits : Plan → ℕ → State → Type 0
-HandlerFits p m st = open_bytes p (waiting_terminate m ∷ st.top ∷ st.frames) + (shape p m).size + 0x1000 ≤ 0x100_0000
+HandlerFits p m st = handlers.HandlerFits p m (waiting_terminate m ∷ st.top ∷ st.frames)
 
 -- two steps lead to the first operation of a handler, where these calls wait, and show these items
 abbrev pub HandlerBegins : Plan → ℕ → (st waiting : State) → List Item → Type 0

@@ -10,6 +10,7 @@ use Rattle.machine_forms.specs.LinearCode.{linear_code}
 use Rattle.machine_pieces.specs.Turning.{Reaches}
 use Rattle.machine_simulation.specs.Plan.{Plan, shape}
 use Rattle.machine_simulation.specs.Matches.{Matches}
+use Rattle.machine_simulation.specs.Entering.{entry_turns}
 use Rattle.machine_exceptions.specs.Terminates.{in_handler}
 use Rattle.raise_ends.specs.Ends.{NoneIsCalled, BothAbort, HandlerFits, HandlerBegins, plan_in_handler}
 use Rattle.raise_ends.specs.Modules.{AtRaise}
@@ -23,6 +24,6 @@ refused_state k left st = record { top = st.top; frames = st.frames; world = rec
 pub record ModulesAreRefusedWhenFull : Type 0 where
   pub calls_the_handler : (i : CleanImage) (p : Plan) (n m k token : ℕ) (left : List Reply) (st : State) (w : abi.World) → Matches p st w → (at : AtRaise i p n k token left st) → is_full st.world ≡ true → st.world.ending ≡ false →
       st.world.installed.terminate_handler ≡ Some m → p.hidden ≡ 0 → HandlerFits p m st → let waiting = refused_state k left st in
-      HandlerBegins p m st waiting [] × Reaches (program_of i).image (length (linear_code (shape p n) at.operation) + 11) w [] (λ u. Matches (plan_in_handler p m waiting) (in_handler p m waiting) u)
+      HandlerBegins p m st waiting [] × Reaches (program_of i).image (length (linear_code (shape p n) at.operation) + 7 + entry_turns p m) w [] (λ u. Matches (plan_in_handler p m waiting) (in_handler p m waiting) u)
   pub aborts : (i : CleanImage) (pick : ℕ → ℕ) (j : ℕ) (p : Plan) (n k token : ℕ) (left : List Reply) (st : State) (w : abi.World) → Matches p st w → (at : AtRaise i p n k token left st) → is_full st.world ≡ true →
       NoneIsCalled st.world st.world.installed.terminate_handler → length (linear_code (shape p n) at.operation) + 10 ≤ j → BothAbort (program_of i).image pick j p st w []

@@ -19,6 +19,7 @@ use Rattle.machine_forms.specs.LinearCode.{linear_code}
 use Rattle.machine_stubs.specs.Stretches.{stub_word}
 use Rattle.machine_simulation.specs.Plan.{Plan, function, shape}
 use Rattle.machine_simulation.specs.Matches.{Matches}
+use Rattle.machine_simulation.specs.Entering.{entry_turns}
 use Rattle.machine_simulation.specs.Objects.{with_object}
 use Rattle.machine_exceptions.specs.Answers.{CallsModule}
 use Rattle.machine_exceptions.specs.Picks.{MatchedFor}
@@ -51,7 +52,7 @@ pub record ModulesDoom : Type 0 where
       found_above (code_of p.unit) None (st.top ∷ st.frames) ≡ None → st.world.ending ≡ false → st.world.installed.terminate_handler ≡ Some m → p.hidden ≡ 0 → HandlerFits p m st →
       let e = st.world.last_number + 1 in let items = Foreign e k token ∷ [] in let waiting = raising_state k token left st in
       HandlerBegins p m st waiting items × (slot : ℕ) × (slot < slots)
-      × MatchedFor (program_of i).image pick (length (linear_code (shape p n) at.operation) + 11) w items (λ u. Matches (plan_in_handler (with_object p e slot) m waiting) (in_handler p m waiting) u)
+      × MatchedFor (program_of i).image pick (length (linear_code (shape p n) at.operation) + 7 + entry_turns p m) w items (λ u. Matches (plan_in_handler (with_object p e slot) m waiting) (in_handler p m waiting) u)
   pub aborts : (i : CleanImage) (pick : ℕ → ℕ) (j : ℕ) (p : Plan) (n k token : ℕ) (left : List Reply) (st : State) (w : abi.World) → Matches p st w → IsRunning p i w.hart → (at : AtRaise i p n k token left st) → is_full st.world ≡ false →
       found_above (code_of p.unit) None (st.top ∷ st.frames) ≡ None → NoneIsCalled st.world st.world.installed.terminate_handler → length (linear_code (shape p n) at.operation) + 10 ≤ j →
       BothAbort (program_of i).image pick j p st w (Foreign (st.world.last_number + 1) k token ∷ [])

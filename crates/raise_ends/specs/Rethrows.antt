@@ -20,6 +20,7 @@ use Rattle.machine_pieces.specs.Turning.{Reaches}
 use Rattle.machine_stubs.specs.Stretches.{stub_word}
 use Rattle.machine_simulation.specs.Plan.{Plan, function, shape}
 use Rattle.machine_simulation.specs.Matches.{Matches}
+use Rattle.machine_simulation.specs.Entering.{entry_turns}
 use Rattle.machine_exceptions.specs.Terminates.{in_handler}
 use Rattle.machine_raises.specs.Stacks.{IsRunning}
 use Rattle.machine_raises.specs.Resumes.{TypeIsThere}
@@ -59,7 +60,7 @@ rethrown_state x st = record { top = st.top; frames = st.frames; world = entered
 pub record RethrowsDoom : Type 0 where
   pub calls_the_handler : (i : CleanImage) (p : Plan) (n m : ℕ) (x : Entry) (others : List Entry) (st : State) (w : abi.World) → Matches p st w → IsRunning p i w.hart → AtRethrow i p n x others st → st.world.ending ≡ false →
       handler_used (exception_at st.world x.number) st.world ≡ Some m → p.hidden ≡ 0 → HandlerFits p m st → let items = entering (exception_at st.world x.number) x.number in let waiting = rethrown_state x st in
-      HandlerBegins p m st waiting items × Reaches (program_of i).image (length (linear_code (shape p n) (plain rethrow)) + 11) w items (λ u. Matches (plan_in_handler p m waiting) (in_handler p m waiting) u)
+      HandlerBegins p m st waiting items × Reaches (program_of i).image (length (linear_code (shape p n) (plain rethrow)) + 7 + entry_turns p m) w items (λ u. Matches (plan_in_handler p m waiting) (in_handler p m waiting) u)
   pub aborts : (i : CleanImage) (pick : ℕ → ℕ) (k : ℕ) (p : Plan) (n : ℕ) (x : Entry) (others : List Entry) (st : State) (w : abi.World) → Matches p st w → IsRunning p i w.hart → AtRethrow i p n x others st →
       NoneIsCalled st.world (handler_used (exception_at st.world x.number) st.world) → length (linear_code (shape p n) (plain rethrow)) + 10 ≤ k →
       BothAbort (program_of i).image pick k p st w (unless_ending st.world (entering (exception_at st.world x.number) x.number))

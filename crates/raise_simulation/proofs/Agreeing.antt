@@ -21,7 +21,8 @@ use Rattle.linear_forms.specs.Stub.{Function}
 use Rattle.linear_forms.specs.Activation.{Code, Activation, sense}
 use Rattle.linear_forms.specs.Search.{found_at, found_above}
 use Rattle.linear_forms.specs.Unwinding.{unwound_above}
-use Rattle.raise_simulation.specs.OpenCalls.{IsOutermost, outer_ip, outer_sp, frames_of, frame_behind}
+use Rattle.machine_pieces.specs.Keeping.{saved_of}
+use Rattle.raise_simulation.specs.OpenCalls.{IsOutermost, regs_at, outer_ip, outer_sp, frames_of, frame_behind}
 use Rattle.raise_simulation.specs.Tables.{said}
 use Rattle.raise_simulation.specs.Verdicts.{judged_by}
 use Rattle.raise_simulation.specs.Opens.{Open, Judge, activations, calls, IsFirst, IsBarred, StackStands, cfa_with, table_with}
@@ -30,6 +31,7 @@ use Rattle.raise_simulation.proofs.Outward.{IsFrame, end_of}
 use Rattle.raise_simulation.proofs.Walking.{all, first_is, stack_step}
 use Rattle.raise_simulation.proofs.Asking.{verdict_is, stops_here, passes_here}
 use Rattle.raise_simulation.proofs.Searching.{IsHandling, search, NoneFound, search_none}
+use Rattle.raise_simulation.proofs.Keeping.{first_saved}
 use Rattle.raise_simulation.proofs.Landing.{enters_words, in_frame, lands}
 
 module _ (code : Code) (at : Function → ℕ → ℕ) (judge : Judge) (fdes : List Fde) (thrown : Thrown) (s : State) (sp : ℕ) (opens : List Open) (tail : List Activation) where
@@ -121,7 +123,7 @@ found code at fdes thrown e d w s sp opens tail st is =
           ∙ ap (towards s fdes thrown f.frame) f.says ∙ towards_target s fdes thrown f.frame f.verdict f.handles ∙ ap (entered s fdes thrown) f.target
           ∙ ap (entered_by s fdes thrown to) (first_is_in code at judge fdes thrown s sp opens tail k goals.Pad (Some c.frame) c.first)
           ∙ ap (enters s c.frame to) c.says ∙ enters_words s c.frame to pad c.verdict c.selector c.given;
-      in_frame = in_frame s c.frame pad (outer_sp sp (calls c.inner)) st.registers c.is_frame;
+      in_frame = in_frame s c.frame pad (outer_sp sp (calls c.inner)) (regs_at (calls c.inner) (saved_of s)) st.registers c.is_frame (c.saved ∙ ap (regs_at (calls c.inner)) (first_saved s));
     }
 
 pub lost : (code : Code) (at : Function → ℕ → ℕ) (fdes : List Fde) (thrown : Thrown) (t : Option ℕ) (s : State) (sp : ℕ) (opens : List Open) (tail : List Activation) →

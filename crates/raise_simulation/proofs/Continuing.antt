@@ -20,7 +20,8 @@ use Rattle.linear_forms.specs.Activation.{Code, Activation, finishes, by_program
 use Rattle.linear_forms.specs.Search.{found_above}
 use Rattle.linear_forms.specs.Unwinding.{unwound_above}
 use Rattle.linear_forms.specs.Forced.{forced_at, forced_above}
-use Rattle.raise_simulation.specs.OpenCalls.{outer_ip, outer_sp, frames_of, frame_behind}
+use Rattle.machine_pieces.specs.Keeping.{saved_of}
+use Rattle.raise_simulation.specs.OpenCalls.{regs_at, outer_ip, outer_sp, frames_of, frame_behind}
 use Rattle.raise_simulation.specs.Tables.{said}
 use Rattle.raise_simulation.specs.Verdicts.{in_words, judged_by, forced_by_table}
 use Rattle.raise_simulation.specs.Opens.{Open, Judge, activations, calls, IsFirst, IsBarred, StackStands, cfa_with, table_with}
@@ -28,6 +29,7 @@ use Rattle.raise_simulation.specs.Raises.{Lands, IsTerminated, RaisesAgree}
 use Rattle.raise_simulation.specs.Resumes.{IsTarget, ResumesAgree, ForcedAgree}
 use Rattle.raise_simulation.proofs.Walking.{first_is}
 use Rattle.raise_simulation.proofs.Asking.{stops_here, passes_here}
+use Rattle.raise_simulation.proofs.Keeping.{first_saved}
 use Rattle.raise_simulation.proofs.Landing.{IsGiven, enters_words, in_frame}
 use Rattle.raise_simulation.proofs.Resuming.{Resumed, resumes}
 use Rattle.raise_simulation.proofs.Forcing.{Forced, forces}
@@ -86,7 +88,7 @@ as_outcomes code at fdes thrown e d cfa w s sp opens tail st k (inl c) =
       after = installed c.frame pad s;
       installs = resume_goes fdes thrown cfa s c.frame (first_is_in code at (λ a. judged_by code a (type_at w e)) fdes thrown s sp opens tail k (goals.UpTo cfa) (Some c.frame) c.first)
           ∙ ap (resumed_at s fdes cfa c.frame) c.says ∙ goes_on_words s c.frame (is_at fdes cfa c.frame) cfa pad c.verdict c.selector c.given c.ready;
-      in_frame = in_frame s c.frame pad (outer_sp sp (calls c.inner)) st.registers c.is_frame;
+      in_frame = in_frame s c.frame pad (outer_sp sp (calls c.inner)) (regs_at (calls c.inner) (saved_of s)) st.registers c.is_frame (c.saved ∙ ap (regs_at (calls c.inner)) (first_saved s));
     })
 as_outcomes code at fdes thrown e d cfa w s sp opens tail st k (inr (inl b)) =
     inr (inl (
@@ -167,7 +169,7 @@ forced_agree code at fdes n w s sp opens tail st =
           enters = c.enters;
           after = installed c.frame pad s;
           installs = forced_goes fdes s (Some c.frame) (first_in_all (Some c.frame) c.first) ∙ ap (stops_at s c.frame (at_cfa 0)) c.says ∙ stops_words s c.frame pad c.verdict c.selector c.given;
-          in_frame = in_frame s c.frame pad (outer_sp sp (calls c.inner)) st.registers c.is_frame;
+          in_frame = in_frame s c.frame pad (outer_sp sp (calls c.inner)) (regs_at (calls c.inner) (saved_of s)) st.registers c.is_frame (c.saved ∙ ap (regs_at (calls c.inner)) (first_saved s));
         })
     by (inr (inl x)) ends = inr (inl (x.terminated, ends_at x.frame (first_in_all (Some x.frame) x.first) x.says))
     by (inr (inr passed)) (inl first) =

@@ -1,5 +1,5 @@
 -- The pad that control comes to next in a forced unwind.
-use Rattle.std.proofs.Common.{◌≡◌, ◌∙◌, refl, ap, ℕ, ◌+◌, ℤ, pos, Bool, true, false, List, [], ◌∷◌, ◌++◌, inl, inr}
+use Rattle.std.proofs.Common.{◌≡◌, ◌∙◌, refl, ap, ℕ, ◌+◌, ◌≤◌, ℤ, pos, Bool, true, false, List, [], ◌∷◌, ◌++◌, length, inl, inr}
 use Rattle.std.specs.Prelude.{◌⊎◌, Some}
 use Rattle.table_forms.specs.declared.found.Verdict.TheVariants as abi_verdicts
 use Rattle.table_forms.specs.Fde.{Fde}
@@ -50,10 +50,10 @@ module _ (code : Code) (at : Function → ℕ → ℕ) (fdes : List Fde) (s : St
     says = says;
   }
 
-  behind : (next : Next) (f : Frame) (sp : ℕ) (o : Open) (os : List Open) → verdict_of s fdes forced f ≡ abi_verdicts.Nothing →
+  behind : (next : Next) (f : Frame) (sp : ℕ) (o : Open) (os : List Open) → length o.call.saved ≤ 10 → verdict_of s fdes forced f ≡ abi_verdicts.Nothing →
       Forced next (outward f sp o.call) (sp + o.call.size) os → Forced next f sp (o ∷ os)
-  behind next f sp o os says (inl comes) = inl (comes_behind code at fdes forced s tail rest goals.Cleanup Any (unwinding n) w next f sp o os abi_verdicts.Nothing says refl comes)
-  behind next f sp o os says (inr (inl stopped)) =
+  behind next f sp o os few says (inl comes) = inl (comes_behind code at fdes forced s tail rest goals.Cleanup Any (unwinding n) w next f sp o os abi_verdicts.Nothing few says refl comes)
+  behind next f sp o os few says (inr (inl stopped)) =
       let t = stopped.terminated in
       inr (inl (record {
         terminated = record { inner = o.activation ∷ t.inner; barring = t.barring; outer = t.outer; split = ap (λ l. o.activation ∷ l) t.split; terminates = t.terminates };
@@ -61,15 +61,15 @@ module _ (code : Code) (at : Function → ℕ → ℕ) (fdes : List Fde) (s : St
         first = passes_here s fdes forced goals.Cleanup f (frames_of (outward f sp o.call) (sp + o.call.size) (calls os) ++ rest) abi_verdicts.Nothing says refl ∙ stopped.first;
         says = stopped.says;
       }))
-  behind next f sp o os says (inr (inr passed)) =
+  behind next f sp o os few says (inr (inr passed)) =
       inr (inr (record {
         goes = passed.goes;
         first = passes_here s fdes forced goals.Cleanup f (frames_of (outward f sp o.call) (sp + o.call.size) (calls os) ++ rest) abi_verdicts.Nothing says refl ∙ passed.first;
       }))
 
-  past : (f : Frame) (sp : ℕ) (o : Open) (os : List Open) → IsFrame f sp → said s fdes forced f.pc ≡ told_of (at o.activation.function) (cover_of code o.activation) (forced_by_table code o.activation) →
+  past : (f : Frame) (sp : ℕ) (o : Open) (os : List Open) → IsFrame f sp → length o.call.saved ≤ 10 → said s fdes forced f.pc ≡ told_of (at o.activation.function) (cover_of code o.activation) (forced_by_table code o.activation) →
       Forced (forced_above code n (activations os ++ tail) w) (outward f sp o.call) (sp + o.call.size) os → Forced (forced_above code n (activations (o ∷ os) ++ tail) w) f sp (o ∷ os)
-  past f sp o os h agree next = by (cover_of code a) refl
+  past f sp o os h few agree next = by (cover_of code a) refl
     where
       a : Activation
       a = o.activation
@@ -81,15 +81,15 @@ module _ (code : Code) (at : Function → ℕ → ℕ) (fdes : List Fde) (s : St
           Forced (forced_by code b p n a.function a.frame (activations os ++ tail) w (forced_above code n (activations os ++ tail) w)) f sp (o ∷ os)
       by_test p chain true covers says =
           inl (comes_here code at fdes forced s tail rest goals.Cleanup Any (unwinding n) w _ f sp o os p chain clean (pos 0) h covers says refl refl tt refl)
-      by_test p chain false covers says = behind _ f sp o os says next
+      by_test p chain false covers says = behind _ f sp o os few says next
 
       by : (c : Cover) → cover_of code a ≡ c → Forced (forced_at code c n a.function a.frame (activations os ++ tail) w (forced_above code n (activations os ++ tail) w)) f sp (o ∷ os)
       by bare is = inr (inl (stopped_here _ f sp o os (v_is bare is) refl))
-      by unpadded is = behind _ f sp o os (v_is unpadded is) next
+      by unpadded is = behind _ f sp o os few (v_is unpadded is) next
       by (padded p chain) is = by_test p chain (has_cleanup (sense code a.function) chain) is (v_is (padded p chain) is)
 
   pub forces : (opens : List Open) (f : Frame) (sp : ℕ) → IsFrame f sp → CallsStand s fdes f.pc sp (calls opens) → TablesAgree code at (forced_by_table code) (said s fdes forced) f.pc opens →
       Forced (forced_above code n (activations opens ++ tail) w) f sp opens
   forces [] f sp h stand agree = inr (inr (record { goes = refl; first = refl }))
   forces (o ∷ os) f sp h stand agree =
-      past f sp o os h agree.0 (forces os (outward f sp o.call) (sp + o.call.size) (outward_frame s fdes f.pc f sp o.call stand.0) stand.1 agree.1)
+      past f sp o os h stand.0.few agree.0 (forces os (outward f sp o.call) (sp + o.call.size) (outward_frame s fdes f.pc f sp o.call stand.0) stand.1 agree.1)

@@ -1,5 +1,5 @@
 -- The pad that control comes to, over the frames of open calls and in linear code.
-use Rattle.std.proofs.Common.{◌≡◌, ◌∙◌, refl, ap, sym, arith, ℕ, ◌+◌, ◌==◌, ℤ, pos, negsuc, true, false, List, [], ◌∷◌, ◌++◌, length, if◌then◌else◌}
+use Rattle.std.proofs.Common.{◌≡◌, ◌∙◌, refl, ap, sym, arith, ℕ, ◌+◌, ◌≤◌, ◌==◌, ℤ, pos, negsuc, true, false, List, [], ◌∷◌, ◌++◌, length, if◌then◌else◌}
 use Rattle.std.specs.Prelude.{⊤, Some, None}
 use Rattle.std.proofs.lemmas.Bool.Decides.{nat_tests}
 use Rattle.table_forms.specs.declared.found.Verdict as abi
@@ -21,7 +21,7 @@ use Rattle.linear_forms.specs.Stub.{Function}
 use Rattle.linear_forms.specs.Activation.{Code, Activation, Next, finishes, fault, fetch, sense}
 use Rattle.linear_forms.specs.Search.{found_by, found_at, found_above}
 use Rattle.linear_forms.specs.Unwinding.{pad_entered, unwound_by, unwound_at, unwound_above}
-use Rattle.raise_simulation.specs.OpenCalls.{CallsStand, outward, frames_of, outer_sp}
+use Rattle.raise_simulation.specs.OpenCalls.{CallsStand, regs_at, outward, frames_of, outer_sp}
 use Rattle.raise_simulation.specs.Tables.{said}
 use Rattle.raise_simulation.specs.Verdicts.{in_words, told_of, judged_by, cover_of}
 use Rattle.raise_simulation.specs.Opens.{Open, activations, calls, TablesAgree}
@@ -29,6 +29,7 @@ use Rattle.raise_simulation.specs.Raises.{InFrame}
 use Rattle.raise_simulation.proofs.Outward.{IsFrame, outward_frame}
 use Rattle.raise_simulation.proofs.Asking.{verdict_is, stops_here, passes_here}
 use Rattle.raise_simulation.proofs.Registers.{all_length, pointer_set}
+use Rattle.raise_simulation.proofs.Keeping.{saved_in, outward_saved, installed_saved}
 use Rattle.raise_simulation.proofs.Searching.{none_and_some}
 
 -- the selector that a pad is given by a verdict
@@ -46,10 +47,11 @@ enters_words s g to pad clean k is = ap (installs s g to pad) (sym is)
 enters_words s g to pad nothing_here k is = absurd is
 
 -- and the hart is then in that frame
-pub in_frame : (s : State) (g : Frame) (pad sp : ℕ) → length s.regs ≡ 32 → IsFrame g sp → InFrame pad sp s (installed g pad s)
-in_frame s g pad sp many h = record {
+pub in_frame : (s : State) (g : Frame) (pad sp : ℕ) (regs : List ℕ) → length s.regs ≡ 32 → IsFrame g sp → saved_in g ≡ regs → InFrame pad sp regs s (installed g pad s)
+in_frame s g pad sp regs many h saved = record {
   pc = refl;
   pointer = pointer_set g.regs s.regs many ∙ h.pointer;
+  saved = installed_saved s g pad many ∙ saved;
   registers = all_length 32 0 g.regs s.regs ∙ many;
   memory = refl;
 }
@@ -68,6 +70,7 @@ module _ (code : Code) (at : Function → ℕ → ℕ) (fdes : List Fde) (thrown
     pub enters : next ≡ pad_entered (fetch code landing.activation.function pad) word selector landing.activation.function pad landing.activation.frame (activations outer ++ tail) w
     pub frame : Frame
     pub is_frame : IsFrame frame (outer_sp sp (calls inner))
+    pub saved : saved_in frame ≡ regs_at (calls inner) (saved_in f)
     pub first : first_in s fdes thrown goal (frames_of f sp (calls opens) ++ rest) ≡ Some frame
     pub verdict : Verdict
     pub says : verdict_of s fdes thrown frame ≡ in_words (at landing.activation.function pad) verdict
@@ -90,6 +93,7 @@ module _ (code : Code) (at : Function → ℕ → ℕ) (fdes : List Fde) (thrown
     enters = e;
     frame = f;
     is_frame = h;
+    saved = refl;
     first = stops_here s fdes thrown goal f (frames_of (outward f sp o.call) (sp + o.call.size) (calls os) ++ rest) (in_words (at o.activation.function p) v) says here;
     verdict = v;
     says = says;
@@ -98,9 +102,9 @@ module _ (code : Code) (at : Function → ℕ → ℕ) (fdes : List Fde) (thrown
   }
 
   -- or that of one behind it
-  pub comes_behind : (next : Next) (f : Frame) (sp : ℕ) (o : Open) (os : List Open) (v : abi.Verdict) → verdict_of s fdes thrown f ≡ v → stops fdes goal f v ≡ false →
+  pub comes_behind : (next : Next) (f : Frame) (sp : ℕ) (o : Open) (os : List Open) (v : abi.Verdict) → length o.call.saved ≤ 10 → verdict_of s fdes thrown f ≡ v → stops fdes goal f v ≡ false →
       Comes next (outward f sp o.call) (sp + o.call.size) os → Comes next f sp (o ∷ os)
-  comes_behind next f sp o os v says passes more = record {
+  comes_behind next f sp o os v few says passes more = record {
     inner = o ∷ more.inner;
     landing = more.landing;
     outer = more.outer;
@@ -112,6 +116,7 @@ module _ (code : Code) (at : Function → ℕ → ℕ) (fdes : List Fde) (thrown
     enters = more.enters;
     frame = more.frame;
     is_frame = more.is_frame;
+    saved = more.saved ∙ ap (regs_at (calls more.inner)) (outward_saved f sp o.call few);
     first = passes_here s fdes thrown goal f (frames_of (outward f sp o.call) (sp + o.call.size) (calls os) ++ rest) v says passes ∙ more.first;
     verdict = more.verdict;
     says = more.says;
@@ -141,6 +146,9 @@ module _ (code : Code) (at : Function → ℕ → ℕ) (fdes : List Fde) (thrown
       a : Activation
       a = o.activation
 
+      few : length o.call.saved ≤ 10
+      few = stand.0.few
+
       v_is : (c : Cover) → cover_of code a ≡ c → verdict_of s fdes thrown f ≡ told_of (at a.function) c (judged_by code a (type_at w e))
       v_is c is = verdict_is s fdes thrown f h.plain ∙ agree.0 ∙ ap (λ x. told_of (at a.function) x (judged_by code a (type_at w e))) is
 
@@ -157,11 +165,11 @@ module _ (code : Code) (at : Function → ℕ → ℕ) (fdes : List Fde) (thrown
       by_verdict next p chain clean covers says found =
           comes_here code at fdes thrown s tail rest goals.Pad Any (flying e d) w _ f sp o os p chain clean (pos 0) h covers says refl refl tt refl
       by_verdict next p chain nothing_here covers says found =
-          comes_behind code at fdes thrown s tail rest goals.Pad Any (flying e d) w _ f sp o os abi_verdicts.Nothing says refl (next found)
+          comes_behind code at fdes thrown s tail rest goals.Pad Any (flying e d) w _ f sp o os abi_verdicts.Nothing few says refl (next found)
 
       by : (found_above code (type_at w e) (activations os ++ tail) ≡ Some d → Landed (unwound_above code d e (activations os ++ tail) w) (outward f sp o.call) (sp + o.call.size) os) →
           (c : Cover) → cover_of code a ≡ c → found_at code.rows (sense code a.function) c (type_at w e) (length (activations os ++ tail)) (found_above code (type_at w e) (activations os ++ tail)) ≡ Some d →
           Landed (unwound_at code c d e a.function a.frame (activations os ++ tail) w (unwound_above code d e (activations os ++ tail) w)) f sp (o ∷ os)
       by next bare is found = absurd (cc found)
-      by next unpadded is found = comes_behind code at fdes thrown s tail rest goals.Pad Any (flying e d) w _ f sp o os abi_verdicts.Nothing (v_is unpadded is) refl (next found)
+      by next unpadded is found = comes_behind code at fdes thrown s tail rest goals.Pad Any (flying e d) w _ f sp o os abi_verdicts.Nothing few (v_is unpadded is) refl (next found)
       by next (padded p chain) is found = by_verdict next p chain (judged_by code a (type_at w e) chain) is (v_is (padded p chain) is) found

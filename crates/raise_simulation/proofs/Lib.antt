@@ -1,8 +1,10 @@
 mod Offsets
+mod Rules
 mod Outward
 mod Walking
 mod Asking
 mod Registers
+mod Keeping
 mod Searching
 mod Landing
 mod Resuming

@@ -1,5 +1,5 @@
 -- The registers of a hart that enters a frame.
-use Rattle.std.proofs.Common.{◌≡◌, ◌≢◌, ◌∙◌, refl, ap, arith, ℕ, zero, suc, ◌+◌, ◌<◌, ◌==◌, Bool, true, false, List, length, slice_set, length-set, if◌then◌else◌}
+use Rattle.std.proofs.Common.{◌≡◌, ◌≢◌, ◌∙◌, refl, sym, ap, arith, ℕ, zero, suc, ◌+◌, ◌<◌, ◌≤◌, ◌==◌, Bool, true, false, List, length, slice_set, length-set, if◌then◌else◌}
 use Rattle.std.specs.Prelude.{slice_index}
 use Rattle.std.proofs.lemmas.List.{get_or-set_same, get_or-set_other}
 use Rattle.std.proofs.lemmas.Bool.Decides.{nat_tests}
@@ -48,10 +48,16 @@ later : (k n : ℕ) (values regs : List ℕ) → with_registers n (suc k) values
 unfolding with_registers
 later k n values regs = refl
 
+-- each register from the first on is set, but x0
+pub register_set : (k n m : ℕ) (values regs : List ℕ) → n ≤ m → m < n + k → 0 < m → m < length regs → reg_of (with_registers n k values regs) m ≡ slice_index values m
+register_set zero n m values regs from to some room = absurd (omega (arith, from, to))
+register_set (suc k) n m values regs from to some room = by (λ next. register_set k (n + 1) m values (with_reg regs n (slice_index values n)) next (omega (arith, to)) some (omega (arith, room, with_length regs n (slice_index values n)))) (n == m) refl
+  where
+    by : (n + 1 ≤ m → reg_of (with_registers (n + 1) k values (with_reg regs n (slice_index values n))) m ≡ slice_index values m) → (b : Bool) → (n == m) ≡ b →
+        reg_of (with_registers n (suc k) values regs) m ≡ slice_index values m
+    by more true e = let same : m ≡ n = grind (arith, nat_tests, e) in ap (λ j. reg_of (with_registers j (suc k) values regs) m) (sym same) ∙ here k m values regs some room
+    by more false e = let next : n + 1 ≤ m = grind (arith, nat_tests, e, from) in ap (λ l. reg_of l m) (later k n values regs) ∙ more next
+
 -- sp, which is register 2
 pub pointer_set : (values regs : List ℕ) → length regs ≡ 32 → reg_of (with_registers 0 32 values regs) 2 ≡ slice_index values 2
-pointer_set values regs many =
-    let one : List ℕ = with_reg regs 0 (slice_index values 0) in
-    let two : List ℕ = with_reg one 1 (slice_index values 1) in
-    let room : length two ≡ 32 = with_length one 1 (slice_index values 1) ∙ with_length regs 0 (slice_index values 0) ∙ many in
-    ap (λ l. reg_of l 2) (later 31 0 values regs ∙ later 30 1 values one) ∙ here 29 2 values two (omega arith) (omega (arith, room))
+pointer_set values regs many = register_set 32 0 2 values regs (omega arith) (omega arith) (omega arith) (omega (arith, many))

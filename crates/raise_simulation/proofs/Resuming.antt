@@ -1,5 +1,5 @@
 -- The pad that control comes to next, where a raise goes on towards its target.
-use Rattle.std.proofs.Common.{◌≡◌, ◌∙◌, refl, ap, sym, arith, ℕ, ◌+◌, ◌<◌, ◌==◌, ℤ, pos, negsuc, Bool, true, false, List, [], ◌∷◌, ◌++◌, length, inl, inr, if◌then◌else◌}
+use Rattle.std.proofs.Common.{◌≡◌, ◌∙◌, refl, ap, sym, arith, ℕ, ◌+◌, ◌<◌, ◌≤◌, ◌==◌, ℤ, pos, negsuc, Bool, true, false, List, [], ◌∷◌, ◌++◌, length, inl, inr, if◌then◌else◌}
 use Rattle.std.specs.Prelude.{◌⊎◌, ◌||◌, Some}
 use Rattle.std.proofs.lemmas.Bool.Decides.{nat_tests}
 use Rattle.table_forms.specs.declared.found.Verdict.TheVariants as abi_verdicts
@@ -76,11 +76,11 @@ module _ (code : Code) (at : Function → ℕ → ℕ) (fdes : List Fde) (thrown
       by true is = ap (λ x. x || true) is
       by false is = ap (λ x. x || true) is
 
-  behind : (d : ℕ) (next : Next) (f : Frame) (sp : ℕ) (o : Open) (os : List Open) → verdict_of s fdes thrown f ≡ abi_verdicts.Nothing → is_at fdes cfa f ≡ false →
+  behind : (d : ℕ) (next : Next) (f : Frame) (sp : ℕ) (o : Open) (os : List Open) → length o.call.saved ≤ 10 → verdict_of s fdes thrown f ≡ abi_verdicts.Nothing → is_at fdes cfa f ≡ false →
       Resumed d next (outward f sp o.call) (sp + o.call.size) os → Resumed d next f sp (o ∷ os)
-  behind d next f sp o os says other (inl comes) =
-      inl (comes_behind code at fdes thrown s tail rest (goals.UpTo cfa) IsBefore (flying e d) w next f sp o os abi_verdicts.Nothing says (ap (λ b. b || false) other) comes)
-  behind d next f sp o os says other (inr (inl barred)) =
+  behind d next f sp o os few says other (inl comes) =
+      inl (comes_behind code at fdes thrown s tail rest (goals.UpTo cfa) IsBefore (flying e d) w next f sp o os abi_verdicts.Nothing few says (ap (λ b. b || false) other) comes)
+  behind d next f sp o os few says other (inr (inl barred)) =
       let t = barred.terminated in
       inr (inl (record {
         terminated = record { inner = o.activation ∷ t.inner; barring = t.barring; outer = t.outer; split = ap (λ l. o.activation ∷ l) t.split; terminates = t.terminates };
@@ -88,7 +88,7 @@ module _ (code : Code) (at : Function → ℕ → ℕ) (fdes : List Fde) (thrown
         first = passes_here s fdes thrown (goals.UpTo cfa) f (frames_of (outward f sp o.call) (sp + o.call.size) (calls os) ++ rest) abi_verdicts.Nothing says (ap (λ b. b || false) other) ∙ barred.first;
         says = barred.says;
       }))
-  behind d next f sp o os says other (inr (inr lost)) = inr (inr lost)
+  behind d next f sp o os few says other (inr (inr lost)) = inr (inr lost)
 
   stops_target : (f : Frame) (pad : ℕ) (n : ℤ) → is_at fdes cfa f ≡ true → stops fdes (goals.UpTo cfa) f (in_words pad (target n)) ≡ true
   stops_target f pad (pos n) is = ap (λ b. b || false) is
@@ -121,11 +121,11 @@ module _ (code : Code) (at : Function → ℕ → ℕ) (fdes : List Fde) (thrown
       by_verdict p chain no_way covers says = inr (inl (barred_here _ f sp o os says refl false other))
       by_verdict p chain clean covers says =
           inl (comes_here code at fdes thrown s tail rest (goals.UpTo cfa) IsBefore (flying e d) w _ f sp o os p chain clean (pos 0) h covers says refl (ap (λ b. b || true) other) (λ same. other) refl)
-      by_verdict p chain nothing_here covers says = behind d _ f sp o os says other next
+      by_verdict p chain nothing_here covers says = behind d _ f sp o os stand.0.few says other next
 
       by : (c : Cover) → cover_of code a ≡ c → Resumed d (unwound_at code c d e a.function a.frame (activations os ++ tail) w (unwound_above code d e (activations os ++ tail) w)) f sp (o ∷ os)
       by bare is = inr (inl (barred_here _ f sp o os (v_is bare is) refl false other))
-      by unpadded is = behind d _ f sp o os (v_is unpadded is) other next
+      by unpadded is = behind d _ f sp o os stand.0.few (v_is unpadded is) other next
       by (padded p chain) is = by_verdict p chain (judged_by code a (type_at w e) chain) is (v_is (padded p chain) is)
 
   pub resumes : (inner : List Open) (stopping : Open) (outer : List Open) (p : ℕ) (chain : List ℤ) (n : ℤ) → cover_of code stopping.activation ≡ padded p chain → judged_by code stopping.activation (type_at w e) chain ≡ target n →

@@ -12,19 +12,21 @@ use Rattle.linear_forms.specs.Stub.{Function}
 use Rattle.linear_forms.specs.Activation.{Code, Activation, Next, fetch}
 use Rattle.linear_forms.specs.Search.{found_above}
 use Rattle.linear_forms.specs.Unwinding.{pad_entered, terminated_in, unwound_above}
-use Rattle.raise_simulation.specs.OpenCalls.{outer_sp}
+use Rattle.machine_pieces.specs.Keeping.{saved_of}
+use Rattle.raise_simulation.specs.OpenCalls.{outer_sp, regs_at}
 use Rattle.raise_simulation.specs.Verdicts.{cover_of, judged_by}
 use Rattle.raise_simulation.specs.Opens.{Open, activations, calls, StackStands, cfa_with, table_with}
 
--- a state in which control has entered a pad of the frame at sp
-pub record InFrame (pad sp : ℕ) (old new : State) : Type 0 where
+-- a state in which control has entered a pad of the frame at sp, with these numbers in the registers of kept variables
+pub record InFrame (pad sp : ℕ) (regs : List ℕ) (old new : State) : Type 0 where
   pub pc : new.pc ≡ pad
   pub pointer : reg_of new.regs 2 ≡ sp
+  pub saved : saved_of new ≡ regs
   pub registers : length new.regs ≡ 32
   pub memory : new.memory ≡ old.memory
 
 -- Control comes to a landing pad of one of the open calls: linear code enters it with a word and a selector, and the unwinder installs it, with the
--- canonical frame address and the exception table of its target.
+-- canonical frame address and the exception table of its target. The registers of kept variables hold what the calls that it passes have saved.
 pub record Lands (code : Code) (at : Function → ℕ → ℕ) (word : Word) (w : World) (s : State) (sp : ℕ) (opens : List Open) (tail : List Activation) (cfa table : ℕ) (next : Next) (result : Raised × State) : Type 0 where
   pub inner : List Open
   pub landing : Open
@@ -37,7 +39,7 @@ pub record Lands (code : Code) (at : Function → ℕ → ℕ) (word : Word) (w 
   pub enters : next ≡ pad_entered (fetch code landing.activation.function pad) word selector landing.activation.function pad landing.activation.frame (activations outer ++ tail) w
   pub after : State
   pub installs : result ≡ (answers.Install (at landing.activation.function pad) selector cfa table, after)
-  pub in_frame : InFrame (at landing.activation.function pad) (outer_sp sp (calls inner)) s after
+  pub in_frame : InFrame (at landing.activation.function pad) (outer_sp sp (calls inner)) (regs_at (calls inner) (saved_of s)) s after
 
 -- the call of an open call where nothing may come out calls terminate
 pub record IsTerminated (w : World) (opens : List Open) (tail : List Activation) (next : Next) : Type 0 where

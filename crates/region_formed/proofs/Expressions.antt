@@ -1,5 +1,5 @@
 -- What an expression that breaks no rule becomes passes its tests, as does a call.
-use Rattle.std.proofs.Common.{◌≡◌, ◌+◌, ◌<◌, ◌==◌, ℕ, pos, nat_lt, codes, bytes_eq, Bool, true, false, List, [], ◌∷◌, drop, length, Option, Some, None, if◌then◌else◌, refl, sym, subst, arith}
+use Rattle.std.proofs.Common.{◌≡◌, ◌+◌, ◌==◌, ℕ, pos, codes, bytes_eq, Bool, true, false, List, [], ◌∷◌, drop, length, Option, Some, None, if◌then◌else◌, refl, sym, subst, arith, not}
 use Rattle.std.proofs.lemmas.Bool.Decides.{nat_tests}
 use Rattle.std.specs.Cmp.Derive.{both_true}
 use Rattle.cxx_ast.specs.declared.name.Name.{Name}
@@ -10,14 +10,14 @@ use Rattle.cxx_ast.specs.declared.name.Builtin.TheVariants.{SetTerminate, SetUne
 use Rattle.cxx_ast.specs.declared.types.Ty.{Ty}
 use Rattle.cxx_ast.specs.declared.expression.BinaryOp.{BinaryOp}
 use Rattle.cxx_ast.specs.declared.expression.BinaryOp.TheVariants.{And, Or, NotEqual}
-use Rattle.cxx_ast.specs.Rule.{arity}
-use Rattle.cxx_ast.specs.Finding.{breaks}
+use Rattle.cxx_ast.specs.Rule.{arity, main_use, handler_form}
+use Rattle.cxx_ast.specs.Finding.{breaks, breaks_if}
 use Rattle.cxx_ast.specs.Plain.{Expression, number, path, paren, unary, binary, call, std_call, Expressions, no_expressions, expression_then}
 use Rattle.cxx_ast.specs.declared.types.Param.{Param}
 use Rattle.region_ir.specs.AtNumber.{called_function}
 use Rattle.region_formed.proofs.Slots.{temporary_at, int_in}
 use Rattle.std.proofs.lemmas.List.{length-map}
-use Rattle.cxx_ast.specs.Environment.{Kind, Passing, Scope, Meaning, unknown, a_local, a_field, a_method, a_global, a_function, a_class, a_builtin}
+use Rattle.cxx_ast.specs.Environment.{Kind, Passing, Scope, Meaning, unknown, a_local, a_field, a_method, a_global, a_function, a_class, a_builtin, Signature, same_kind, void_kind}
 use Rattle.cxx_ast.specs.Lookup.{look}
 use Rattle.cxx_ast.specs.Reference.{Judgement, int_wanted, int_found}
 use Rattle.cxx_ast.specs.Calls.{std_builtin, broken_call, if_sound, ints_found, handler_meant, handler_found, builtin_ints, builtin_kind}
@@ -32,15 +32,16 @@ use Rattle.region_forms.specs.LowerExpression.{handler_arguments, call_dropped, 
 use Rattle.region_forms.specs.Mentioned.{slots_of, slots_of_root, slots_of_arguments}
 use Rattle.region_forms.specs.WellFormed.{count_of, int_place}
 use Rattle.region_forms.specs.Layout.{layout_of}
-use Rattle.region_ir.proofs.AtNumber.{number_within}
-use Rattle.region_formed.proofs.Fine.{Fine, fine_parts}
-use Rattle.region_formed.proofs.Meant.{ParamsMeant, Shaped, numbered, Given, lowering_in, slots_in, regions_in, Reach, MeaningMeant}
+use Rattle.region_formed.proofs.Fine.{Fine, fine_parts, held}
+use Rattle.region_formed.proofs.Meant.{ParamsMeant, Shaped, numbered, Given, lowering_in, slots_in, regions_in, Reach, MeaningMeant, FunctionThere}
 use Rattle.region_formed.proofs.Meanings.{look_meant}
 use Rattle.region_formed.proofs.Paths.{path_meant}
 use Rattle.region_formed.proofs.Called.{Callable, calls_function, calls_method, calls_builtin, builds, bound_called, CalledFine, CallMeant, called, std_called}
 use Rattle.region_formed.proofs.Arguments.{typed_kind, Suited, SuitedOne, suited, ints_suited}
 use Rattle.region_formed.proofs.Passing.{Pass, ArgumentsPass, Behind, of_max, then_pass, one_then, none_pass, one_pass, with_last, stored_passes, branch_passes, number_passes, binary_passes, loaded_passes, no_arguments_pass, int_first, address_first, LoweredPasses, GivenPass, CallPasses, temporary_passes}
-use Rattle.region_formed.proofs.Fitting.{call_fits, shaped_passed, same_number, arguments_counted, arguments_fit, parameter_slots}
+use Rattle.region_formed.proofs.Fitting.{call_fits, shaped_passed, same_number, arguments_counted, arguments_fit, parameter_slots, handler_fits}
+use Rattle.std.specs.Prelude.{◌&&◌}
+use Rattle.std.proofs.lemmas.Bool.{and_parts}
 
 -- two operands
 both_pass : {g : Given} {a : Lowered} → (o : BinaryOp) (calls : Bool) (t : ℕ) (b : ℕ → Lowered) → Behind g t → LoweredPasses g a →
@@ -105,23 +106,27 @@ params_shaped n [] (x ∷ xs) h = absurd h
 params_shaped n (q ∷ qs) [] h = absurd h
 params_shaped n (q ∷ qs) (x ∷ xs) h = (h.0.reference, h.0.passed, typed_kind n q.kind (object_type x.ty) h.0.typed, params_shaped n qs xs h.1)
 
--- the function that is given to set_terminate or set_unexpected is there
+-- the function that is given to set_terminate or set_unexpected is there, and has no parameters
 handler_given : (g : Given) (sc : Scope) → Reach g sc → (place : ℕ) (es : Expressions) → Fine g.defined (handler_found g.env sc place (all_judged g.env sc es)) →
     ArgumentsPass g (handler_arguments (function_named (resolve_expressions g.env sc es)))
 handler_given g sc r place no_expressions f = absurd f
 handler_given g sc r place (expression_then e (expression_then x es)) f = absurd f
 handler_given g sc r place (expression_then (path (n ∷ [])) no_expressions) f = by (look g.env sc n) (look_meant g sc r n) f
   where
-    there : (n : ℕ) → n < length g.program.functions → ArgumentsPass g (handler_argument n ∷ [])
-    there n below =
-        let less = number_within g.program (layout_of g.program) (function n) below in
-        let within : nat_lt n (length (regions_in g).functions) ≡ true = grind (arith, nat_tests, less) in
-        record { holds = λ few. both_true within refl }
+    there : (n : ℕ) (s : Signature) → FunctionThere g.program n s → (length s.parameters == 0) ≡ true → ArgumentsPass g (handler_argument n ∷ [])
+    there n s h none =
+        let f = function_at g.program n in
+        let same = (shaped_passed s.parameters (types_of f.parameters) h.1).1 in
+        let parameters = length-map f.parameters (λ x. x.ty) in
+        let nothing : (0 + length f.parameters == 0) ≡ true = grind (arith, nat_tests, same, parameters, none) in
+        record { holds = λ few. both_true (handler_fits g.program (layout_of g.program) (function n) (slots_in g) h.0 nothing) refl }
 
     by : (m : Meaning) → MeaningMeant g m → Fine g.defined (handler_meant n.place m) → ArgumentsPass g (handler_arguments (function_number_bound (bound_of g.env m)))
     by (a_function s) h q =
         subst (λ d. ArgumentsPass g (handler_argument (numbered d s.name.text) ∷ [])) (sym g.meant.definitions)
-        (there (numbered g.defined s.name.text) (h.there q.0).0)
+        (there (numbered g.defined s.name.text) s (h.there q.0)
+        (and_parts (same_kind s.result void_kind) (length s.parameters == 0) (held g.defined (same_kind s.result void_kind && length s.parameters == 0) handler_form n.place
+        (fine_parts g.defined (breaks_if (bytes_eq s.name.text (codes "main")) main_use n.place) (breaks_if (not (same_kind s.result void_kind && length s.parameters == 0)) handler_form n.place) q.1).1)).1)
     by unknown h q = absurd q
     by (a_local v) h q = absurd q
     by (a_field k i kind) h q = absurd q

@@ -13,12 +13,12 @@ use Rattle.cxx_ast.specs.ExpressionRules.{all_judged}
 use Rattle.cxx_ast.specs.Resolve.{resolve_expressions}
 use Rattle.meaning_forms.specs.Running.{Callee}
 use Rattle.meaning_forms.specs.Expression.{count_of as expressions_count, lvalue_of, names_of, types_of, is_reference}
-use Rattle.region_forms.specs.Form.{load, int_argument, address_argument, int_slot, Slot, Region, Arguments, arguments_from, function_at, no_function as no_region_function, kind_of, kinds_of}
+use Rattle.region_forms.specs.Form.{load, int_argument, address_argument, int_slot, Slot, Region, Arguments, arguments_from, function_at, no_function as no_region_function, kind_of, kinds_of, handler_argument}
 use Rattle.region_forms.specs.Layout.{Layout}
 use Rattle.region_forms.specs.Numbering.{number_of, declared_in_body, variables_of}
 use Rattle.region_forms.specs.LowerExpression.{slot_place, Lowering, Lowered, LoweredArguments, some_call, address_passed, int_passed, refers, place_of, lower, lower_arguments}
 use Rattle.region_forms.specs.LowerProgram.{slot_for, own_slots, slots_for, regions_of}
-use Rattle.region_forms.specs.WellFormed.{fits, fit, count_of, call_test}
+use Rattle.region_forms.specs.WellFormed.{fits, fit, count_of, call_test, argument_test}
 use Rattle.region_ir.specs.AtNumber.{IsThere, called_function}
 use Rattle.region_ir.proofs.AtNumber.{at_number, number_within}
 use Rattle.region_formed.proofs.Meant.{IsPassed, Shaped}
@@ -33,6 +33,15 @@ call_fits p l c filled args there counts fitting =
     let within : nat_lt (number_of p c) (length (regions_of p l).functions) ≡ true = grind (arith, nat_tests, less) in
     let same : function_at (regions_of p l) (number_of p c) ≡ called_function p l c = ap (λ o. unwrap_or o no_region_function) (at_number p l c there) in
     both_true within (both_true (ap (λ g. filled + count_of args == g.parameters) same ∙ counts) (ap (λ g. fit g.slots filled args) same ∙ fitting))
+
+-- a function without parameters may become a handler
+pub handler_fits : (p : Checked) (l : Layout) (c : Callee) (slots : List Slot) → IsThere p c → ((called_function p l c).parameters == 0) ≡ true →
+    argument_test (regions_of p l) slots (handler_argument (number_of p c)) ≡ true
+handler_fits p l c slots there none =
+    let less = number_within p l c there in
+    let within : nat_lt (number_of p c) (length (regions_of p l).functions) ≡ true = grind (arith, nat_tests, less) in
+    let same : function_at (regions_of p l) (number_of p c) ≡ called_function p l c = ap (λ o. unwrap_or o no_region_function) (at_number p l c there) in
+    both_true within (ap (λ g. g.parameters == 0) same ∙ none)
 
 -- each type is one of a parameter
 abbrev pub AllPassed : List Ty → Type 0

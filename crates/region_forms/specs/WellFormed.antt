@@ -69,11 +69,11 @@ pure_value r slots (unary o v) = pure_value r slots v
 pure_value r slots (binary o a b) = pure_value r slots a && pure_value r slots b
 pure_value r slots (call_value c args) = false
 
--- an argument makes no call, and names what is there
+-- an argument makes no call, and names what is there; what is given as a handler has no parameters
 abbrev pub argument_test : Regions → List Slot → Argument → Bool
 argument_test r slots (int_argument v) = pure_value r slots v
 argument_test r slots (address_argument p) = address_place r slots p
-argument_test r slots (handler_argument n) = nat_lt n (length r.functions)
+argument_test r slots (handler_argument n) = nat_lt n (length r.functions) && (function_at r n).parameters == 0
 
 -- arguments, each of them so
 abbrev pub arguments_test : Regions → List Slot → Arguments → Bool

@@ -8,10 +8,10 @@ use Rattle.eh_bytes.specs.Listed.{listed_function}
 use Rattle.linear_forms.specs.Linear.{FunctionCode, LinearOp}
 use Rattle.linear_forms.specs.Tables.{label_place}
 use Rattle.machine_forms.specs.Piece.{Piece}
-use Rattle.machine_forms.specs.Shape.{Shape, prologue}
+use Rattle.machine_forms.specs.Shape.{Shape}
 use Rattle.machine_forms.specs.LinearCode.{linear_code}
 use Rattle.machine_forms.specs.Routine.{Routine, listed_routine, listed_routines, routine_words}
-use Rattle.machine_forms.specs.Emitted.{function_routine, shape_of}
+use Rattle.machine_forms.specs.Emitted.{function_front, function_routine, shape_of}
 use Rattle.rv64_emit.specs.declared.body.Body.{Body}
 use Rattle.rv64_emit.specs.Body.{StandsFor}
 use Rattle.rv64_emit.specs.Starts.{starts_from}
@@ -28,12 +28,12 @@ next_listed listed f end end' r rs e next =
 
 -- the code of a function
 pub body_stands : (b : Body) (g : FunctionCode) (frame : Shape) (none some : List Piece) (ops : List LinearOp) (count : ℕ) → frame ≡ shape_of g → none ≡ [] →
-    some ≡ none ++ prologue frame → ops ≡ g.ops → b.code ≡ some ++ flat_map (λ x. x) (map (linear_code frame) ops) →
+    some ≡ none ++ function_front frame g.parameters → ops ≡ g.ops → b.code ≡ some ++ flat_map (λ x. x) (map (linear_code frame) ops) →
     b.starts.words.items ≡ starts_from (length some) (map (linear_code frame) ops) → b.starts.end ≡ length b.code → count ≡ length ops →
     ((l : ℕ) → unwrap_or (get nat_eq b.labels l) count ≡ label_place ops l 0) → StandsFor b (function_routine g)
 body_stands b g frame none some ops count ef en es eo code words end ec labels =
     let r = function_routine g in
-    let front : some ≡ r.front = es ∙ (ap (λ l. l ++ prologue frame) en ∙ ap prologue ef) in
+    let front : some ≡ r.front = es ∙ (ap (λ l. l ++ function_front frame g.parameters) en ∙ ap (λ s. function_front s g.parameters) ef) in
     let blocks : map (linear_code frame) ops ≡ r.blocks = ap (λ s. map (linear_code s) ops) ef ∙ ap (map (linear_code (shape_of g))) eo in
     let whole : b.code ≡ r.front ++ flat_map (λ x. x) r.blocks
     = code ∙ (ap (λ l. l ++ flat_map (λ x. x) (map (linear_code frame) ops)) front ∙ ap (λ l. r.front ++ flat_map (λ x. x) l) blocks) in

@@ -6,10 +6,14 @@ pub mod FiltersThere
 pub mod Firsts
 pub mod Guarded
 pub mod Inside
+pub mod Marking
 pub mod Listed
-pub mod Moves
+pub mod MovesFit
 pub mod Offset
+pub mod Registered
 pub mod SameChain
+pub mod Saved
+pub mod Staying
 pub mod SitesInside
 pub mod Turns
 pub mod Weight

@@ -6,6 +6,6 @@ use Rattle.region_forms.specs.Form.{Value, number, load, unary, binary, call_val
 abbrev pub weight : Value → ℕ
 weight (number v) = 0
 weight (load p) = 0
-weight (unary o v) = weight v + 1
-weight (binary o a b) = weight a + weight b + 3
+weight (unary o v) = weight v + 2
+weight (binary o a b) = weight a + weight b + 5
 weight (call_value c args) = 0

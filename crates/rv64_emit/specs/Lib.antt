@@ -1,5 +1,6 @@
 pub mod View
 pub mod Offsets
+pub mod Marks
 pub mod Starts
 pub mod Body
 pub mod Places

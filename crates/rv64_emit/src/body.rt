@@ -2,7 +2,7 @@
 ghost use Rattle.std.specs.Prelude.{◌≡◌, ◌++◌, IfOk, OnOk, length, map};
 ghost use Rattle.std.specs.List.{flat_map};
 ghost use Rattle.landing_pads.specs.View.{code_of, linear_of};
-ghost use Rattle.machine_forms.specs.Emitted.{function_routine};
+ghost use Rattle.machine_forms.specs.Emitted.{function_front, function_routine, shape_of};
 ghost use Rattle.machine_forms.specs.LinearCode.{linear_code};
 ghost use Rattle.rv64_emit.specs.Body.{StandsFor};
 ghost use Rattle.rv64_emit.specs.Starts.{starts_from};
@@ -12,6 +12,7 @@ use crate::code::Code;
 use crate::labels::places_of_labels;
 use crate::linear::put_linear;
 use crate::numbers::behind;
+use crate::saving::put_saves;
 use crate::shape::{Frame, put_prologue};
 use crate::starts::Starts;
 use indexmap::IndexMap;
@@ -46,14 +47,22 @@ fn put_operations(
     Ok(Starts { words, end })
 }
 
-/// The code of a function.
-pub fn body_of(alloc: Global, function: &FuncCode) -> Result<Body, NoMemory>
+// The beginning of a function: its prologue, then its kept variables.
+fn put_front(frame: &Frame<'_>, parameters: u32, code: &mut Code) -> Result<(), NoMemory>
+    ensures { OnOk result (code.new ≡ code.old ++ function_front frame.now parameters) }
+{
+    put_prologue(frame, code)?;
+    put_saves(frame, parameters, code)
+}
+
+/// The code of a function with such a frame.
+pub fn body_of(alloc: Global, frame: &Frame<'_>, function: &FuncCode) -> Result<Body, NoMemory>
+    requires { frame.now ≡ shape_of (code_of function.now) }
     ensures { IfOk result (λ b. StandsFor b (function_routine (code_of function.now))) }
 {
-    let frame = Frame::new(alloc, function)?;
     let mut code = Code::new(alloc);
-    put_prologue(&frame, &mut code)?;
-    let starts = put_operations(alloc, &frame, function.ops.as_slice(), &mut code)?;
+    put_front(frame, function.params, &mut code)?;
+    let starts = put_operations(alloc, frame, function.ops.as_slice(), &mut code)?;
     let labels = places_of_labels(alloc, function.ops.as_slice())?;
     Ok(Body {
         code,

@@ -14,7 +14,7 @@ use crate::piece::{Function, Piece, Target};
 use crate::place::{put_address, put_target};
 use crate::register::{ra, register, sp};
 use crate::shape::Frame;
-use crate::value::put_value;
+use crate::value::{put_operand, put_value};
 use region_ir::value::{Arg, Callee};
 use rv64_isa::{Instr, Register};
 
@@ -23,7 +23,7 @@ fn put_argument(frame: &Frame<'_>, k: u32, argument: &Arg, code: &mut Code) -> R
     ensures { OnOk result (code.new ≡ code.old ++ rules.argument_code frame.now k (argument_of argument.now)) }
 {
     match argument {
-        Arg::Int(value) => put_value(frame, k, value, code),
+        Arg::Int(value) => put_value(frame, register(k), k, value, code),
         Arg::Address(place) => put_address(frame, register(k), *place, code),
         Arg::Handler(function) => {
             let entry = Target::Entry(Function::Compiled(*function));
@@ -39,6 +39,27 @@ pub fn pass(value: Register, i: u32) -> Instr
     Instr::Sd(sp(), value, immediate(-8 * (i64::from(i) + 1)))
 }
 
+// The i-th argument is passed: an int from where it is read, anything else from the first register.
+fn put_argument_passed(
+    frame: &Frame<'_>,
+    i: u32,
+    argument: &Arg,
+    code: &mut Code,
+) -> Result<(), NoMemory>
+    ensures { OnOk result (code.new ≡ code.old ++ rules.argument_passed frame.now i (argument_of argument.now)) }
+{
+    match argument {
+        Arg::Int(value) => {
+            let x = put_operand(frame, 0, value, code)?;
+            code.put(pass(x, i))
+        }
+        _ => {
+            put_argument(frame, 0, argument, code)?;
+            code.put(pass(register(0), i))
+        }
+    }
+}
+
 /// Arguments are passed, from the i-th on.
 pub fn put_passed(
     frame: &Frame<'_>,
@@ -50,8 +71,7 @@ pub fn put_passed(
 {
     let mut next = i;
     for argument in arguments {
-        put_argument(frame, 0, argument, code)?;
-        code.put(pass(register(0), next))?;
+        put_argument_passed(frame, next, argument, code)?;
         next = behind(next, 1)?;
     }
     Ok(())

@@ -13,6 +13,7 @@ use crate::piece::{Function, Piece};
 use crate::place::{int_load, put_number, slot_load, slot_store};
 use crate::register::{a0, a1};
 use crate::runtime_call::{FREE, RESUME, put_runtime_call, put_zero};
+use crate::saving::put_restores;
 use crate::shape::{Frame, put_epilogue};
 use crate::test::put_test;
 use landing_pads::unit::LinearOp;
@@ -92,6 +93,7 @@ pub fn put_linear(frame: &Frame<'_>, operation: &LinearOp, code: &mut Code) -> R
         }
         LinearOp::Return(slot) => {
             put_result(frame, *slot, code)?;
+            put_restores(frame, code)?;
             put_epilogue(frame, code)
         }
     }

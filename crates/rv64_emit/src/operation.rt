@@ -1,18 +1,19 @@
 // The code of operations of regions.
-ghost use Rattle.std.specs.Prelude.{◌≡◌, ◌++◌, OnOk};
+ghost use Rattle.std.specs.Prelude.{◌≡◌, ◌++◌, IfOk, OnOk};
 ghost use Rattle.region_ir.specs.View.{arguments_of, operation_of, place_of, value_of};
 ghost use Rattle.region_forms.specs.Form.{throw};
+ghost use Rattle.machine_forms.specs.KeptCode.{root_register};
 ghost use Rattle.machine_forms.specs.OperationCode as rules;
 
 use crate::NoMemory;
 use crate::call::{pass, put_call, put_function_call, put_passed, put_valued_call};
 use crate::code::Code;
 use crate::piece::{Function, Target};
-use crate::place::{put_address, put_number, put_store, put_target, slot_load, slot_store};
+use crate::place::{copy, put_address, put_number, put_store, put_target, slot_load, slot_store};
 use crate::register::{a0, a1, a2, register};
 use crate::runtime_call::{ALLOCATE, BEGIN_CATCH, RETHROW, THROW, put_runtime_call};
 use crate::shape::Frame;
-use crate::value::put_value;
+use crate::value::{put_operand, put_value};
 use region_ir::operation::RegionOp;
 use region_ir::place::Place;
 use region_ir::value::{Arg, Value};
@@ -29,16 +30,52 @@ fn put_dropped(frame: &Frame<'_>, value: &Value, code: &mut Code) -> Result<(), 
     }
 }
 
-// A value in the first register, where a call may stand at its top.
+// A value, at whose top a call may stand; gives the register in which it is then.
 #[tactic(auto, using(region_ir::proofs::Rows::rows))]
-fn put_whole(frame: &Frame<'_>, value: &Value, code: &mut Code) -> Result<(), NoMemory>
-    ensures { OnOk result (code.new ≡ code.old ++ rules.whole_value frame.now (value_of value.now)) }
+fn put_whole(frame: &Frame<'_>, value: &Value, code: &mut Code) -> Result<Register, NoMemory>
+    ensures code { OnOk result (code.new ≡ code.old ++ rules.whole_value frame.now (value_of value.now)) }
+    ensures register { IfOk result (λ r. r ≡ rules.whole_register frame.now (value_of value.now)) }
 {
     match value {
         Value::Call(callee, arguments) => {
-            put_valued_call(frame, *callee, arguments.as_slice(), code)
+            put_valued_call(frame, *callee, arguments.as_slice(), code)?;
+            Ok(register(0))
         }
-        _ => put_value(frame, 0, value, code),
+        _ => put_operand(frame, 0, value, code),
+    }
+}
+
+// A kept variable gets a value. An operator or a number writes its register itself; all else comes from another register, so that no load
+// writes it but at a function's end.
+fn put_kept(frame: &Frame<'_>, rd: Register, value: &Value, code: &mut Code) -> Result<(), NoMemory>
+    ensures { OnOk result (code.new ≡ code.old ++ rules.value_kept frame.now rd (value_of value.now)) }
+{
+    match value {
+        Value::Number(_) | Value::Unary(_, _) | Value::Binary(_, _, _) => {
+            put_value(frame, rd, 0, value, code)
+        }
+        Value::Load(_) | Value::Call(_, _) => {
+            let x = put_whole(frame, value, code)?;
+            code.put(copy(rd, x))
+        }
+    }
+}
+
+// A value is written to a place: to the register of a kept variable, or else to memory.
+fn put_stored(
+    frame: &Frame<'_>,
+    place: Place,
+    value: &Value,
+    code: &mut Code,
+) -> Result<(), NoMemory>
+    ensures { OnOk result (code.new ≡ code.old ++ rules.value_stored frame.now (root_register frame.now (place_of place).root) (place_of place) (value_of value.now)) }
+{
+    match frame.register_at(place.root) {
+        Some(rd) => put_kept(frame, rd, value, code),
+        None => {
+            let x = put_whole(frame, value, code)?;
+            put_store(frame, x, register(1), place, code)
+        }
     }
 }
 
@@ -94,10 +131,7 @@ pub fn put_operation(
 {
     match operation {
         RegionOp::Evaluate(value) => put_dropped(frame, value, code),
-        RegionOp::Store(place, value) => {
-            put_whole(frame, value, code)?;
-            put_store(frame, register(0), register(1), *place, code)
-        }
+        RegionOp::Store(place, value) => put_stored(frame, *place, value, code),
         RegionOp::Bind(slot, place) => {
             put_address(frame, a0(), *place, code)?;
             code.put(slot_store(frame, a0(), *slot))

@@ -20,11 +20,11 @@ pub fn operator_needs(op: BinaryOp, left: u32, right: u32) -> Result<u32, NoMemo
     }
 }
 
-/// A register that is not 0 becomes 1.
-pub fn put_truth(rd: Register, code: &mut Code) -> Result<(), NoMemory>
-    ensures { OnOk result (code.new ≡ code.old ++ rules.made_truth rd) }
+/// A register gets 1 where another one is not 0, else 0.
+pub fn put_truth(rd: Register, x: Register, code: &mut Code) -> Result<(), NoMemory>
+    ensures { OnOk result (code.new ≡ code.old ++ rules.made_truth rd x) }
 {
-    code.put(Instr::Sltu(rd, zero(), rd))
+    code.put(Instr::Sltu(rd, zero(), x))
 }
 
 // A truth becomes the other one.
@@ -35,12 +35,12 @@ fn put_turned(rd: Register, code: &mut Code) -> Result<(), NoMemory>
 }
 
 /// A unary operator on a register.
-pub fn put_unary(op: UnaryOp, rd: Register, code: &mut Code) -> Result<(), NoMemory>
-    ensures { OnOk result (code.new ≡ code.old ++ rules.unary_code op rd) }
+pub fn put_unary(op: UnaryOp, rd: Register, x: Register, code: &mut Code) -> Result<(), NoMemory>
+    ensures { OnOk result (code.new ≡ code.old ++ rules.unary_code op rd x) }
 {
     match op {
-        UnaryOp::Minus => code.put(Instr::Subw(rd, zero(), rd)),
-        UnaryOp::Not => code.put(Instr::Sltiu(rd, rd, Immediate12::new(1))),
+        UnaryOp::Minus => code.put(Instr::Subw(rd, zero(), x)),
+        UnaryOp::Not => code.put(Instr::Sltiu(rd, x, Immediate12::new(1))),
     }
 }
 
@@ -76,17 +76,17 @@ pub fn put_operator(
         }
         BinaryOp::NotEqual => {
             code.put(Instr::Subw(rd, x, y))?;
-            put_truth(rd, code)
+            put_truth(rd, rd, code)
         }
         BinaryOp::And | BinaryOp::Or => Ok(()),
     }
 }
 
 /// A branch over one word where a register is not 0.
-pub fn put_branch_truth(rd: Register, code: &mut Code) -> Result<(), NoMemory>
-    ensures { OnOk result (code.new ≡ code.old ++ rules.branch_truth rd) }
+pub fn put_branch_truth(x: Register, code: &mut Code) -> Result<(), NoMemory>
+    ensures { OnOk result (code.new ≡ code.old ++ rules.branch_truth x) }
 {
-    code.put(Instr::Bne(rd, zero(), over_one()))
+    code.put(Instr::Bne(x, zero(), over_one()))
 }
 
 /// A branch over one word where an operator on two registers gives no 0.

@@ -1,6 +1,7 @@
 // Loads, stores and addresses of places.
 ghost use Rattle.std.specs.Prelude.{◌≡◌, ◌++◌, OnOk};
 ghost use Rattle.region_ir.specs.View.{place_of};
+ghost use Rattle.machine_forms.specs.KeptCode.{copied, int_read, register_of};
 ghost use Rattle.machine_forms.specs.Piece.{instruction};
 ghost use Rattle.machine_forms.specs.PlaceCode as rules;
 ghost use Rattle.rv64_emit.specs.View.{target_of};
@@ -35,11 +36,28 @@ pub fn slot_store(frame: &Frame<'_>, value: Register, slot: u32) -> Instr
     Instr::Sd(sp(), value, within(frame, slot, 0))
 }
 
+/// A register gets what another one holds.
+pub fn copy(rd: Register, value: Register) -> Instr
+    ensures { result ≡ copied rd value }
+{
+    Instr::Addi(rd, value, Immediate12::new(0))
+}
+
+// A register gets the int so many bytes inside a slot, or that of a kept variable.
+fn int_read(frame: &Frame<'_>, rd: Register, slot: u32, bytes: u32) -> Instr
+    ensures { result ≡ int_read (register_of frame.now.kept slot) rd (rules.within frame.now slot bytes) }
+{
+    match frame.register_of(slot) {
+        None => Instr::Lw(rd, sp(), within(frame, slot, bytes)),
+        Some(register) => copy(rd, register),
+    }
+}
+
 /// A register gets the int of a slot.
 pub fn int_load(frame: &Frame<'_>, rd: Register, slot: u32) -> Instr
     ensures { instruction result ≡ rules.int_loaded frame.now rd slot }
 {
-    Instr::Lw(rd, sp(), within(frame, slot, 0))
+    int_read(frame, rd, slot, 0)
 }
 
 /// A register gets the address of a target.
@@ -61,7 +79,7 @@ fn put_added(rd: Register, bytes: u32, code: &mut Code) -> Result<(), NoMemory>
     }
 }
 
-/// A register gets the address of a place.
+/// A register gets the address of a place, which is no kept variable.
 pub fn put_address(
     frame: &Frame<'_>,
     rd: Register,
@@ -90,7 +108,7 @@ pub fn put_load(
     ensures { OnOk result (code.new ≡ code.old ++ rules.place_loaded frame.now rd (place_of place)) }
 {
     match place.root {
-        Root::Slot(slot) => code.put(Instr::Lw(rd, sp(), within(frame, slot, place.offset))),
+        Root::Slot(slot) => code.put(int_read(frame, rd, slot, place.offset)),
         Root::Through(slot) => {
             code.put(slot_load(frame, rd, slot))?;
             code.put(Instr::Lw(rd, rd, immediate(i64::from(place.offset))))
@@ -103,7 +121,7 @@ pub fn put_load(
     }
 }
 
-/// The int in a register is written to a place, by means of another register.
+/// The int in a register is written to a place, which is no kept variable, by means of another register.
 pub fn put_store(
     frame: &Frame<'_>,
     value: Register,

@@ -1,5 +1,5 @@
 // The registers that code uses, by the names of the RISC-V calling convention.
-ghost use Rattle.std.specs.Prelude.{◌≡◌};
+ghost use Rattle.std.specs.Prelude.{◌≡◌, slice_get};
 ghost use Rattle.machine_forms.specs.Registers as rules;
 
 use rv64_isa::Register;
@@ -76,4 +76,23 @@ pub fn register(k: u32) -> Register
         _ => 0,
     };
     Register::new(number)
+}
+
+/// The k-th register of a kept variable, s1 to s10, if there are so many.
+pub fn saved(k: usize) -> Option<Register>
+    ensures { result ≡ slice_get rules.saved_registers k }
+{
+    match k {
+        0 => Some(Register::new(9)),
+        1 => Some(Register::new(18)),
+        2 => Some(Register::new(19)),
+        3 => Some(Register::new(20)),
+        4 => Some(Register::new(21)),
+        5 => Some(Register::new(22)),
+        6 => Some(Register::new(23)),
+        7 => Some(Register::new(24)),
+        8 => Some(Register::new(25)),
+        9 => Some(Register::new(26)),
+        _ => None,
+    }
 }

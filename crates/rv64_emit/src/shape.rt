@@ -1,37 +1,40 @@
 // The frame of a function: its slots, the beginning and the end of its code, and its moves.
-ghost use Rattle.std.specs.Prelude.{◌≡◌, ◌++◌, ◌-◌, IfOk, OnOk, map};
-ghost use Rattle.region_ir.specs.View.{slot_of};
+ghost use Rattle.std.specs.Prelude.{◌≡◌, ◌++◌, ◌-◌, ◌==◌, false, length, position, IfOk, OnOk, map};
+ghost use Rattle.region_ir.specs.View.{root_of, slot_of};
 ghost use Rattle.linear_forms.specs.Frame.{rounded_up, slot_bytes};
 ghost use Rattle.landing_pads.specs.View.{code_of};
 ghost use Rattle.machine_forms.specs.Emitted.{shape_of};
+ghost use Rattle.machine_forms.specs.KeptCode.{register_of, root_register};
 ghost use Rattle.machine_forms.specs.Shape as rules;
-ghost use Rattle.machine_forms.specs.Shape.{Shape};
 ghost use Rattle.rv64_emit.specs.Offsets.{offsets_below};
 
 use crate::NoMemory;
 use crate::code::Code;
 use crate::immediate::immediate;
-use crate::register::{ra, sp, t0, zero};
+use crate::kept::kept_slots;
+use crate::leaf::is_leaf;
+use crate::register::{ra, saved, sp, t0, zero};
 use crate::runtime_call::{STACK, put_runtime_call};
-use eh_bytes::{FrameChange, FrameMove};
 use landing_pads::unit::FuncCode;
-use region_ir::place::Slot;
-use rv64_isa::{BranchOffset, Immediate12, Immediate20, Instr};
+use region_ir::place::{Root, Slot};
+use rv64_isa::{BranchOffset, Immediate12, Immediate20, Instr, Register};
 use std::alloc::Global;
 use std::marker::Model;
 
 // The return address, from sp on.
-const RETURN_OFFSET: u16 = 8;
+pub const RETURN_OFFSET: u16 = 8;
 
 // Below this page of the stack no call begins.
 const LOWEST_PAGE: u32 = 0x70001;
 
-/// The frame of a function, with the offsets of its slots from sp.
+/// The frame of a function, with the offsets of its slots from sp, the slots of its kept variables, and whether the function is a leaf.
 #[derive(Drop)]
 pub struct Frame<'a> {
     function: &'a FuncCode,
     offsets: Vec<u32>,
     lowest: u32,
+    kept: Vec<u32>,
+    leaf: bool,
 }
 
 impl<'a> Model for Frame<'a> {
@@ -41,11 +44,11 @@ impl<'a> Model for Frame<'a> {
 
     ghost use Rattle.landing_pads.specs.View.{code_of};
     ghost use Rattle.machine_forms.specs.Emitted.{shape_of};
-    ghost use Rattle.rv64_emit.specs.Offsets.{HasOffsets};
+    ghost use Rattle.rv64_emit.specs.Offsets.{HasFrame};
 
     ghost view = { λ f. shape_of (code_of f.function.now) };
 
-    ghost invariant = { λ f. HasOffsets (code_of f.function.now) f.offsets.items f.lowest };
+    ghost invariant = { λ f. HasFrame (code_of f.function.now) f.offsets.items f.lowest f.kept.items f.leaf };
 }
 
 // The offset of a slot of so many bytes that ends at a byte; each slot's size is rounded up to 8.
@@ -70,6 +73,13 @@ fn offsets_of(alloc: Global, end: u32, slots: &[Slot]) -> Result<(Vec<u32>, u32)
     Ok((offsets, lowest))
 }
 
+// The place of a slot among others.
+fn place_among(slot: u32, slots: &[u32]) -> Option<usize>
+    ensures { result ≡ position (λ s. s == slot) slots.now }
+{
+    slots.iter().position(|other| *other == slot)
+}
+
 impl<'a> Frame<'a> {
     /// The frame of a function.
     pub fn new(alloc: Global, function: &'a FuncCode) -> Result<Frame<'a>, NoMemory>
@@ -80,6 +90,8 @@ impl<'a> Frame<'a> {
             function,
             offsets,
             lowest,
+            kept: kept_slots(alloc, function)?,
+            leaf: is_leaf(function),
         })
     }
 
@@ -99,18 +111,69 @@ impl<'a> Frame<'a> {
             .copied()
             .unwrap_or(self.lowest)
     }
+
+    /// The slots of its kept variables.
+    pub fn kept(&self) -> &[u32]
+        ensures { result.now ≡ self.now.kept }
+    {
+        self.kept.as_slice()
+    }
+
+    /// The register of a slot, if the variable there is kept.
+    pub fn register_of(&self, slot: u32) -> Option<Register>
+        ensures { result ≡ register_of self.now.kept slot }
+    {
+        let place = place_among(slot, self.kept())?;
+        saved(place)
+    }
+
+    /// The register of what a place begins at, if that is a kept variable.
+    pub fn register_at(&self, root: Root) -> Option<Register>
+        ensures { result ≡ root_register self.now (root_of root) }
+    {
+        match root {
+            Root::Slot(slot) => self.register_of(slot),
+            Root::Through(_) | Root::Global(_) => None,
+        }
+    }
+
+    /// Whether its function calls nothing.
+    pub fn is_leaf(&self) -> bool
+        ensures { result ≡ self.now.leaf }
+    {
+        self.leaf
+    }
+
+    /// How many words its prologue has.
+    pub fn prologue_words(&self) -> u32
+        ensures { result ≡ length (rules.prologue self.now) }
+    {
+        if self.leaf { 2 } else { 6 }
+    }
 }
 
-/// The beginning of a function: it takes its frame, saves the return address, and ends the program where too little of the stack is left.
+// The program ends where too little of the stack is left.
+fn put_stack_test(code: &mut Code) -> Result<(), NoMemory>
+    ensures { OnOk result (code.new ≡ code.old ++ rules.stack_tested false) }
+{
+    code.put(Instr::Lui(t0(), Immediate20::new(LOWEST_PAGE)))?;
+    code.put(Instr::Bgeu(sp(), t0(), BranchOffset::new(6)))?;
+    put_runtime_call(STACK, code)
+}
+
+/// The beginning of a function: it takes its frame, saves the return address, and ends the program where too little of the stack is left. A
+/// leaf does not look at the stack.
 pub fn put_prologue(frame: &Frame<'_>, code: &mut Code) -> Result<(), NoMemory>
     ensures { OnOk result (code.new ≡ code.old ++ rules.prologue frame.now) }
 {
     let down = immediate(-i64::from(frame.size()));
     code.put(Instr::Addi(sp(), sp(), down))?;
     code.put(Instr::Sd(sp(), ra(), Immediate12::new(RETURN_OFFSET)))?;
-    code.put(Instr::Lui(t0(), Immediate20::new(LOWEST_PAGE)))?;
-    code.put(Instr::Bgeu(sp(), t0(), BranchOffset::new(6)))?;
-    put_runtime_call(STACK, code)
+    if frame.is_leaf() {
+        Ok(())
+    } else {
+        put_stack_test(code)
+    }
 }
 
 /// The end of a call: the frame is given back, and control goes back.
@@ -121,21 +184,4 @@ pub fn put_epilogue(frame: &Frame<'_>, code: &mut Code) -> Result<(), NoMemory>
     code.put(Instr::Ld(ra(), sp(), Immediate12::new(RETURN_OFFSET)))?;
     code.put(Instr::Addi(sp(), sp(), up))?;
     code.put(Instr::Jalr(zero(), ra(), Immediate12::new(0)))
-}
-
-/// How the frame is found from behind each of the first two words of a function.
-pub fn frame_moves(alloc: Global, size: u32) -> Result<Vec<FrameMove>, NoMemory>
-    ensures { (f : Shape) → f.size ≡ size → IfOk result (λ moves. moves.items ≡ rules.frame_moves f) }
-{
-    let size = i64::from(size);
-    let mut moves = Vec::new(alloc);
-    moves.push(FrameMove {
-        location: 4,
-        change: FrameChange::Cfa(size),
-    })?;
-    moves.push(FrameMove {
-        location: 8,
-        change: FrameChange::Saved(ra().get(), i64::from(RETURN_OFFSET) - size),
-    })?;
-    Ok(moves)
 }

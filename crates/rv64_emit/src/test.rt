@@ -8,7 +8,7 @@ use crate::code::Code;
 use crate::operator::{put_branch, put_branch_truth};
 use crate::register::register;
 use crate::shape::Frame;
-use crate::value::{put_binary, put_operands, put_value};
+use crate::value::{put_binary, put_operand, put_operands};
 use cxx_ast::expression::BinaryOp;
 use region_ir::value::Value;
 
@@ -20,11 +20,11 @@ fn put_binary_test(
     right: &Value,
     code: &mut Code,
 ) -> Result<(), NoMemory>
-    ensures { OnOk result (code.new ≡ code.old ++ rules.binary_test op (nat_le (rules.needs (value_of right.now)) (rules.needs (value_of left.now))) (λ n. rules.value_code frame.now n (value_of left.now)) (λ n. rules.value_code frame.now n (value_of right.now))) }
+    ensures { OnOk result (code.new ≡ code.old ++ rules.binary_test op (nat_le (rules.needs (value_of right.now)) (rules.needs (value_of left.now))) (rules.operand frame.now (value_of left.now)) (rules.operand frame.now (value_of right.now))) }
 {
     match op {
         BinaryOp::And | BinaryOp::Or => {
-            put_binary(frame, op, 0, left, right, code)?;
+            put_binary(frame, op, register(0), 0, left, right, code)?;
             put_branch_truth(register(0), code)
         }
         _ => {
@@ -41,8 +41,8 @@ pub fn put_test(frame: &Frame<'_>, value: &Value, code: &mut Code) -> Result<(),
     match value {
         Value::Binary(op, left, right) => put_binary_test(frame, *op, left, right, code),
         _ => {
-            put_value(frame, 0, value, code)?;
-            put_branch_truth(register(0), code)
+            let x = put_operand(frame, 0, value, code)?;
+            put_branch_truth(x, code)
         }
     }
 }

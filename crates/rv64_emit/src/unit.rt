@@ -11,9 +11,10 @@ ghost use Rattle.rv64_emit.specs.Places.{HasTargets};
 
 use crate::NoMemory;
 use crate::body::{Body, body_of};
+use crate::moves::function_moves;
 use crate::numbers::behind;
 use crate::places::{STUB_WORDS, Targets};
-use crate::shape::frame_moves;
+use crate::shape::Frame;
 use crate::starts::Starts;
 use crate::table::table_of;
 use crate::words::{put_body, put_main_jump};
@@ -33,10 +34,12 @@ struct Laid {
 fn emitted_function(
     alloc: Global,
     function: &FuncCode,
+    frame: &Frame<'_>,
     first: u32,
     body: &Body,
 ) -> Result<EmittedFunc, NoMemory>
-    requires { StandsFor body.now (rules.function_routine (code_of function.now)) }
+    requires frame { frame.now ≡ rules.shape_of (code_of function.now) }
+    requires body { StandsFor body.now (rules.function_routine (code_of function.now)) }
     ensures { IfOk result (λ f. listed_function f ≡ listed_routine first (rules.function_routine (code_of function.now))) }
 {
     Ok(EmittedFunc {
@@ -44,7 +47,7 @@ fn emitted_function(
         first,
         words: body.starts.end,
         table: table_of(alloc, function, &body.starts)?,
-        moves: frame_moves(alloc, function.frame)?,
+        moves: function_moves(alloc, frame, function.params)?,
     })
 }
 
@@ -58,8 +61,9 @@ fn lay_out(alloc: Global, functions: &[FuncCode]) -> Result<Laid, NoMemory>
     let mut bodies = Vec::new(alloc);
     let mut end = 2;
     for function in functions {
-        let body = body_of(alloc, function)?;
-        listed.push(emitted_function(alloc, function, end, &body)?)?;
+        let frame = Frame::new(alloc, function)?;
+        let body = body_of(alloc, &frame, function)?;
+        listed.push(emitted_function(alloc, function, &frame, end, &body)?)?;
         end = behind(end, body.starts.end as usize)?;
         bodies.push(body)?;
     }

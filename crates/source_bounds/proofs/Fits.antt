@@ -1,9 +1,11 @@
 -- What writers of tables and frames need of the functions of a checked program.
-use Rattle.std.proofs.Common.{ℕ, ◌+◌, ◌*◌, ◌≤◌, List, [], ◌∷◌, ◌++◌, map, length, refl, sym, subst, arith}
+use Rattle.std.proofs.Common.{◌≡◌, ◌∙◌, ap, ℕ, ◌+◌, ◌*◌, ◌≤◌, List, [], ◌∷◌, ◌++◌, map, length, refl, sym, subst, arith}
 use Rattle.std.proofs.lemmas.List.{length-map}
 use Rattle.std.specs.List.{AllByRecursion}
 use Rattle.std.specs.Prelude.{if◌then◌else◌, Bool, true, false}
+use Rattle.eh_bytes.specs.declared.frames.FrameMove.{FrameMove}
 use Rattle.eh_bytes.specs.declared.table.ListSite.{ListSite}
+use Rattle.eh_write.specs.CanWriteFrames.{MovesAreGood}
 use Rattle.region_forms.specs.Form.{RegionFunction}
 use Rattle.region_forms.specs.Layout.{layout_of}
 use Rattle.region_forms.specs.LowerProgram.{regions_of}
@@ -15,9 +17,10 @@ use Rattle.linear_forms.specs.Unit.{function_code, unit_of}
 use Rattle.class_layout.proofs.Program.{classes_fit}
 use Rattle.landing_pads.specs.Frames.{AllCheckedFramesFit}
 use Rattle.machine_forms.specs.Emitted.{emitted_of, function_routine, listed_type}
+use Rattle.machine_forms.specs.Shape.{move_at}
 use Rattle.machine_forms.specs.Routine.{listed_routine, listed_routines, routine_words}
 use Rattle.image_forms.specs.Function.{SiteIsInside, FunctionFits}
-use Rattle.rv64_emit.specs.Laws.{AllMovesFit, MovesFit, SiteIsInside as SiteInside, TableIsGood, TablesAreGood}
+use Rattle.rv64_emit.specs.Laws.{AllMovesFit, MovesFit, moved_to, SiteIsInside as SiteInside, TableIsGood, TablesAreGood}
 use Rattle.source_bounds.specs.Laws.{FunctionsFit}
 use Rattle.source_bounds.proofs.Budget.{AreNamed}
 use Rattle.source_bounds.proofs.Units.{checked_fine}
@@ -26,6 +29,13 @@ use Rattle.source_bounds.proofs.Lists.{both_all}
 sites_inside : (words : ℕ) (sites : List ListSite) → AllByRecursion (SiteInside words) sites → AllByRecursion (SiteIsInside (4 * words)) sites
 sites_inside words [] h = tt
 sites_inside words (s ∷ sites) h = ((h.0.extent, h.0.pad), sites_inside words sites h.1)
+
+-- the moves of a function that begins at 0
+moved_nowhere : (moves : List FrameMove) → map (moved_to 0) moves ≡ moves
+moved_nowhere [] = refl
+moved_nowhere (m ∷ moves) =
+    let same : 0 + m.location ≡ m.location = omega arith in
+    ap (λ n. move_at n m.change ∷ map (moved_to 0) moves) same ∙ ap (λ l. m ∷ l) (moved_nowhere moves)
 
 -- each number once, of numbers that are named
 module _ (rows : ℕ) where
@@ -56,7 +66,7 @@ module _ (rows : ℕ) where
           lists = table.lists;
           types = all_named (type_uses f.body) [] named tt;
         };
-        moves = moves (record { start = 0; length = 4 * n }) refl;
+        moves = subst (MovesAreGood (record { start = 0; length = 4 * n }) 0) (moved_nowhere (listed_routine first r).moves) (moves (record { start = 0; length = 4 * n }) refl);
       }
 
   all_fit : (first : ℕ) (fs : List RegionFunction) → AllByRecursion (λ f. AreNamed rows (type_uses f.body)) fs →

@@ -42,3 +42,10 @@ pub mod CallRules
 pub mod FreeNames
 pub mod Arities
 pub mod ArityPrograms
+pub mod Calm
+pub mod KeptFrames
+pub mod KeptSaves
+pub mod KeptChoice
+pub mod KeptExpressions
+pub mod KeptStatements
+pub mod KeptVariables

@@ -1,5 +1,6 @@
 -- The words of a region's code are no more than is said.
-use Rattle.std.proofs.Common.{◌≡◌, ℕ, ◌+◌, ◌≤◌, Bool, true, false, List, [], ◌∷◌, ◌++◌, map, flat_map, length, Option, Some, None, refl, if◌then◌else◌, arith}
+use Rattle.std.proofs.Common.{◌≡◌, ℕ, ◌+◌, ◌*◌, ◌≤◌, nat_lt, Bool, true, false, List, [], ◌∷◌, ◌++◌, map, flat_map, length, Option, Some, None, refl, if◌then◌else◌, arith}
+use Rattle.std.specs.Prelude.{pos}
 use Rattle.region_forms.specs.Form.{Op, Cleanup, destroy_scope, destroy_part, free_object, leave_handler, Region, seq, op, branch, loop, protect, catch, limit, barrier, leave_region, RegionList, no_regions, region_then, Clauses, no_clauses, clause_then}
 use Rattle.region_forms.specs.Guard.{types_of}
 use Rattle.linear_forms.specs.Linear.{label, jump, resume, return}
@@ -11,9 +12,14 @@ use Rattle.linear_forms.specs.Emission.{Emitting, quiet, outward, put, guarded, 
 use Rattle.linear_forms.specs.Code.{labels, labels_clauses, clause_tests, region_code, all_code, clauses_code}
 use Rattle.linear_forms.specs.Unit.{emitting, placed_code, function_code}
 use Rattle.machine_forms.specs.Bounds.{counted}
-use Rattle.machine_forms.specs.Shape.{Shape, prologue}
+use Rattle.rv64_isa.specs.declared.instr.Instr.TheVariants.{Lw, Sd}
+use Rattle.machine_forms.specs.Immediate.{immediate}
+use Rattle.machine_forms.specs.KeptCode.{copied, one_saved, saves}
+use Rattle.machine_forms.specs.Piece.{instruction}
+use Rattle.machine_forms.specs.Registers.{saved_registers, sp, t0}
+use Rattle.machine_forms.specs.Shape.{Shape, prologue, slot_offset, stack_tested}
 use Rattle.machine_forms.specs.LinearCode.{linear_code}
-use Rattle.machine_forms.specs.Emitted.{shape_of}
+use Rattle.machine_forms.specs.Emitted.{function_front, shape_of}
 use Rattle.source_bounds.specs.OperationWords.{op_words, linear_words}
 use Rattle.source_bounds.specs.RegionWords.{cleanup_words, region_words, all_words, clauses_words, HasFewWays, AllHaveFewWays, ClausesHaveFewWays}
 use Rattle.source_bounds.specs.WordLaws.{FunctionsAreShort}
@@ -158,13 +164,38 @@ pieces_short f [] = omega arith
 pieces_short f (x ∷ code) =
     omega (arith, counted-append (linear_code f x.op) (flat_map (λ b. b) (map (linear_code f) (map (λ y. y.op) code))), operations_are_short f x.op, pieces_short f code)
 
+-- a function's beginning
+
+one_saved_short : (parameters offset r s : ℕ) → counted (one_saved parameters offset r s) ≤ 3
+one_saved_short parameters offset r s = go (nat_lt s parameters)
+  where
+    go : (b : Bool) → counted (if b then instruction (Lw t0 sp offset) ∷ instruction (Sd sp r offset) ∷ instruction (copied r t0) ∷ [] else instruction (Sd sp r offset) ∷ []) ≤ 3
+    go true = omega arith
+    go false = omega arith
+
+saves_short : (f : Shape) (parameters : ℕ) (rs ks : List ℕ) → counted (saves f parameters rs ks) ≤ 3 * length rs
+saves_short f parameters [] ks = omega arith
+saves_short f parameters (r ∷ rs) [] = omega arith
+saves_short f parameters (r ∷ rs) (s ∷ ks) =
+    let offset = immediate (pos (slot_offset f s)) in
+    omega (arith, counted-append (one_saved parameters offset r s) (saves f parameters rs ks), one_saved_short parameters offset r s, saves_short f parameters rs ks)
+
+test_short : (leaf : Bool) → counted (stack_tested leaf) ≤ 4
+test_short true = omega arith
+test_short false = omega arith
+
+pub front_short : (f : Shape) (parameters : ℕ) → counted (function_front f parameters) ≤ 36
+front_short f parameters =
+    omega (arith, counted-append (prologue f) (saves f parameters saved_registers f.kept), test_short f.leaf, saves_short f parameters saved_registers f.kept)
+
 pub functions_are_short : FunctionsAreShort
 functions_are_short f few =
     let g = function_code f in
     let body = region_code (emitting f) unpadded [] 0 0 f.body in
     omega (
       arith,
-      counted-append (prologue (shape_of g)) (flat_map (λ b. b) (map (linear_code (shape_of g)) g.ops)),
+      front_short (shape_of g) g.parameters,
+      counted-append (function_front (shape_of g) g.parameters) (flat_map (λ b. b) (map (linear_code (shape_of g)) g.ops)),
       pieces_short (shape_of g) (placed_code f),
       words-append body (quiet (return f.result) ∷ []),
       region_short f.body (emitting f) unpadded [] 0 0 few,

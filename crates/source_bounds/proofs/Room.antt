@@ -12,6 +12,7 @@ use Rattle.region_forms.specs.LowerProgram.{regions_of}
 use Rattle.region_forms.specs.Numbering.{type_rows}
 use Rattle.linear_forms.specs.Unit.{function_code, unit_of}
 use Rattle.class_layout.proofs.Program.{classes_fit}
+use Rattle.landing_pads.specs.Frames.{AllCheckedFramesFit}
 use Rattle.landing_pads.specs.Laws.{AllTablesAreShort}
 use Rattle.machine_forms.specs.Emitted.{emitted_of, function_routine, listed_type}
 use Rattle.machine_forms.specs.Routine.{listed_routine, listed_routines, routine_words}
@@ -25,16 +26,16 @@ use Rattle.source_bounds.proofs.Rooms.{function_room_short}
 use Rattle.source_bounds.proofs.Units.{checked_tokens}
 use Rattle.source_bounds.proofs.Rows.{rows_counted}
 
-functions_room : AllTablesAreShort → (first : ℕ) (fs : List RegionFunction) → AllByRecursion IsRoomy fs →
+functions_room : AllTablesAreShort → (first : ℕ) (fs : List RegionFunction) → AllByRecursion IsRoomy fs → AllByRecursion (λ g. g.frame ≤ 2032) (map function_code fs) →
     AllByRecursion TableIsGood (listed_routines first (map function_routine (map function_code fs))) →
     sum_by function_room (listed_routines first (map function_routine (map function_code fs))) + symbol_room * length (listed_routines first (map function_routine (map function_code fs))) ≤ all_room fs
-functions_room tables first [] h good = omega arith
-functions_room tables first (f ∷ fs) h good =
+functions_room tables first [] h small good = omega arith
+functions_room tables first (f ∷ fs) h small good =
     let own = listed_routine first (function_routine (function_code f)) in
     let next = first + routine_words (function_routine (function_code f)) in
     let others = listed_routines next (map function_routine (map function_code fs)) in
     two_rooms (function_room own) (sum_by function_room others) (length others) (sum_by function_room (own ∷ others)) (most_room f) (all_room fs)
-    (function_room_short tables first f h.0 good.0) (functions_room tables next fs h.1 good.1) (sum_by-cons function_room own others)
+    (function_room_short tables first f h.0 small.0 good.0) (functions_room tables next fs h.1 small.1 good.1) (sum_by-cons function_room own others)
   where
     two_rooms : (a b k c m n : ℕ) → a + symbol_room ≤ m → b + symbol_room * k ≤ n → c ≡ a + b → c + symbol_room * suc k ≤ m + n
     two_rooms a b k c m n h g e = omega (arith, h, g, e)
@@ -65,13 +66,13 @@ summed_room : (code functions named types symbols globals tokens most room rows 
     4 * code + functions + types + 4 * globals + (symbol_room * (named + globals) + symbols) ≤ 768 * tokens + 65536
 summed_room code functions named types symbols globals tokens most room rows classes classes-tokens functions-tokens a b c d e f g = omega (arith, a, b, c, d, e, f, g)
 
-pub room_is_small : AllTablesAreShort → TablesAreGood → RoomIsSmall
-room_is_small tables good p h =
+pub room_is_small : AllTablesAreShort → TablesAreGood → AllCheckedFramesFit → RoomIsSmall
+room_is_small tables good frames p h =
     let r = regions_of p (layout_of p) in
     let u = unit_of r in
     let roomy = checked_roomy classes_fit p (layout_of p) h in
     summed_room (length (emitted_of u).code) (sum_by function_room (emitted_of u).functions) (length (emitted_of u).functions) (sum_by type_room (emitted_of u).types)
     (sum_by type_symbol_room (emitted_of u).types) (length p.globals) p.program.tokens
     roomy.most (all_room r.functions) (length (type_rows p)) (length p.classes) (classes_tokens p.classes) (functions_tokens p.functions)
-    (programs_are_short p (layout_of p) h).words (functions_room tables 2 r.functions roomy.roomy.each (good r)) roomy.roomy.room roomy.total
+    (programs_are_short p (layout_of p) h).words (functions_room tables 2 r.functions roomy.roomy.each (frames p h).frames (good r)) roomy.roomy.room roomy.total
     (types_small (type_rows p)) (rows_counted p h) (checked_tokens p h)

@@ -95,9 +95,9 @@ chains_short t most (c ∷ cs) h k good short =
     )
 
 -- a function whose body is not too large takes no more, with its symbol
-pub function_room_short : AllTablesAreShort → (first : ℕ) (f : RegionFunction) → IsRoomy f → TableIsGood (listed_routine first (function_routine (function_code f))) →
+pub function_room_short : AllTablesAreShort → (first : ℕ) (f : RegionFunction) → IsRoomy f → (function_code f).frame ≤ 2032 → TableIsGood (listed_routine first (function_routine (function_code f))) →
     function_room (listed_routine first (function_routine (function_code f))) + symbol_room ≤ most_room f
-function_room_short tables first f roomy good =
+function_room_short tables first f roomy small good =
     let g = function_code f in
     let r = function_routine g in
     let t = routine_table r in
@@ -125,5 +125,5 @@ function_room_short tables first f roomy good =
       weight,
       sites_are_few f,
       length-map g.sites (listed_site r),
-      frame_short (shape_of g),
+      frame_short (shape_of g) g.parameters small,
     )

@@ -38,7 +38,7 @@ pub record IsRoomy (f : RegionFunction) : Type 0 where
 
 -- the bytes of a function beside its words, and of its symbol
 abbrev pub most_room : RegionFunction → ℕ
-most_room f = 12 * sites_in f.body + chains_room (chain_weight f.body) + 6 * guards_in f.body + 211
+most_room f = 12 * sites_in f.body + chains_room (chain_weight f.body) + 6 * guards_in f.body + 251
 
 abbrev pub all_room : List RegionFunction → ℕ
 all_room [] = 0
@@ -175,7 +175,7 @@ module _ (rows : ℕ) (p : Checked) (layout : Layout) where
       more_room (256 * functions_tokens (f ∷ fs) + 2 * extras (length (parts_of p k)) (f ∷ fs))
       (declared_roomy true false k f (map (declared_function p layout true false k) fs) h.0 small short.0 (methods_roomy k fs small h.1 short.1)) (omega arith)
 
-  parts_room : (c : Class) → 686 * length (class_parts c) + 922 ≤ 256 * (3 * length c.members + base_tokens c.base + 5)
+  parts_room : (c : Class) → 686 * length (class_parts c) + 1042 ≤ 256 * (3 * length c.members + base_tokens c.base + 5)
   parts_room c =
       omega (arith, length-append (base_part c.base) (map member_part c.members), length-map c.members member_part, (base_counted c.base).0, (base_counted c.base).1)
 
@@ -195,13 +195,13 @@ module _ (rows : ℕ) (p : Checked) (layout : Layout) where
       let builds = default_whole rows l (some_constructor c.functions) k in
       let builds-table = default_table l (some_constructor c.functions) k in
       let builds-weight = weight_within (implicit_default_function p layout k).body in
-      let last = one_roomy {m = 24 * n + 214} (implicit_destructor_function p layout k) []
+      let last = one_roomy {m = 24 * n + 254} (implicit_destructor_function p layout k) []
       (record { few = destroys.few; words = omega (arith, destroys.words, small); guards = omega (arith, destroys-table.guards); weight = omega (arith, destroys-table.guards, destroys-weight) })
       (omega (arith, destroys-table.sites, destroys-table.guards, no_chains (chain_weight (implicit_destructor_function p layout k).body) (omega (arith, destroys-table.guards, destroys-weight)))) none_roomy in
-      let copied = one_roomy {m = 24 * n + 214} (implicit_copy_function p layout k) (implicit_destructor_function p layout k ∷ [])
+      let copied = one_roomy {m = 24 * n + 254} (implicit_copy_function p layout k) (implicit_destructor_function p layout k ∷ [])
       (record { few = copies.few; words = omega (arith, copies.words, small); guards = omega (arith, copies-table.guards); weight = omega (arith, copies-table.guards, copies-weight) })
       (omega (arith, copies-table.sites, copies-table.guards, no_chains (chain_weight (implicit_copy_function p layout k).body) (omega (arith, copies-table.guards, copies-weight)))) last in
-      let implicit = one_roomy {m = 12 * (if some_constructor c.functions then 0 else 2 * n) + 214} (implicit_default_function p layout k)
+      let implicit = one_roomy {m = 12 * (if some_constructor c.functions then 0 else 2 * n) + 254} (implicit_default_function p layout k)
       (implicit_copy_function p layout k ∷ implicit_destructor_function p layout k ∷ [])
       (record { few = builds.few; words = omega (arith, builds.words, default_small (some_constructor c.functions) n, small); guards = omega (arith, builds-table.guards); weight = omega (arith, builds-table.guards, builds-weight) })
       (omega (arith, builds-table.sites, builds-table.guards, no_chains (chain_weight (implicit_default_function p layout k).body) (omega (arith, builds-table.guards, builds-weight)))) copied in

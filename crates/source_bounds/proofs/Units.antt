@@ -32,10 +32,10 @@ use Rattle.source_bounds.proofs.Sums.{sum_from}
 use Rattle.source_bounds.proofs.Lists.{both_all, at_or}
 use Rattle.cxx_ast.specs.declared.standard.Std.{Std}
 
--- the words of functions, with ten beside each body
+-- the words of functions, with fifty beside each body
 abbrev pub code_words : List RegionFunction → ℕ
 code_words [] = 0
-code_words (f ∷ fs) = region_words f.body + 10 + code_words fs
+code_words (f ∷ fs) = region_words f.body + 50 + code_words fs
 
 -- what is said of functions of regions
 pub record FineFunctions (rows m : ℕ) (fs : List RegionFunction) : Type 0 where
@@ -46,7 +46,7 @@ pub record FineFunctions (rows m : ℕ) (fs : List RegionFunction) : Type 0 wher
 no_function : (rows : ℕ) → FineFunctions rows 0 []
 no_function rows = record { few = tt; named = tt; words = omega arith }
 
-one_function : {rows b m k : ℕ} (f : RegionFunction) (fs : List RegionFunction) → Whole rows 0 0 b f.body → b + 10 ≤ m → FineFunctions rows k fs → FineFunctions rows (m + k) (f ∷ fs)
+one_function : {rows b m k : ℕ} (f : RegionFunction) (fs : List RegionFunction) → Whole rows 0 0 b f.body → b + 50 ≤ m → FineFunctions rows k fs → FineFunctions rows (m + k) (f ∷ fs)
 one_function f fs h le g = record { few = (h.few, g.few); named = (h.named, g.named); words = omega (arith, h.words, le, g.words) }
 
 words_both : (fs gs : List RegionFunction) → code_words (fs ++ gs) ≡ code_words fs + code_words gs
@@ -77,7 +77,7 @@ not_small n e = grind (arith, nat_tests, e)
 
 -- what a kind of function does beside its statements is paid for, with its specification, but for the extra words
 pub kind_counted : (k : FuncKind) (m : ℕ) (f : Function) (o : Option Specification) → m ≤ 256 →
-    kind_words k m f + specification_words o + 14
+    kind_words k m f + specification_words o + 54
     ≤ 128 * (parameters_tokens (length f.parameters) + initialisers_tokens f.initialisers + specification_tokens k o + 5) + extra_words k m (length f.parameters)
 kind_counted Plain m f None h = omega arith
 kind_counted Plain m f (Some (listed types)) h = omega arith
@@ -96,7 +96,7 @@ kind_counted Constructor m f o h = omega (arith, go (nat_lt (length f.parameters
     of_constructor (Some (noexcept place b)) = omega arith
 
     go : (b : Bool) → nat_lt (length f.parameters) 16 ≡ b →
-        16 * m + 32 * initialisers_tokens f.initialisers + 459 ≤ 128 * (parameters_tokens (length f.parameters) + initialisers_tokens f.initialisers + 5) + (if b then 16 * m else 0)
+        16 * m + 32 * initialisers_tokens f.initialisers + 499 ≤ 128 * (parameters_tokens (length f.parameters) + initialisers_tokens f.initialisers + 5) + (if b then 16 * m else 0)
     go true e = omega arith
     go false e = omega (arith, h, many_parameters (length f.parameters) (not_small (length f.parameters) e))
 
@@ -137,7 +137,7 @@ module _ (rows : ℕ) (p : Checked) (layout : Layout) where
       with_more (128 * functions_tokens (f ∷ fs) + extras (length (parts_of p k)) (f ∷ fs))
       (declared_fine true false k f (map (declared_function p layout true false k) fs) h.0 small (methods_fine k fs small h.1)) (omega arith)
 
-  parts_counted : (c : Class) → length (class_parts c) ≤ 256 → 385 * length (class_parts c) + 30 ≤ 128 * (3 * length c.members + base_tokens c.base + 5)
+  parts_counted : (c : Class) → length (class_parts c) ≤ 256 → 385 * length (class_parts c) + 150 ≤ 128 * (3 * length c.members + base_tokens c.base + 5)
   parts_counted c small =
       omega (arith, small, length-append (base_part c.base) (map member_part c.members), length-map c.members member_part, (base_counted c.base).0, (base_counted c.base).1)
 
@@ -148,9 +148,9 @@ module _ (rows : ℕ) (p : Checked) (layout : Layout) where
       let m = length (class_parts c) in
       let l = lowering p layout true [] in
       let copying = lowering p layout true (copied_type c) in
-      let last = one_function {m = 47 * m + 10} (implicit_destructor_function p layout k) [] (destructor_whole rows l k) (omega arith) (no_function rows) in
-      let copied = one_function {m = 19 * m + 10} (implicit_copy_function p layout k) (implicit_destructor_function p layout k ∷ []) (copy_whole rows copying k) (omega arith) last in
-      let implicit = one_function {m = (if some_constructor c.functions then 0 else 16 * m) + 10} (implicit_default_function p layout k)
+      let last = one_function {m = 47 * m + 50} (implicit_destructor_function p layout k) [] (destructor_whole rows l k) (omega arith) (no_function rows) in
+      let copied = one_function {m = 19 * m + 50} (implicit_copy_function p layout k) (implicit_destructor_function p layout k ∷ []) (copy_whole rows copying k) (omega arith) last in
+      let implicit = one_function {m = (if some_constructor c.functions then 0 else 16 * m) + 50} (implicit_default_function p layout k)
       (implicit_copy_function p layout k ∷ implicit_destructor_function p layout k ∷ []) (default_whole rows l (some_constructor c.functions) k) (omega arith) copied in
       with_more (128 * class_tokens c)
       (both_functions (map (declared_function p layout true false k) c.functions)

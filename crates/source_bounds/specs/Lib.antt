@@ -9,3 +9,7 @@ pub mod Laws
 pub mod RegisterWeights
 pub mod BuiltinCalls
 pub mod RegisterLaws
+pub mod KeptFrames
+pub mod KeptSaves
+pub mod KeptChoice
+pub mod KeptVariables

@@ -37,7 +37,7 @@ op_words rethrow = 2
 op_words (enter s) = 3
 op_words leave = 258
 
--- an operation of linear code
+-- an operation of linear code; at a return ten registers may get back what they held
 abbrev pub linear_words : LinearOp → ℕ
 linear_words (plain o) = op_words o
 linear_words (label l) = 0
@@ -48,4 +48,4 @@ linear_words (jump_filter s n l) = 5
 linear_words (free s) = 3
 linear_words (resume s) = 3
 linear_words (unexpected o s) = 262
-linear_words (return result) = 4
+linear_words (return result) = 14

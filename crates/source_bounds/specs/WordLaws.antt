@@ -25,9 +25,9 @@ OperationsAreShort = (f : Shape) (o : LinearOp) → counted (linear_code f o) �
 abbrev pub routine_pieces : Routine → List Piece
 routine_pieces r = r.front ++ flat_map (λ b. b) r.blocks
 
--- A function has the words of its body, and 10 beside them, where exits out of each scope go to few places.
+-- A function has the words of its body, and 50 beside them, where exits out of each scope go to few places.
 abbrev pub FunctionsAreShort : Type 0
-FunctionsAreShort = (f : RegionFunction) → HasFewWays f.body → counted (routine_pieces (function_routine (function_code f))) ≤ region_words f.body + 10
+FunctionsAreShort = (f : RegionFunction) → HasFewWays f.body → counted (routine_pieces (function_routine (function_code f))) ≤ region_words f.body + 50
 
 -- What a checked program becomes, by any layout: exits out of each scope and each handler go to at most three places, those of `break`, of
 -- `continue` and of `return`; for each token of its source there are at most 128 words, and 2,048 beside them, though a call of one of the

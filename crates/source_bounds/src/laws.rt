@@ -1,9 +1,16 @@
 //! Laws of what is emitted for checked programs: calls of no effect, whose contracts state what holds of each program.
+ghost use Rattle.source_bounds.specs.KeptChoice.{VariablesAreChosen};
+ghost use Rattle.source_bounds.specs.KeptFrames.{KeptFramesAreSmall};
+ghost use Rattle.source_bounds.specs.KeptSaves.{KeptRegistersAreSaved};
+ghost use Rattle.source_bounds.specs.KeptVariables.{KeptVariablesAreUnbound};
 ghost use Rattle.source_bounds.specs.Laws.{BadExceptionIsThere, BasesAreThere, CheckedIsLinkable, FunctionsFit, FunctionsStandInRow, RoomIsSmall, TokensAreFew, UnitsAreBounded};
 ghost use Rattle.source_bounds.specs.RegisterLaws.{BuiltinsAreBrief, RegistersSuffice, ValuesNeedFew};
 ghost use Rattle.source_bounds.specs.WordLaws.{FunctionsAreShort, OperationsAreShort, ProgramsAreShort};
 
-use landing_pads::laws::{frames_of_checked_fit, tables_are_short};
+use landing_pads::laws::{
+    frames_fit, frames_of_checked_fit, frames_of_sources_fit, tables_are_short,
+};
+use machine_forms::laws::{frames_are_small, variables_are_kept};
 use region_ir::laws::checked_bases_stand_before;
 use rv64_emit::laws::{functions_are_apart, moves_fit, tables_are_good};
 
@@ -62,12 +69,43 @@ pub fn functions_fit()
     frames_of_checked_fit();
 }
 
+/// The frame of a plain function that declares no object, throws nothing and tries nothing has at most 48 bytes, 8 for each kept variable, and
+/// what the limit on variables counts for the others.
+pub fn kept_frames_are_small()
+    ensures { KeptFramesAreSmall }
+{
+    variables_are_kept();
+    frames_are_small();
+    frames_of_sources_fit();
+}
+
+/// The kept variables of a function are its first ten int variables whose address no operation of its region takes.
+pub fn variables_are_chosen()
+    ensures { VariablesAreChosen }
+{}
+
+/// So they are the first ten variables of type int of a source's function, in order of declaration, to which no reference is bound.
+pub fn kept_variables_are_unbound()
+    ensures { KeptVariablesAreUnbound }
+{
+    variables_are_chosen();
+}
+
+/// The frame moves of a function say past its prologue where the register of each kept variable is saved: in its slot, which is apart from those of the others.
+pub fn kept_registers_are_saved()
+    ensures { KeptRegistersAreSaved }
+{
+    variables_are_kept();
+    frames_fit();
+}
+
 /// A checked program takes at most 768 bytes of an image for each of its tokens, and 65,536 beside them.
 pub fn room_is_small()
     ensures { RoomIsSmall }
 {
     tables_are_short();
     tables_are_good();
+    frames_of_checked_fit();
 }
 
 /// What is emitted for a checked program is what a linker needs for a clean and runnable image.

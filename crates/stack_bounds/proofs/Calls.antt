@@ -1,5 +1,5 @@
 -- A call of a function for which the stack has no room.
-use Rattle.std.proofs.Common.{◌≡◌, ◌∙◌, refl, sym, ap, subst, arith, ℕ, ◌+◌, ◌-◌, ◌^◌, ◌<◌, List, ◌∷◌, ◌++◌, length, length-append}
+use Rattle.std.proofs.Common.{◌≡◌, ◌∙◌, refl, sym, ap, subst, arith, ℕ, ◌+◌, ◌-◌, ◌^◌, ◌<◌, false, List, ◌∷◌, ◌++◌, length, length-append, Some}
 use Rattle.rv64_isa.specs.State.{State}
 use Rattle.rv64_isa.specs.Step.{x}
 use Rattle.cxa_runtime.specs.World as abi
@@ -9,6 +9,9 @@ use Rattle.machine_forms.specs.LinearCode.{linear_code}
 use Rattle.machine_forms.specs.CallCode.{function_called}
 use Rattle.machine_forms.specs.Routine.{op_word}
 use Rattle.machine_forms.specs.Shape.{Shape}
+use Rattle.machine_forms.specs.Leaf.{linear_stays}
+use Rattle.region_forms.specs.Form.{call_value, defined, evaluate, store, call, construct, destroy}
+use Rattle.linear_forms.specs.Linear.{LinearOp, plain}
 use Rattle.linear_forms.specs.Stub.{compiled}
 use Rattle.machine_pieces.specs.Laws.{AddressesAreComputed}
 use Rattle.machine_pieces.specs.Standing.{Ground, address}
@@ -16,17 +19,28 @@ use Rattle.machine_pieces.proofs.Fetching.{pieces_split, pieces_still}
 use Rattle.machine_pieces.proofs.Framing.{function_calls}
 use Rattle.machine_pieces.proofs.Stepping.{steps_then}
 use Rattle.machine_pieces.proofs.Turning.{executes_turns}
-use Rattle.machine_simulation.specs.Calls.{stored_behind, stack_end, open_bytes}
+use Rattle.machine_simulation.specs.Calls.{CallOf, call_of, stored_behind, stack_end, open_bytes}
 use Rattle.machine_simulation.specs.Matches.{StackMay, UnitStands, FrameIs}
 use Rattle.machine_simulation.specs.Plan.{function, shape, routine, first_word, setting}
 use Rattle.machine_simulation.proofs.Asked.{object_stands, arguments_stand}
 use Rattle.machine_simulation.proofs.Calling.{all_pass, stack_at}
+use Rattle.machine_simulation.proofs.Floors.{caller_above}
+use Rattle.machine_simulation.proofs.Taken.{free_at, call_free}
 use Rattle.machine_simulation.proofs.Entered.{entry_reached, given_less}
 use Rattle.machine_simulation.proofs.Entering.{passing, call_code_of}
 use Rattle.machine_simulation.proofs.Matching.{stands_by}
 use Rattle.machine_simulation.proofs.Words.{OperationAt, operation_at, even_base}
 use Rattle.stack_bounds.specs.Overflow.{RunOverflows, FunctionsOverflow, CallsOverflow}
 use Rattle.stack_bounds.proofs.Overflow.{overflows_later}
+
+-- a call is no operation that is done inside its function
+call_leaves : (o : LinearOp) (c : CallOf) → call_of o ≡ Some c → linear_stays o ≡ false
+call_leaves (plain (evaluate (call_value (defined m) args))) c is = refl
+call_leaves (plain (store q (call_value (defined m) args))) c is = refl
+call_leaves (plain (call (defined m) args)) c is = refl
+call_leaves (plain (construct q m args)) c is = refl
+call_leaves (plain (destroy q m)) c is = refl
+call_leaves o c is = absurd (cc is)
 
 pub calls_overflow : AddressesAreComputed → FunctionsOverflow → CallsOverflow
 calls_overflow addresses overflow image pick k p n st w o c given matches runs there is given_is lacks many =
@@ -51,9 +65,11 @@ calls_overflow addresses overflow image pick k p n st w o c given matches runs t
     let frame_is : FrameIs (function p m) = h.memory.unit.frames m lacks.known in
     let most = given_less p m given frame_is lacks.passed lacks.words in
     let short : length front < 2 ^ 18 = omega (arith, own.inside, sum, h.memory.unit.short n h.memory.top.known) in
-    let passes = all_pass addresses p n st.top.frame st.frames st.world matches.back here c.object c.arguments given s h.memory h.registers h.pc parts.0 short
-    (object_stands p n st.top.frame st.world s.memory (x s sp) matches.back h.memory.top c.object lacks.object) (arguments_stand p n st.top.frame st.world s.memory (x s sp) matches.back h.memory.top c.arguments lacks.arguments) code.fits given_is
-    (omega (arith, most, frame_is.small)) (omega (arith, most, frame_is.small, h.memory.top.above)) in
+    let floor = caller_above p n st.top.place st.top.frame st.world s.memory (x s sp) matches.back o there (call_leaves o c is) h.memory.top in
+    let free = call_free p n o c is (free_at p n st.top.place o there) in
+    let passes = all_pass addresses p n st.top.frame st.frames st.world matches.back here c.object c.arguments given s h.memory h.kept.top.keeps h.registers h.pc parts.0 short
+    (object_stands p n st.top.frame st.world s.memory (x s sp) matches.back h.memory.top c.object free.object lacks.object) (arguments_stand p n st.top.frame st.world s.memory (x s sp) matches.back h.memory.top c.arguments free.arguments lacks.arguments) code.fits given_is
+    (omega (arith, most, frame_is.small)) (omega (arith, most, frame_is.small, floor)) in
     let s1 : State = passes.after in
     let first : ℕ = address (setting p m).ground (first_word p m) in
     let held = passes.memory in
@@ -69,10 +85,11 @@ calls_overflow addresses overflow image pick k p n st w o c given matches runs t
     let count : k ≡ passes.steps + 2 + left = omega (arith, passes.most, total, many) in
     let last = overflow image pick left p m v (record {
       known = lacks.known;
+      looks = lacks.looks;
       registers = ap (λ (y : State). length y.regs) ran.hart ∙ called.registers;
       pc = ap (λ (y : State). y.pc) ran.hart ∙ called.pc;
       aligned = omega (arith, stack, h.memory.top.saved.aligned);
-      above = omega (arith, stack, h.memory.top.above, frame_is.small);
+      above = omega (arith, stack, floor, frame_is.small);
       short = omega (arith, stack, whole_stack, lacks.lacks);
       below = omega (arith, stack, whole_stack);
       unit = subst (UnitStands p) (sym memory) held.unit;

@@ -1,5 +1,5 @@
 -- At the first word of a function that finds no room the run ends.
-use Rattle.std.proofs.Common.{◌≡◌, ◌∙◌, refl, sym, ap, subst, arith, ℕ, suc, ◌+◌, ◌-◌, []}
+use Rattle.std.proofs.Common.{◌≡◌, ◌∙◌, refl, sym, ap, subst, arith, ℕ, suc, ◌+◌, ◌-◌, List, [], ◌++◌}
 use Rattle.std.specs.Prelude.{flat_map}
 use Rattle.rv64_isa.specs.State.{State}
 use Rattle.rv64_isa.specs.Step.{step_of, x}
@@ -10,7 +10,9 @@ use Rattle.cxa_runtime.specs.Call.{call_effect, numbered}
 use Rattle.cxa_runtime.specs.Raising.{Image}
 use Rattle.cxa_runtime.specs.Run.{Ran, and_more, called, run, stepped, turn}
 use Rattle.cxa_runtime.specs.World.{World, a7, at_hart}
-use Rattle.machine_forms.specs.Registers.{sp}
+use Rattle.machine_forms.specs.Registers.{sp, saved_registers}
+use Rattle.machine_forms.specs.Piece.{Piece}
+use Rattle.machine_forms.specs.KeptCode.{saves}
 use Rattle.machine_forms.specs.RuntimeCall.{stack_call}
 use Rattle.machine_forms.specs.Shape.{Shape, prologue, return_offset}
 use Rattle.machine_pieces.specs.Laws.{CallsAreTurns, ControlGoes}
@@ -44,6 +46,7 @@ functions_overflow turns control image pick n p m w h many =
     let s : State = w.hart in
     let frame_is : FrameIs (function p m) = h.unit.frames m h.known in
     let lacks : LacksRoom f s = record {
+      looks = h.looks;
       registers = h.registers;
       size = (frame_is.small, omega (arith, frame_is.size), omega (arith, frame_is.size));
       aligned = h.aligned;
@@ -51,7 +54,9 @@ functions_overflow turns control image pick n p m w h many =
       short = h.short;
       may = h.may (x s sp - f.size + return_offset) 8 (omega (arith, h.above)) (omega (arith, h.above, h.below, frame_is.size));
     } in
-    let front = (pieces_split s.memory g (first_word p m) (prologue f) (flat_map (λ b. b) (routine p m).blocks) (h.unit.functions m h.known)).0 in
+    let behind : List Piece = saves f (function p m).parameters saved_registers f.kept in
+    let whole = (pieces_split s.memory g (first_word p m) (prologue f ++ behind) (flat_map (λ b. b) (routine p m).blocks) (h.unit.functions m h.known)).0 in
+    let front = (pieces_split s.memory g (first_word p m) (prologue f) behind whole).0 in
     let over = control.overflows g (first_word p m) f s front h.pc lacks in
     let at = turns.call g (first_word p m + 4) stack_call over.after (omega arith) over.code over.pc over.registers in
     let ran = turns.steps image 5 w s at.called refl (steps_then 4 1 s over.after at.called over.runs at.first) in

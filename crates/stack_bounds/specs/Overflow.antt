@@ -1,5 +1,5 @@
 -- A function finds no room for its frame, and the run ends.
-use Rattle.std.specs.Prelude.{◌≡◌, ℕ, ◌+◌, ◌%◌, ◌<◌, ◌≤◌, List, [], ◌∷◌, length, slice_get, Some}
+use Rattle.std.specs.Prelude.{◌≡◌, ℕ, ◌+◌, ◌%◌, ◌<◌, ◌≤◌, false, List, [], ◌∷◌, length, slice_get, Some}
 use Rattle.rv64_isa.specs.Step.{x}
 use Rattle.cxa_runtime.specs.declared.effect.End.TheVariants as ends
 use Rattle.cxa_runtime.specs.Raising.{Image}
@@ -23,9 +23,11 @@ pub record RunOverflows (image : Image) (pick : ℕ → ℕ) (n : ℕ) (w : abi.
   pub items : (run image pick n w).items ≡ []
   pub end : (run image pick n w).end ≡ ends.Stack
 
--- The hart is at the first word of a function, and below sp the stack has bytes for its frame, but not above its lowest 4 KiB.
+-- The hart is at the first word of a function that looks for room, since it calls something, and below sp the stack has bytes for its frame, but
+-- not above its lowest 4 KiB.
 pub record FindsNoRoom (p : Plan) (m : ℕ) (w : abi.World) : Type 0 where
   pub known : m < length p.unit.functions
+  pub looks : (shape p m).leaf ≡ false
   pub registers : length w.hart.regs ≡ 32
   pub pc : w.hart.pc ≡ address (setting p m).ground (first_word p m)
   pub aligned : x w.hart sp % 8 ≡ 0
@@ -39,13 +41,14 @@ pub record FindsNoRoom (p : Plan) (m : ℕ) (w : abi.World) : Type 0 where
 abbrev pub FunctionsOverflow : Type 0
 FunctionsOverflow = (image : Image) (pick : ℕ → ℕ) (n : ℕ) (p : Plan) (m : ℕ) (w : abi.World) → FindsNoRoom p m w → 6 ≤ n → RunOverflows image pick n w
 
--- What is asked where a function is called for which the stack has no room: but for the room, as of every other call.
+-- What is asked where a function is called that looks for room and for which the stack has none: but for the room, as of every other call.
 pub record CallLacksRoom (p : Plan) (n : ℕ) (frame : Frame) (w : World) (active : List Activation) (c : CallOf) (given : List Word) : Type 0 where
   pub object : ObjectAsked p n frame c.object
   pub arguments : ArgumentsAsked p n frame w c.arguments
   pub known : c.number < length p.unit.functions
   pub passed : length given ≤ length (shape p c.number).slots
   pub words : WordsFit (slot_kinds p c.number) 0 given
+  pub looks : (shape p c.number).leaf ≡ false
   pub lacks : 0x100_0000 < open_bytes p active + (shape p c.number).size + 0x1000
 
 -- Where a state matches whose operation calls such a function, the run ends within as many turns as the operation has words and six beside them.

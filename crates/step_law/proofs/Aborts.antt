@@ -87,9 +87,10 @@ handlers_abort run x q before n r a fs st w at frames callee = by (step (code_fo
     by (goes_to middle) e h =
         let result = result_stands x q before n (return r) st w at r refl in
         let st_at = step_at x q before n (return r) st w at middle e in
-        let ends = run.aborts_behind (program_of x.image).image x.pick 6 q n st middle a fs r w at.matches st_at frames callee result (omega arith) in
+        let most : ℕ = length (linear_code (shape q n) (return r)) + 2 in
+        let ends = run.aborts_behind (program_of x.image).image x.pick most q n st middle a fs r w at.matches st_at frames callee result (omega arith) in
         let once = quiet_once (code_of q.unit) st (unpaid_at x q before n (return r) st w at refl) in
         inr (inl (subst (λ c. Ends (program_of x.image).image x.pick c st w) (same_code x q before n (return r) st w at)
-        (runs_end (program_of x.image).image x.pick q st w 2 6 aborted ends.0.0 [] ends.0.1 once (own_end_paid x q before n (return r) st w at 6 (omega arith)) (ends.0.2 ∙ sym (append-nil st.world.items))
+        (runs_end (program_of x.image).image x.pick q st w 2 most aborted ends.0.0 [] ends.0.1 once (own_end_paid x q before n (return r) st w at most (omega arith)) (ends.0.2 ∙ sym (append-nil st.world.items))
         (λ k many. (run.aborts_behind (program_of x.image).image x.pick k q n st middle a fs r w at.matches st_at frames callee result many).1))))
     by (finishes f v) e h = undefined_breaks x q before n (return r) st w at f v e h

@@ -30,13 +30,14 @@ use Rattle.step_law.specs.Facts.{code_for}
 use Rattle.step_law.specs.Rows.{Run, FollowsIn}
 use Rattle.step_law.specs.Thrown.{IsAnswered}
 use Rattle.step_law.proofs.Aligned.{align_same, itself}
-use Rattle.step_law.proofs.ComesOut.{same_code, inv, live, unheld, number, thrown, known_handler, own_from, list_answers}
+use Rattle.step_law.proofs.ComesOut.{same_code, inv, live, unheld, number, thrown, known_handler, own_from, list_answers, handler_takes, out_page}
 use Rattle.step_law.proofs.Dooms.{newest_entered}
 use Rattle.step_law.proofs.Exceptions.{spared_all}
 use Rattle.step_law.proofs.Keeping.{NotEntered, CalmAt, kept_by_turns}
-use Rattle.step_law.proofs.LostBehind.{IsLostBehind, room_or_none, with_or_without}
+use Rattle.step_law.proofs.LostBehind.{IsLostBehind, fits_or_not, with_or_without}
 use Rattle.step_law.proofs.OutLost.{out_named, out_aborts, out_begins, out_overflows}
 use Rattle.step_law.proofs.OwnSteps.{OwnSteps, own_leads, own_calm, own_reach}
+use Rattle.step_law.proofs.Rooms.{few_to_enter}
 
 entered_twice : (e y : ℕ) → But e y → NotEntered (Enter e ∷ Enter e ∷ []) y
 entered_twice e y other = grind (arith, nat_tests, other)
@@ -109,6 +110,8 @@ module _ (x : Run) (q : Plan) (before e d type : ℕ) (destructor : Option ℕ) 
       aligned = align_same q q (itself q) st.top raising.top st.frames (sym a.out.rests.rests.runs);
       spared = (tt, tt, spared_all x.carrying items e (entered_twice e) (Some call_unexpected) st.frames (unheld x q before st w e d a.out a.few type destructor kept a.native a.may));
       known = known_handler x q before st w e d a.out a.few type destructor kept a.native a.may;
+      takes = handler_takes x q before st w e d a.out a.few type destructor kept a.native a.may;
+      page = out_page x q before st w e d a.out;
       frames = a.out.rests.rests.memory.unit.frames;
       few = (let once = few_entered e st.world.caught in let twice = few_entered e (entered e st.world).caught in omega (arith, once, twice));
     }
@@ -124,12 +127,12 @@ module _ (x : Run) (q : Plan) (before e d type : ℕ) (destructor : Option ℕ) 
         (Enter e ∷ unless_ending st.world (Enter e ∷ [])) (omega arith) (omega arith) (λ k many. run.aborts x.image x.pick k q e d type destructor kept j st w out says none named without many))
         (λ m quiet some.
         let hidden = a.out.here.stands.hides quiet in
-        room_or_none x q before st w a.out.here.facts a.out.here.stands 4 raising v items 2 kept.terminate_handler lost m quiet some
+        fits_or_not x q before st w a.out.here.facts a.out.here.stands 4 raising v items 2 kept.terminate_handler lost m quiet some
         (λ room.
         let ran = run.calls_the_handler x.image q e d type destructor kept j m st w out says none named quiet some hidden room in
         let reaches = ran.2 in
         out_begins x q before st w e d a.out a.few type destructor kept a.native a.may 4 raising v (Enter e) (Enter e ∷ []) 2 kept.terminate_handler lost (omega arith) (omega arith) m quiet some q (record { frames = itself q; base = refl; tables = refl })
-        (own_reach x q a.out.here.facts 4 a.out.here.stands.steps st raising (inv x q before st w e d a.out) a.out.here.stands.reaches own_allowed) reaches.turns reaches.after (omega (arith, reaches.few))
+        (own_reach x q a.out.here.facts 4 a.out.here.stands.steps st raising (inv x q before st w e d a.out) a.out.here.stands.reaches own_allowed) reaches.turns reaches.after (let entry = few_to_enter q m in omega (arith, reaches.few, entry))
         (made_by_turns (program_of x.image).image x.pick reaches.turns w reaches.after items reaches.runs) (kept_by_turns (program_of x.image).image reaches.turns w reaches.after items reaches.runs) reaches.holds ran.1)
         (λ lacks.
         out_overflows x q before st w e d a.out a.few type destructor kept a.native a.may 4 raising v (Enter e) (Enter e ∷ []) 2 kept.terminate_handler lost (omega arith) (omega arith) m quiet some lacks holds 31 6 (omega arith)

@@ -25,7 +25,7 @@ use Rattle.linear_invariant.proofs.Calls.{Spared, others_spared}
 use Rattle.linear_invariant.proofs.Lists.{few_entered}
 use Rattle.linear_invariant.proofs.Worlds.{But}
 use Rattle.table_verdicts.specs.Types.{ChainEnds}
-use Rattle.machine_simulation.specs.Plan.{Plan}
+use Rattle.machine_simulation.specs.Plan.{Plan, function}
 use Rattle.raise_ends.specs.Ends.{unless_ending}
 use Rattle.stack_bounds.specs.Taken.{StacksHoldCalls}
 use Rattle.unexpected_calls.specs.Doomed.{NothingStops}
@@ -41,13 +41,14 @@ use Rattle.step_law.specs.Thrown.{IsAnswered}
 use Rattle.step_law.proofs.Aligned.{align_same, itself}
 use Rattle.step_law.proofs.BadMade.{eleven, own_eleven, reach_eleven, bad, raising, own_bad, live_bad, v, bad_is, raises_bad, asked_bad, with_bad, reach_bad}
 use Rattle.step_law.proofs.Calm.{calm_leads, calm_before}
-use Rattle.step_law.proofs.ComesOut.{same_code, live, unheld, number, thrown, list_answers}
+use Rattle.step_law.proofs.ComesOut.{same_code, live, unheld, number, thrown, list_answers, out_page}
 use Rattle.step_law.proofs.Dooms.{newest_entered}
 use Rattle.step_law.proofs.Exceptions.{spared_others}
 use Rattle.step_law.proofs.Keeping.{NotEntered, kept_by_turns, kept_by_picked}
-use Rattle.step_law.proofs.LostBehind.{IsLostBehind, room_or_none, with_or_without}
+use Rattle.step_law.proofs.LostBehind.{IsLostBehind, fits_or_not, with_or_without}
 use Rattle.step_law.proofs.OutLost.{out_named, out_aborts, out_begins, out_overflows}
 use Rattle.step_law.proofs.OwnSteps.{own_leads, own_calm}
+use Rattle.step_law.proofs.Rooms.{few_to_enter, takes_nothing}
 use Rattle.step_law.proofs.Terminates.{known_handler, terminated_defined}
 
 -- what the calls hold is neither of two
@@ -74,6 +75,9 @@ module _ (x : Run) (q : Plan) (before e d type : ℕ) (destructor : Option ℕ) 
 
   known : (m : ℕ) → handler ≡ Some m → m < length q.unit.functions
   known m some = known_handler q handler m w.terminate_handler some a.out.rests.rests.runtime.exceptions.terminate_handler
+
+  takes : (m : ℕ) → handler ≡ Some m → 0 ≡ (function q m).parameters
+  takes m some = takes_nothing x.program q handler m a.out.here.stands.unit a.out.here.stands.stands.lives.handlers.terminate some
 
   made_before : e ≤ st.world.last_number
   made_before = a.out.rests.rests.runtime.exceptions.numbers e (native type destructor kept) (live x q before st w e d a.out a.few type destructor kept a.native a.may)
@@ -116,6 +120,8 @@ module _ (x : Run) (q : Plan) (before e d type : ℕ) (destructor : Option ℕ) 
       aligned = align_same q q (itself q) st.top last.top st.frames (sym a.out.rests.rests.runs);
       spared = (tt, tt, spared_others x.carrying e (Some call_unexpected) st.frames (unheld x q before st w e d a.out a.few type destructor kept a.native a.may));
       known = known;
+      takes = takes;
+      page = out_page x q before st w e d a.out;
       frames = a.out.rests.rests.memory.unit.frames;
       few = (let more = few_entered e st.world.caught in omega (arith, more));
     }
@@ -131,12 +137,12 @@ module _ (x : Run) (q : Plan) (before e d type : ℕ) (destructor : Option ℕ) 
         (λ k many. run.full_aborts x.image x.pick k q e d type destructor kept j st w out says full named none many))
         (λ m quiet some.
         let hidden = a.out.here.stands.hides quiet in
-        room_or_none x q before st w a.out.here.facts a.out.here.stands 5 last world (Enter e ∷ []) 1 handler lost m quiet some
+        fits_or_not x q before st w a.out.here.facts a.out.here.stands 5 last world (Enter e ∷ []) 1 handler lost m quiet some
         (λ room.
         let ran = run.full_calls x.image q e d type destructor kept j m st w out says full named quiet some hidden room in
         let comes = ran.2 in
         out_begins x q before st w e d a.out a.few type destructor kept a.native a.may 5 last world (Enter e) [] 1 handler lost (omega arith) (omega arith) m quiet some q (record { frames = itself q; base = refl; tables = refl })
-        (reach_eleven x q before e d type destructor kept st w a) comes.turns comes.after (omega (arith, comes.few))
+        (reach_eleven x q before e d type destructor kept st w a) comes.turns comes.after (let entry = few_to_enter q m in omega (arith, comes.few, entry))
         (made_by_turns (program_of x.image).image x.pick comes.turns w comes.after (Enter e ∷ []) comes.runs) (kept_by_turns (program_of x.image).image comes.turns w comes.after (Enter e ∷ []) comes.runs) comes.holds ran.1)
         (λ lacks.
         out_overflows x q before st w e d a.out a.few type destructor kept a.native a.may 5 last world (Enter e) [] 1 handler lost (omega arith) (omega arith) m quiet some lacks holds 35 7 (omega arith)
@@ -207,6 +213,8 @@ module _ (x : Run) (q : Plan) (before e d type : ℕ) (destructor : Option ℕ) 
             (asked_bad x q before e d type destructor kept st w a free defined).has.unheld,
       );
       known = known;
+      takes = takes;
+      page = out_page x q before st w e d a.out;
       frames = a.out.rests.rests.memory.unit.frames;
       few = (let once = few_entered e st.world.caught in let twice = few_entered new thrown_world.caught in omega (arith, once, twice));
     }
@@ -222,14 +230,14 @@ module _ (x : Run) (q : Plan) (before e d type : ℕ) (destructor : Option ℕ) 
         (Enter e ∷ Make new ∷ unless_ending st.world (Enter new ∷ [])) (omega arith) (omega arith) (λ k many. run.aborts x.image x.pick k q e d type destructor kept j st w out says free chain none named without many))
         (λ m quiet some.
         let hidden = a.out.here.stands.hides quiet in
-        room_or_none x q before st w a.out.here.facts a.out.here.stands 7 there doomed_world items 2 handler doomed_lost m quiet some
+        fits_or_not x q before st w a.out.here.facts a.out.here.stands 7 there doomed_world items 2 handler doomed_lost m quiet some
         (λ room.
         let ran = run.calls_the_handler x.image x.pick q e d type destructor kept j m st w out says free chain none named quiet some hidden room in
         let slot = ran.2 in
         let comes = ran.4 in
         out_begins x q before st w e d a.out a.few type destructor kept a.native a.may 7 there doomed_world (Enter e) (Make new ∷ Enter new ∷ []) 2 handler doomed_lost (omega arith) (omega arith) m quiet some
         (with_bad x q before e d type destructor kept st w a free slot) (record { frames = record { unit = refl; hidden = refl }; base = refl; tables = refl })
-        (reach_bad x q before e d type destructor kept st w a free slot) comes.turns comes.after (omega (arith, comes.few)) (record { run = comes.runs.run })
+        (reach_bad x q before e d type destructor kept st w a free slot) comes.turns comes.after (let entry = few_to_enter q m in omega (arith, comes.few, entry)) (record { run = comes.runs.run })
         (kept_by_picked (program_of x.image).image x.pick comes.turns w comes.after items comes.runs) comes.holds ran.1)
         (λ lacks.
         out_overflows x q before st w e d a.out a.few type destructor kept a.native a.may 7 there doomed_world (Enter e) (Make new ∷ Enter new ∷ []) 2 handler doomed_lost (omega arith) (omega arith) m quiet some lacks holds 43 9 (omega arith)

@@ -1,7 +1,6 @@
 -- A forced unwind comes to a call out of which nothing may come, in a whole run: the terminate handler in effect begins below the frames that were left,
 -- or the run is over for want of stack, with 4,096 calls open.
-use Rattle.std.proofs.Common.{◌≡◌, ◌⊎◌, ◌∙◌, refl, sym, ap, subst, arith, ℕ, zero, suc, ◌+◌, ◌*◌, ◌≤◌, ◌<◌, inl, inr, ℤ, Bool, true, false, List, [], ◌∷◌, length, leb, Option, Some, is_some, if◌then◌else◌}
-use Rattle.std.proofs.lemmas.Bool.Decides.{leb_tells}
+use Rattle.std.proofs.Common.{◌≡◌, ◌⊎◌, ◌∙◌, refl, sym, ap, subst, arith, ℕ, zero, suc, ◌+◌, ◌*◌, ◌≤◌, ◌<◌, inl, inr, ℤ, Bool, true, false, List, [], ◌∷◌, length, Option, Some, is_some, if◌then◌else◌}
 use Rattle.meaning_forms.specs.Outcome.{aborted}
 use Rattle.cxa_runtime.specs.Raising.{Image}
 use Rattle.cxa_runtime.specs.World as abi
@@ -24,14 +23,16 @@ use Rattle.machine_forms.specs.LinearCode.{linear_code}
 use Rattle.machine_stubs.specs.Stretches.{stub_word}
 use Rattle.machine_pieces.specs.Turning.{ForcedTurns}
 use Rattle.machine_simulation.specs.Calls.{open_bytes}
-use Rattle.machine_simulation.specs.Entering.{frame_for}
+use Rattle.machine_simulation.specs.Entering.{frame_for, begin_room}
 use Rattle.machine_simulation.specs.Matches.{Matches}
 use Rattle.machine_simulation.specs.Plan.{Plan, shape}
 use Rattle.machine_exceptions.specs.Terminates.{waiting_terminate, ending_world, in_handler}
 use Rattle.raise_ends.specs.Barriers.{barred_state, Left, Barred, ForcedUnwindsTerminate}
-use Rattle.raise_ends.specs.Ends.{RunEnds, HandlerBegins, hiding, plan_in_handler}
+use Rattle.raise_ends.specs.Ends.{RunEnds, HandlerBegins, hiding, plan_in_handler, HandlerFits}
 use Rattle.raise_ends.specs.Unwinds.{BeginsUnwind, GoesOnUnwinding, AtUnwind}
 use Rattle.handler_overflows.specs.Unwinds.{BarredOverflows, ForcedUnwindsOverflow}
+use Rattle.handler_overflows.specs.Overflow.{HandlerLacksRoom}
+use Rattle.handler_overflows.proofs.Above.{unwind_leaves}
 use Rattle.stack_bounds.specs.Taken.{is_terminate_call, terminate_calls, StacksHoldCalls}
 use Rattle.address_invariant.specs.Extents.{extents_of}
 use Rattle.address_invariant.specs.Laws.{GoesOn}
@@ -44,7 +45,8 @@ use Rattle.whole_runs.proofs.Counts.{quiet_once}
 use Rattle.whole_runs.proofs.Rounds.{pays_known, some_ending, steps_overflow}
 use Rattle.whole_runs.proofs.Single.{made_by_forced}
 use Rattle.whole_runs.proofs.Staying.{once_stays, deepest_grows}
-use Rattle.whole_runs.proofs.Spending.{terminate_turns}
+use Rattle.whole_runs.proofs.Spending.{terminate_turns, first_among}
+use Rattle.cost_words.specs.Spends.{spends}
 use Rattle.step_law.specs.Barred.{BarredFollow}
 use Rattle.step_law.specs.Facts.{needs_for, code_for}
 use Rattle.step_law.specs.Standing.{aims, StandsBy}
@@ -56,6 +58,7 @@ use Rattle.step_law.proofs.Exceptions.{calm_other}
 use Rattle.step_law.proofs.Forced.{cancels_unpaid, begun, cancels_marked}
 use Rattle.step_law.proofs.ForcedEnds.{begins_unwind, forced_terminates}
 use Rattle.step_law.proofs.HandlerBegins.{none_terminate}
+use Rattle.step_law.proofs.Rooms.{few_to_enter, takes_nothing, room_or_none, page_here}
 use Rattle.step_law.proofs.Terminates.{known_handler}
 use Rattle.step_law.proofs.Keeping.{CalmAt, calm_marked, WayKept, kept_by_forced}
 use Rattle.step_law.proofs.Raises.{is_running, forced_asked}
@@ -182,6 +185,9 @@ module _ (x : Run) (q : Plan) (before n m : ℕ) (o : LinearOp) (st : State) (w 
       stands : StandsBy x.program x.image x.carrying x.tables r (before + turns) go u
       stands = barred_stands x q r before turns m 2 left.calls left.barring left.outer st.world st w u [] at.facts at.stands barred_there
 
+    first_pays : (turns : ℕ) → turns ≤ length (linear_code (shape q n) o) + 64 → turns ≤ spends code 1 st
+    first_pays turns least = turn_paid x q before n o st w at middle turns one (terminate_turns code st middle refl) least
+
     goes_on : (turns : ℕ) → turns ≤ length (linear_code (shape q n) o) + 64 → (u : abi.World) → ForcedTurns image turns w u [] → Matches r go u → FollowsIn x before st w
     goes_on turns least u turned matches =
         let made = made_by_forced image x.pick turns w u [] turned in
@@ -197,7 +203,8 @@ module _ (x : Run) (q : Plan) (before n m : ℕ) (o : LinearOp) (st : State) (w 
           shows = begins.1;
           turns = turns;
           paid = omega (arith, once, many);
-          few = turn_paid x q before n o st w at middle turns one (terminate_turns code st middle refl) least;
+          few = (let first = first_pays turns least in let all = first_among code 2 st (omega arith) in omega (arith, first, all));
+          soon = (let first = first_pays turns least in omega (arith, first));
           after = u;
           made = made;
           stands = (r, stands turns u (kept_by_forced image turns w u [] turned) matches);
@@ -228,21 +235,26 @@ module _ (x : Run) (q : Plan) (before n m : ℕ) (o : LinearOp) (st : State) (w 
     own_one : step own st ≡ goes_to middle
     own_one = ap (λ c. step c st) (same_code x q before n o st w at) ∙ one
 
-    barred : ForcedUnwindsTerminate → open_bytes q (waiting_terminate m ∷ here) + (shape q m).size + 0x1000 ≤ 0x100_0000 → Barred q x.image m st w words k
+    barred : ForcedUnwindsTerminate → HandlerFits q m st → Barred q x.image m st w words k
     barred run fits = run.calls_the_handler x.image q n m k st middle w at.matches (is_running x q before n o st w at) at_unwind own_one refl at.stands.stands.stand named some fits
 
-    over_by : ForcedUnwindsOverflow → 0x100_0000 < open_bytes q (waiting_terminate m ∷ here) + (shape q m).size + 0x1000 → (j : ℕ) → words + 13 ≤ j → BarredOverflows image x.pick j q m st w
+    over_by : ForcedUnwindsOverflow → HandlerLacksRoom q m st → (j : ℕ) → words + 13 ≤ j → BarredOverflows image x.pick j q m st w
     over_by over lacks j many = over x.image x.pick j q n m k st middle w at.matches (is_running x q before n o st w at) at_unwind own_one refl at.stands.stands.stand named some (at.stands.hides quiet) lacks many
 
     pub either : ForcedUnwindsTerminate → ForcedUnwindsOverflow → StacksHoldCalls → FollowsIn x before st w
-    either run over holds = by (leb_tells (open_bytes q (waiting_terminate m ∷ here) + (shape q m).size + 0x1000) 0x100_0000)
+    either run over holds =
+        by (room_or_none (shape q m).leaf (open_bytes q (waiting_terminate m ∷ here)) (shape q m).size
+        (let page = page_here x q before n o st w at (unwind_leaves q n st w k at_unwind) in let none = at.stands.hides quiet in omega (arith, page, none)))
       where
-        by : ((leb (open_bytes q (waiting_terminate m ∷ here) + (shape q m).size + 0x1000) 0x100_0000 ≡ true) × (open_bytes q (waiting_terminate m ∷ here) + (shape q m).size + 0x1000 ≤ 0x100_0000))
-            ⊎ ((leb (open_bytes q (waiting_terminate m ∷ here) + (shape q m).size + 0x1000) 0x100_0000 ≡ false) × (0x100_0000 < open_bytes q (waiting_terminate m ∷ here) + (shape q m).size + 0x1000)) → FollowsIn x before st w
-        by (inl room) = let b = barred run room.1 in goes_on b.left b.begins b.ran.turns (omega (arith, b.ran.few)) b.ran.after b.ran.runs b.ran.holds.0
-        by (inr lacks) =
-            let first = over_by over lacks.1 (words + 13) (omega arith) in
-            runs_over first.left first.overflows.0 holds (words + 13) (omega arith) lacks.1 (λ j many. (over_by over lacks.1 j many).overflows.1)
+        by : (open_bytes q (waiting_terminate m ∷ here) + begin_room (shape q m).leaf (shape q m).size ≤ 0x100_0000) ⊎ (((shape q m).leaf ≡ false) × (0x100_0000 < open_bytes q (waiting_terminate m ∷ here) + (shape q m).size + 0x1000)) → FollowsIn x before st w
+        by (inl room) =
+            let b = barred run (record { taken = takes_nothing x.program q st.world.installed.terminate_handler m at.stands.unit at.stands.stands.lives.handlers.terminate some; room = room }) in
+            let entry = few_to_enter q m in
+            goes_on b.left b.begins b.ran.turns (omega (arith, b.ran.few, entry)) b.ran.after b.ran.runs b.ran.holds.0
+        by (inr none) =
+            let lacks : HandlerLacksRoom q m st = record { looks = none.0; lacks = none.1 } in
+            let first = over_by over lacks (words + 13) (omega arith) in
+            runs_over first.left first.overflows.0 holds (words + 13) (omega arith) none.1 (λ j many. (over_by over lacks j many).overflows.1)
 
 -- a step that comes to terminate does while that does not run yet
 pub not_ending : (h : Option ℕ) (gs : List Activation) (v : World) (next : State) → terminated h gs v ≡ goes_to next → v.ending ≡ false

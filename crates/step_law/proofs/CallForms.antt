@@ -1,5 +1,5 @@
 -- Operations that call compiled functions: what they are, and what is known of what they pass.
-use Rattle.std.proofs.Common.{◌≡◌, refl, sym, subst, arith, ℕ, ◌+◌, ◌≤◌, ◌<◌, true, List, [], ◌∷◌, length, Option, Some, None}
+use Rattle.std.proofs.Common.{◌≡◌, refl, sym, subst, arith, ℕ, ◌+◌, ◌≤◌, ◌<◌, true, false, List, [], ◌∷◌, length, Option, Some, None}
 use Rattle.region_forms.specs.Form.{SlotKind, int_slot, address_slot, object_slot, help_slot, Kinds, kinds_of, Place, defined, call_value, Argument, int_argument, address_argument, handler_argument, Arguments, no_arguments, argument_then, Op, evaluate, store, call, construct, destroy}
 use Rattle.region_forms.specs.World.{Address, Word, number_word, address_word, Frame, World}
 use Rattle.region_forms.specs.WellFormed.{holds_address, count_of}
@@ -16,6 +16,7 @@ use Rattle.address_bounds.specs.Reaches.{Needs, ArgumentsReach, LinearReaches}
 use Rattle.operation_premises.specs.Asked.{ArgumentsLive}
 use Rattle.operation_premises.specs.Static.{PlaceStatic, ArgumentStatic, ArgumentsStatic, LinearStatic}
 use Rattle.operation_premises.proofs.Asked.{all_is_asked}
+use Rattle.machine_forms.specs.Leaf.{linear_stays}
 
 -- what is called, if what is passed is defined
 abbrev pub calls_or : Option Place → ℕ → Option (List Word) → Effect
@@ -63,6 +64,15 @@ call_is (plain (destroy q n)) c is =
     subst (IsCallOp (plain (destroy q n))) same (record { op = destroy q n; is = refl; wants = None; does = λ ks x w. alone_call n (address_of ks x q) })
 call_is o c is = absurd (cc is)
 
+-- it leaves its function
+pub call_leaves : (o : LinearOp) (c : CallOf) → call_of o ≡ Some c → linear_stays o ≡ false
+call_leaves (plain (evaluate (call_value (defined n) args))) c is = refl
+call_leaves (plain (store q (call_value (defined n) args))) c is = refl
+call_leaves (plain (call (defined n) args)) c is = refl
+call_leaves (plain (construct q n args)) c is = refl
+call_leaves (plain (destroy q n)) c is = refl
+call_leaves o c is = absurd (cc is)
+
 -- ---- what is known of it
 
 abbrev pub ObjectKnown : UnitCode → FunctionCode → Reach → (wants : Reach) → Kinds → Option Place → Type 0
@@ -77,6 +87,7 @@ filled (Some q) = 1
 pub record CallKnown (u : UnitCode) (g : FunctionCode) (needs : Needs) (reach : Reach) (c : CallOf) : Type 0 where
   pub known : c.number < length u.functions
   pub few : filled c.object + count_of c.arguments ≤ length (code_at u c.number).slots
+  pub taken : filled c.object + count_of c.arguments ≡ (code_at u c.number).parameters
   pub object : ObjectKnown u g reach (needs c.number) (kinds_of (code_at u c.number).slots) c.object
   pub static : ArgumentsStatic u g (kinds_of (code_at u c.number).slots) (filled c.object) c.arguments
   pub room : ArgumentsReach needs reach g.slots (needs c.number) (filled c.object) c.arguments
@@ -84,20 +95,20 @@ pub record CallKnown (u : UnitCode) (g : FunctionCode) (needs : Needs) (reach : 
 pub call_known : (u : UnitCode) (g : FunctionCode) (needs : Needs) (reach : Reach) (o : LinearOp) (c : CallOf) → call_of o ≡ Some c → LinearStatic u g o → LinearReaches needs reach g.slots o → CallKnown u g needs reach c
 call_known u g needs reach (plain (evaluate (call_value (defined n) args))) c is s r =
     let same : record { number = n; object = None; arguments = args } ≡ c = cc is in
-    subst (CallKnown u g needs reach) same (record { known = s.known; few = s.few; object = tt; static = s.arguments; room = r })
+    subst (CallKnown u g needs reach) same (record { known = s.known; few = s.few; taken = s.taken; object = tt; static = s.arguments; room = r })
 call_known u g needs reach (plain (store q (call_value (defined n) args))) c is s r =
     let same : record { number = n; object = None; arguments = args } ≡ c = cc is in
-    subst (CallKnown u g needs reach) same (record { known = s.1.known; few = s.1.few; object = tt; static = s.1.arguments; room = r.1 })
+    subst (CallKnown u g needs reach) same (record { known = s.1.known; few = s.1.few; taken = s.1.taken; object = tt; static = s.1.arguments; room = r.1 })
 call_known u g needs reach (plain (call (defined n) args)) c is s r =
     let same : record { number = n; object = None; arguments = args } ≡ c = cc is in
-    subst (CallKnown u g needs reach) same (record { known = s.known; few = s.few; object = tt; static = s.arguments; room = r })
+    subst (CallKnown u g needs reach) same (record { known = s.known; few = s.few; taken = s.taken; object = tt; static = s.arguments; room = r })
 call_known u g needs reach (plain (construct q n args)) c is s r =
     let same : record { number = n; object = Some q; arguments = args } ≡ c = cc is in
-    subst (CallKnown u g needs reach) same (record { known = s.1.known; few = s.1.few; object = (s.0, r.0, s.2.held); static = s.1.arguments; room = r.1 })
+    subst (CallKnown u g needs reach) same (record { known = s.1.known; few = s.1.few; taken = s.1.taken; object = (s.0, r.0, s.2.held); static = s.1.arguments; room = r.1 })
 call_known u g needs reach (plain (destroy q n)) c is s r =
     let same : record { number = n; object = Some q; arguments = no_arguments } ≡ c = cc is in
     let some = s.1.some in
-    subst (CallKnown u g needs reach) same (record { known = s.1.known; few = omega (arith, some); object = (s.0, r, s.1.held); static = tt; room = tt })
+    subst (CallKnown u g needs reach) same (record { known = s.1.known; few = omega (arith, some); taken = s.2; object = (s.0, r, s.1.held); static = tt; room = tt })
 call_known u g needs reach o c is s r = absurd (cc is)
 
 -- ---- what is passed

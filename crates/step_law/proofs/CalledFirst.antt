@@ -5,7 +5,7 @@ use Rattle.rv64_isa.specs.Step.{x}
 use Rattle.cxa_runtime.specs.World as abi
 use Rattle.cxa_runtime.specs.Raising.{Image}
 use Rattle.region_forms.specs.World.{of_exception}
-use Rattle.linear_forms.specs.Linear.{UnitCode}
+use Rattle.linear_forms.specs.Linear.{UnitCode, unexpected}
 use Rattle.linear_forms.specs.Stub.{call_unexpected}
 use Rattle.linear_forms.specs.Activation.{State}
 use Rattle.machine_pieces.specs.Frames.{AddressAt}
@@ -15,6 +15,7 @@ use Rattle.machine_stubs.proofs.Walking.{update, walk_begins, walk_addi, walk_lo
 use Rattle.machine_stubs.proofs.Ending.{path, word_at}
 use Rattle.machine_simulation.specs.Plan.{Plan}
 use Rattle.machine_simulation.proofs.Matching.{Stands}
+use Rattle.machine_simulation.proofs.Floors.{caller_above}
 use Rattle.machine_exceptions.specs.Unexpected.{AtUnexpected}
 use Rattle.machine_exceptions.proofs.EndCatching.{room_below}
 use Rattle.unexpected_calls.proofs.Called.{called}
@@ -50,7 +51,7 @@ called_unshown image p n o s e z st w back h at =
     let w1 : abi.World = first.after in
     let c = first.holds.calls in
     let stack : ℕ = x w1.hart 2 in
-    let high : 0x7000_1000 ≤ stack = c.memory.top.above in
+    let high : 0x7000_1000 ≤ stack = caller_above p n st.top.place st.top.frame st.world w1.hart.memory stack back (unexpected o s) at.there refl c.memory.top in
     let stands : StubStands p.unit p.base call_unexpected 0 (stack - 80) 80 w1.hart = record {
       pc = c.pc;
       registers = c.registers;

@@ -1,6 +1,5 @@
 -- Calls of compiled functions, in a whole run: where the stack has room they begin, else the run is over with 4,096 calls open.
-use Rattle.std.proofs.Common.{◌≡◌, ◌∙◌, refl, sym, ap, subst, arith, ℕ, zero, suc, ◌+◌, ◌≤◌, ◌<◌, ◌⊎◌, inl, inr, true, false, List, [], ◌∷◌, length, append-nil, leb, Option, Some, None}
-use Rattle.std.proofs.lemmas.Bool.Decides.{leb_tells}
+use Rattle.std.proofs.Common.{◌≡◌, ◌∙◌, refl, sym, ap, subst, arith, ℕ, zero, suc, ◌+◌, ◌≤◌, ◌<◌, ◌⊎◌, inl, inr, false, List, [], ◌∷◌, length, append-nil, Option, Some, None}
 use Rattle.cxa_runtime.specs.World as abi
 use Rattle.eh_run.specs.Program.{program_of}
 use Rattle.region_forms.specs.Form.{Place}
@@ -21,7 +20,7 @@ use Rattle.machine_pieces.specs.Turning.{Turns}
 use Rattle.machine_simulation.specs.Plan.{Plan, function, shape, slot_kinds}
 use Rattle.machine_simulation.specs.Asked.{ObjectAsked, ArgumentsAsked}
 use Rattle.machine_simulation.specs.Calls.{CallOf, call_of, open_bytes}
-use Rattle.machine_simulation.specs.Entering.{opened, given_to, CallFits, frame_for, CallsRun}
+use Rattle.machine_simulation.specs.Entering.{opened, given_to, CallFits, frame_for, CallsRun, begin_room, entry_turns}
 use Rattle.machine_simulation.specs.Matches.{Matches}
 use Rattle.machine_simulation.specs.Steps.{StepAt, StepMade}
 use Rattle.machine_simulation.proofs.Calling.{same_next, enters_to}
@@ -47,8 +46,9 @@ use Rattle.step_law.specs.Rows.{Run, IsAt, FollowsIn, CallsFollow}
 use Rattle.step_law.proofs.Aligned.{SameFrames, CallsAlign, align_push}
 use Rattle.step_law.proofs.At.{is_inside, is_static, reaches_there, fetches, same_code, step_acts, step_at, turn_paid, own_paid, own_end_paid}
 use Rattle.step_law.proofs.Builtins.{kinds_same}
-use Rattle.step_law.proofs.CallForms.{IsCallOp, call_is, calls_or, CallKnown, call_known, ObjectKnown, filled, GivenFits, given_fits}
+use Rattle.step_law.proofs.CallForms.{IsCallOp, call_is, call_leaves, calls_or, CallKnown, call_known, ObjectKnown, filled, GivenFits, given_fits}
 use Rattle.step_law.proofs.Keeping.{NotEntered, CalmAt, IsCalm, kept_by_turns, calm_forced, stands_behind}
+use Rattle.step_law.proofs.Rooms.{room_or_none, page_here, few_to_enter}
 use Rattle.machine_simulation.proofs.Items.{step_items}
 
 calls_calmly : (wants : Option Place) (n : ℕ) (o : Option (List Word)) → IsCalm (calls_or wants n o)
@@ -87,6 +87,9 @@ module _ (x : Run) (q : Plan) (before n : ℕ) (o : LinearOp) (st : State) (w : 
     few_passed : length given ≤ length (shape q c.number).slots
     few_passed = let count = fit.count in let few = known.few in omega (arith, count, few)
 
+    all_taken : length given ≡ (function q c.number).parameters
+    all_taken = fit.count ∙ known.taken
+
     module _ (next : State) (e : step code st ≡ goes_to next) where
       at : StepAt q st next n o
       at = step_at x q before n o st w a next e
@@ -95,23 +98,23 @@ module _ (x : Run) (q : Plan) (before n : ℕ) (o : LinearOp) (st : State) (w : 
       next_is = same_next (enters_to q c.number given st) next (call_step q n st next o c given a.runs a.there calling passed at.step)
 
       -- the call is a turn
-      call_paid : length (linear_code (shape q n) o) + 4 ≤ spends code 1 st
+      call_paid : length (linear_code (shape q n) o) + entry_turns q c.number ≤ spends code 1 st
       call_paid =
-          turn_paid x q before n o st w a next (length (linear_code (shape q n) o) + 4) e
-          (call_turns code st next c.number (ap (λ (m : State). m.top.function) (sym next_is)) (ap (λ (m : State). m.frames) (sym next_is))) (omega arith)
+          turn_paid x q before n o st w a next (length (linear_code (shape q n) o) + entry_turns q c.number) e
+          (call_turns code st next c.number (ap (λ (m : State). m.top.function) (sym next_is)) (ap (λ (m : State). m.frames) (sym next_is))) (let few = few_to_enter q c.number in omega (arith, few))
 
-      begins : (room : open_bytes q (st.top ∷ st.frames) + (shape q c.number).size + 0x1000 ≤ 0x100_0000) → CallsRun → FollowsIn x before st w
+      begins : (room : open_bytes q (st.top ∷ st.frames) + begin_room (shape q c.number).leaf (shape q c.number).size ≤ 0x100_0000) → CallsRun → FollowsIn x before st w
       begins room run =
           let fits : CallFits q n st.top.frame st.world (st.top ∷ st.frames) c given =
-          record { object = object_asked c.object known.object; arguments = arguments_asked; known = known.known; passed = few_passed; words = fit.fit; room = room } in
+          record { object = object_asked c.object known.object; arguments = arguments_asked; known = known.known; passed = few_passed; taken = all_taken; words = fit.fit; room = room } in
           let stack : ℕ = frame_for q c.number (st.top ∷ st.frames) in
           let r : Plan = opened q c.number st.world.calls stack in
-          let made : StepMade q st next r (length (linear_code (shape q n) o) + 4) [] =
+          let made : StepMade q st next r (length (linear_code (shape q n) o) + entry_turns q c.number) [] =
           inr (inr (inr (inl (record { number = n; operation = o; at = at; call = c; given = given; is = calling; passed = passed; fits = fits; plan = refl; turns = refl; nothing_shown = refl })))) in
           inl (subst (λ y. RoundGoesOn (program_of x.image).image x.pick y (Standing x.program x.image x.carrying x.tables) before st w) (same_code x q before n o st w a)
-          (matched_goes_on (program_of x.image).image x.pick q st w (Standing x.program x.image x.carrying x.tables) before next n o (length (linear_code (shape q n) o) + 4) [] (λ u. Matches r next u) at (omega arith)
-          (own_paid x q before n o st w a (length (linear_code (shape q n) o) + 4) call_paid)
-          (step_items q r st next (length (linear_code (shape q n) o) + 4) [] made)
+          (matched_goes_on (program_of x.image).image x.pick q st w (Standing x.program x.image x.carrying x.tables) before next n o (length (linear_code (shape q n) o) + entry_turns q c.number) [] (λ u. Matches r next u) at (omega arith)
+          (own_paid x q before n o st w a (length (linear_code (shape q n) o) + entry_turns q c.number) call_paid)
+          (step_items q r st next (length (linear_code (shape q n) o) + entry_turns q c.number) [] made)
           (run (program_of x.image).image q n st next w o c given a.matches a.runs a.there calling passed fits at.step) (λ turns u turned matches. stands r stack refl turns u turned matches)))
         where
           stands : (r : Plan) (stack : ℕ) → r ≡ opened q c.number st.world.calls stack → (turns : ℕ) (u : abi.World) → Turns (program_of x.image).image turns w u [] → Matches r next u → Standing x.program x.image x.carrying x.tables (before + turns) next u
@@ -146,10 +149,10 @@ module _ (x : Run) (q : Plan) (before n : ℕ) (o : LinearOp) (st : State) (w : 
               first_calm (suc j) middle few leads = absurd (omega (arith, few))
 
       -- there is no room
-      runs_over : (lacks : 0x100_0000 < open_bytes q (st.top ∷ st.frames) + (shape q c.number).size + 0x1000) → CallsOverflow → StacksHoldCalls → FollowsIn x before st w
-      runs_over lacks over holds =
+      runs_over : (looks : (shape q c.number).leaf ≡ false) → (lacks : 0x100_0000 < open_bytes q (st.top ∷ st.frames) + (shape q c.number).size + 0x1000) → CallsOverflow → StacksHoldCalls → FollowsIn x before st w
+      runs_over looks lacks over holds =
           let lack : CallLacksRoom q n st.top.frame st.world (st.top ∷ st.frames) c given =
-          record { object = object_asked c.object known.object; arguments = arguments_asked; known = known.known; passed = few_passed; words = fit.fit; lacks = lacks } in
+          record { object = object_asked c.object known.object; arguments = arguments_asked; known = known.known; passed = few_passed; words = fit.fit; looks = looks; lacks = lacks } in
           let deep = holds q (st.top ∷ st.frames) c.number st.world.deepest (a.facts.frames q a.stands.unit) a.stands.stands.stand.nest a.stands.once a.stands.hidden a.stands.stands.stand.deep lacks in
           let more = deepest_grows code 1 st next (Paces.one_step code st (goes_to next) e) in
           let items = ap (λ (m : State). m.world.items) (sym next_is) ∙ (same_beside (slot_kinds q c.number) st.world.calls 0 given st.world).items in
@@ -159,12 +162,12 @@ module _ (x : Run) (q : Plan) (before n : ℕ) (o : LinearOp) (st : State) (w : 
           (λ k many. let ran = over (program_of x.image).image x.pick k q n st w o c given a.matches a.runs a.there calling passed lack many in (ran.items, ran.end))))))
 
       either : CallsRun → CallsOverflow → StacksHoldCalls → FollowsIn x before st w
-      either run over holds = by (leb_tells (open_bytes q (st.top ∷ st.frames) + (shape q c.number).size + 0x1000) 0x100_0000)
+      either run over holds = by (room_or_none (shape q c.number).leaf (open_bytes q (st.top ∷ st.frames)) (shape q c.number).size (let page = page_here x q before n o st w a (call_leaves o c calling) in omega (arith, page)))
         where
-          by : ((leb (open_bytes q (st.top ∷ st.frames) + (shape q c.number).size + 0x1000) 0x100_0000 ≡ true) × (open_bytes q (st.top ∷ st.frames) + (shape q c.number).size + 0x1000 ≤ 0x100_0000))
-              ⊎ ((leb (open_bytes q (st.top ∷ st.frames) + (shape q c.number).size + 0x1000) 0x100_0000 ≡ false) × (0x100_0000 < open_bytes q (st.top ∷ st.frames) + (shape q c.number).size + 0x1000)) → FollowsIn x before st w
-          by (inl room) = begins room.1 run
-          by (inr lacks) = runs_over lacks.1 over holds
+          by : (open_bytes q (st.top ∷ st.frames) + begin_room (shape q c.number).leaf (shape q c.number).size ≤ 0x100_0000)
+              ⊎ (((shape q c.number).leaf ≡ false) × (0x100_0000 < open_bytes q (st.top ∷ st.frames) + (shape q c.number).size + 0x1000)) → FollowsIn x before st w
+          by (inl room) = begins room run
+          by (inr lacks) = runs_over lacks.0 lacks.1 over holds
 
   stopped : (v : World) (f : Final) → step code st ≡ finishes f v → f ≡ not_defined → FollowsIn x before st w
   stopped v f e is = inr (inr (inr (breaks_one (program_of x.image).image x.pick code st w f v e (λ why by. let no : not_defined ≡ by_program why = sym is ∙ by in absurd (cc no)))))

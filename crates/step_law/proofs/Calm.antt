@@ -25,6 +25,7 @@ use Rattle.machine_simulation.specs.Plan.{Plan}
 use Rattle.machine_exceptions.specs.Leaves.{StepsTo}
 use Rattle.whole_runs.proofs.Single.{made_by_turns}
 use Rattle.whole_runs.proofs.Staying.{once_stays}
+use Rattle.whole_runs.proofs.Spending.{first_among}
 use Rattle.cost_words.specs.Spends.{spends}
 use Rattle.step_law.specs.Facts.{regions_for, code_for, Facts}
 use Rattle.step_law.specs.Standing.{StandsBy}
@@ -108,11 +109,11 @@ module _ (p : Checked) (i : CleanImage) (k : Carrying) (tables : ℕ → ℕ) (f
       by (inl none) = let no : None ≡ Some z = sym none ∙ now in absurd (cc no)
       by (inr stays) = same ∙ h.forced z (sym stays ∙ now)
 
--- a round of such steps, of which at most one may pay for a turn
-pub steps_follow : (x : Run) (q r : Plan) (before steps turns : ℕ) (st next : State) (w u : abi.World) (items : List Item) → Facts x.program x.image x.carrying x.tables → StandsBy x.program x.image x.carrying x.tables q before st w → 0 < steps →
-    CalmSteps (code_for x.program) steps st next → paying (code_for x.program) steps st ≤ 1 → 1 ≤ turns → turns ≤ spends (code_for x.program) 1 st → Shows st next items → Turns (program_of x.image).image turns w u items →
-    ShownBehind x.program x.carrying q r turns st next w u items → FollowsIn x before st w
-steps_follow x q r before steps turns st next w u items f h some calm once many few shows turned shown =
+-- A round of such steps, of which at most one may pay for a turn. They pay for the turns, and the first of them for all but a few;
+pub steps_follow_soon : (x : Run) (q r : Plan) (before steps turns : ℕ) (st next : State) (w u : abi.World) (items : List Item) → Facts x.program x.image x.carrying x.tables → StandsBy x.program x.image x.carrying x.tables q before st w → 0 < steps →
+    CalmSteps (code_for x.program) steps st next → paying (code_for x.program) steps st ≤ 1 → 1 ≤ turns → turns ≤ spends (code_for x.program) steps st → turns ≤ spends (code_for x.program) 1 st + 64 → Shows st next items →
+    Turns (program_of x.image).image turns w u items → ShownBehind x.program x.carrying q r turns st next w u items → FollowsIn x before st w
+steps_follow_soon x q r before steps turns st next w u items f h some calm once many few soon shows turned shown =
     let code : Code = code_for x.program in
     inl (record {
       steps = steps;
@@ -125,6 +126,7 @@ steps_follow x q r before steps turns st next w u items f h some calm once many 
       turns = turns;
       paid = omega (arith, once, many);
       few = few;
+      soon = soon;
       after = u;
       made = made_by_turns (program_of x.image).image x.pick turns w u items turned;
       stands = (
@@ -133,3 +135,11 @@ steps_follow x q r before steps turns st next w u items f h some calm once many 
             (kept_by_turns (program_of x.image).image turns w u items turned) shown,
       );
     })
+
+-- or that pays for all
+pub steps_follow : (x : Run) (q r : Plan) (before steps turns : ℕ) (st next : State) (w u : abi.World) (items : List Item) → Facts x.program x.image x.carrying x.tables → StandsBy x.program x.image x.carrying x.tables q before st w → 0 < steps →
+    CalmSteps (code_for x.program) steps st next → paying (code_for x.program) steps st ≤ 1 → 1 ≤ turns → turns ≤ spends (code_for x.program) 1 st → Shows st next items → Turns (program_of x.image).image turns w u items →
+    ShownBehind x.program x.carrying q r turns st next w u items → FollowsIn x before st w
+steps_follow x q r before steps turns st next w u items f h some calm once many few shows turned shown =
+    let first = first_among (code_for x.program) steps st some in
+    steps_follow_soon x q r before steps turns st next w u items f h some calm once many (omega (arith, few, first)) (omega (arith, few)) shows turned shown

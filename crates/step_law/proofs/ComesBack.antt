@@ -1,6 +1,5 @@
 -- An unexpected handler returns to call_unexpected, which terminates the program, in a whole run.
 use Rattle.std.proofs.Common.{◌≡◌, ◌∙◌, refl, sym, ap, subst, arith, ℕ, zero, suc, ◌+◌, ◌<◌, ◌≤◌, ◌⊎◌, inl, inr, ℤ, true, false, List, [], ◌∷◌, length, Option, Some, None}
-use Rattle.std.proofs.lemmas.List.{length-map}
 use Rattle.meaning_forms.specs.Class.{contains}
 use Rattle.meaning_forms.specs.World.{Installed}
 use Rattle.cxa_runtime.specs.World as abi
@@ -19,10 +18,9 @@ use Rattle.linear_forms.specs.Defined.{RunsAt}
 use Rattle.linear_forms.specs.Machine.{act_on, step}
 use Rattle.linear_forms.specs.Operation.{settled, wanted_by, returned, returned_with}
 use Rattle.linear_forms.specs.Pace.{pays, pays_at, Leads}
-use Rattle.linear_forms.specs.Unit.{function_code}
 use Rattle.linear_forms.proofs.Paces
 use Rattle.flight_homes.specs.Keeps.{is_help_in}
-use Rattle.flight_homes.specs.Lives.{ExceptionKnown, HandlerKnown, known_in}
+use Rattle.flight_homes.specs.Lives.{ExceptionKnown, known_in}
 use Rattle.flight_homes.specs.Nest.{CallsNest, is_called_by}
 use Rattle.linear_invariant.specs.Calls.{unmarked, CallsKeep}
 use Rattle.linear_invariant.specs.Held.{NoneHolds}
@@ -31,9 +29,10 @@ use Rattle.linear_invariant.proofs.Asked.{none_gone, exception_known}
 use Rattle.linear_invariant.proofs.Calls.{all_spared}
 use Rattle.source_bounds.specs.Compiled.{unit_for}
 use Rattle.machine_forms.specs.Registers.{sp}
+use Rattle.machine_forms.specs.LinearCode.{linear_code}
 use Rattle.machine_stubs.specs.Stretches.{stub_word}
-use Rattle.machine_simulation.specs.Plan.{Plan, shape}
-use Rattle.machine_simulation.specs.Calls.{CallsWait}
+use Rattle.machine_simulation.specs.Plan.{Plan, shape, function}
+use Rattle.machine_simulation.specs.Calls.{CallsWait, open_bytes}
 use Rattle.machine_simulation.specs.StubCalls.{DestructorWaits, UnexpectedWaits, LeavingWaits}
 use Rattle.machine_simulation.specs.Exceptions.{destroyed, live_in}
 use Rattle.machine_simulation.specs.Returns.{closed}
@@ -53,11 +52,12 @@ use Rattle.step_law.specs.Facts.{regions_for, needs_for, code_for}
 use Rattle.step_law.specs.Rows.{Run, IsAt, FollowsIn}
 use Rattle.step_law.specs.Passing.{HandlerIsOver, UnexpectedReturns}
 use Rattle.step_law.proofs.Aligned.{CallsAlign, align_return, itself}
-use Rattle.step_law.proofs.At.{fetches, step_acts, step_at, weight_paid}
+use Rattle.step_law.proofs.At.{fetches, step_acts, step_at, end_paid}
 use Rattle.step_law.proofs.Exceptions.{gone_destroyed}
 use Rattle.step_law.proofs.Keeping.{NotEntered, CalmAt, kept_by_turns, unmarked_stands}
-use Rattle.step_law.proofs.LostBehind.{IsLostBehind, abort_behind, handler_begins, handler_overflows, room_or_none, with_or_without}
+use Rattle.step_law.proofs.LostBehind.{IsLostBehind, abort_behind, handler_begins, handler_overflows, fits_or_not, with_or_without}
 use Rattle.step_law.proofs.Returns.{undefined_breaks, result_stands, return_calm}
+use Rattle.step_law.proofs.Rooms.{few_to_enter, takes_nothing, handler_there, waiting_page}
 
 -- what calls call_unexpected is compiled
 pub record IsCompiled (f : Function) : Type 0 where
@@ -166,8 +166,18 @@ module _ (x : Run) (q : Plan) (before n type : ℕ) (r d : Option ℕ) (kept : I
     known : (m : ℕ) → kept.terminate_handler ≡ Some m → m < length q.unit.functions
     known m some =
         let lives = subst (ExceptionKnown (known_in (regions_for x.program))) is_native (exception_known (known_in (regions_for x.program)) st.world.last_number st.world.live e inv.lives.lives) in
-        let there = subst (HandlerKnown (known_in (regions_for x.program))) some lives.2.terminate in
-        subst (λ u. m < length u.functions) (sym here.stands.unit) (omega (arith, there, length-map (regions_for x.program).functions function_code))
+        handler_there x.program q kept.terminate_handler m here.stands.unit lives.2.terminate some
+
+    takes : (m : ℕ) → kept.terminate_handler ≡ Some m → 0 ≡ (function q m).parameters
+    takes m some =
+        let lives = subst (ExceptionKnown (known_in (regions_for x.program))) is_native (exception_known (known_in (regions_for x.program)) st.world.last_number st.world.live e inv.lives.lives) in
+        takes_nothing x.program q kept.terminate_handler m here.stands.unit lives.2.terminate some
+
+    -- call_unexpected leaves so much of the stack
+    page : open_bytes q (waiting ∷ a ∷ fs) + 0xD00 ≤ 0x100_0000
+    page =
+        waiting_page q waiting (a ∷ fs) st.world w.hart.memory (register w.hart sp + (shape q here.matches.number).size) here.matches.back st.top.frame.call over.stub
+        (subst (λ gs. CallsWait q gs st.world w.hart.memory (register w.hart sp + (shape q here.matches.number).size) here.matches.back st.top.frame.call) over.frames here.matches.memory.waiting)
 
     lost : IsLostBehind x q st 1 back st.world [] 0 kept.terminate_handler
     lost = record {
@@ -183,6 +193,8 @@ module _ (x : Run) (q : Plan) (before n type : ℕ) (r d : Option ℕ) (kept : I
       aligned = subst (λ gs. CallsAlign q q (st.top ∷ gs) (back.top ∷ back.frames)) (sym over.frames) (align_return q q (itself q) st.top waiting back.top (a ∷ fs) refl);
       spared = all_spared x.carrying (NotEntered []) (λ y. refl) (Some terminating) (back.top ∷ back.frames);
       known = known;
+      takes = takes;
+      page = page;
       frames = here.matches.memory.unit.frames;
       few = omega arith;
     }
@@ -210,7 +222,8 @@ module _ (x : Run) (q : Plan) (before n type : ℕ) (r d : Option ℕ) (kept : I
     without run none_called =
         let first = quiet_then code 3 st back unpaid one in
         let last = aborts_once code back kept.terminate_handler (back.top ∷ back.frames) st.world unpaid_back ends none_called in
-        abort_behind x q before st w here.facts here.stands 4 14 [] (omega arith) (once_stays (program_of x.image).image x.pick code 4 st w (omega (arith, first, last)))
+        let most : ℕ = length (linear_code (shape q n) (return r)) + 10 in
+        abort_behind x q before st w here.facts here.stands 4 most [] (end_paid x q before n (return r) st w here most (omega arith)) (once_stays (program_of x.image).image x.pick code 4 st w (omega (arith, first, last)))
         (λ k many. run.aborts_behind (program_of x.image).image x.pick k q n caller.number e r type d kept waiting a fs st back w here.matches returns named none_called many)
 
     with_one : UnexpectedTerminates → TerminateHandlersOverflow → StacksHoldCalls → (m : ℕ) → st.world.ending ≡ false → kept.terminate_handler ≡ Some m → FollowsIn x before st w
@@ -218,7 +231,7 @@ module _ (x : Run) (q : Plan) (before n type : ℕ) (r d : Option ℕ) (kept : I
         let hidden = here.stands.hides quiet in
         let once = quiet_twice code st back unpaid one unpaid_back in
         let stays = once_stays (program_of x.image).image x.pick code 3 st w once in
-        room_or_none x q before st w here.facts here.stands 1 back st.world [] 0 kept.terminate_handler lost m quiet some
+        fits_or_not x q before st w here.facts here.stands 1 back st.world [] 0 kept.terminate_handler lost m quiet some
         (λ room.
         let ran = run.calls_behind (program_of x.image).image q n caller.number e r type d kept m waiting a fs st back w here.matches returns named quiet some hidden room in
         let reaches = ran.2 in
@@ -226,11 +239,12 @@ module _ (x : Run) (q : Plan) (before n type : ℕ) (r d : Option ℕ) (kept : I
         let more = some_ending (program_of x.image).image x.pick reaches.turns w reaches.after [] made (here.matches.runtime.terminating ∙ quiet) reaches.holds.runtime.terminating in
         handler_begins x q before st w here.facts here.stands 1 back st.world [] 0 kept.terminate_handler lost m quiet some (closed q a.frame.call)
         (record { frames = record { unit = refl; hidden = refl }; base = refl; tables = refl }) reach_back reaches.turns reaches.after (kept_by_turns (program_of x.image).image reaches.turns w reaches.after [] reaches.runs)
-        made reaches.holds (omega arith) (omega (arith, once, more)) (weight_paid x q before n (return r) st w here reaches.turns (omega (arith, reaches.few))) stays ran.1)
+        made reaches.holds (omega arith) (omega (arith, once, more)) (let entry = few_to_enter q m in end_paid x q before n (return r) st w here reaches.turns (omega (arith, reaches.few, entry))) stays ran.1)
         (λ lacks.
-        let ran = λ (k : ℕ) (many : 19 ≤ k). overflow.behind (program_of x.image).image x.pick k q n caller.number e r type d kept m waiting a fs st back w here.matches returns
+        let most : ℕ = length (linear_code (shape q n) (return r)) + 15 in
+        let ran = λ (k : ℕ) (many : most ≤ k). overflow.behind (program_of x.image).image x.pick k q n caller.number e r type d kept m waiting a fs st back w here.matches returns
         (record { named = named; quiet = quiet; some = some; hidden = hidden; lacks = lacks }) many in
-        handler_overflows x q before st w here.facts here.stands 1 back st.world [] 0 kept.terminate_handler lost m quiet some lacks holds 19 (omega arith) stays (ran 19 (omega arith)).shown (λ k many. (ran k many).run))
+        handler_overflows x q before st w here.facts here.stands 1 back st.world [] 0 kept.terminate_handler lost m quiet some lacks holds most (end_paid x q before n (return r) st w here most (omega arith)) stays (ran most (omega arith)).shown (λ k many. (ran k many).run))
 
   follows : UnexpectedTerminates → TerminateHandlersOverflow → StacksHoldCalls → FollowsIn x before st w
   follows run overflow holds = by (result_in r st.top.frame st.world (kinds code st.top.function)) acts

@@ -1,7 +1,6 @@
 -- What comes out of an unexpected handler: what is known where call_unexpected has it behind its first pad.
 use Rattle.std.proofs.Common.{◌≡◌, ◌∙◌, refl, sym, ap, subst, arith, ℕ, zero, suc, ◌+◌, ◌<◌, ◌≤◌, ◌^◌, inr, ℤ, pos, negsuc, Bool, true, false, [], ◌∷◌, length, Option, Some, if◌then◌else◌}
 use Rattle.std.specs.Prelude.{unwrap_or, ◌&&◌}
-use Rattle.std.proofs.lemmas.List.{length-map}
 use Rattle.meaning_forms.specs.Class.{contains}
 use Rattle.meaning_forms.specs.World.{Installed}
 use Rattle.cxa_runtime.specs.World as abi
@@ -22,10 +21,9 @@ use Rattle.linear_forms.specs.Machine.{step}
 use Rattle.linear_forms.specs.Operation.{performed}
 use Rattle.linear_forms.specs.Pace.{pays, pays_at, one_if, paying}
 use Rattle.linear_forms.specs.StubOperation.{checked, sense_held}
-use Rattle.linear_forms.specs.Unit.{function_code}
 use Rattle.linear_forms.specs.UnitRun.{code_of}
 use Rattle.flight_homes.specs.Keeps.{is_help_in}
-use Rattle.flight_homes.specs.Lives.{ExceptionKnown, HandlerKnown, known_in}
+use Rattle.flight_homes.specs.Lives.{ExceptionKnown, known_in}
 use Rattle.kept_selectors.specs.Selectors.{SelectorsNamed}
 use Rattle.linear_invariant.specs.Asked.{EnterAsked}
 use Rattle.linear_invariant.specs.Calls.{unmarked, IsStopped, StubHolds}
@@ -34,10 +32,12 @@ use Rattle.linear_invariant.specs.Stands.{StandsIn}
 use Rattle.linear_invariant.proofs.Asked.{none_gone, enters_are_asked}
 use Rattle.linear_invariant.proofs.Steps.{steps_stand}
 use Rattle.machine_stubs.specs.CallUnexpected.{bad_record}
+use Rattle.machine_stubs.specs.Stretches.{frame_size}
 use Rattle.image_tables.specs.Functions.{records_end}
 use Rattle.image_tables.specs.Read.{IsImageOf}
-use Rattle.machine_simulation.specs.Plan.{Plan}
+use Rattle.machine_simulation.specs.Plan.{Plan, function}
 use Rattle.machine_simulation.specs.Exceptions.{live_in}
+use Rattle.machine_simulation.specs.Calls.{open_bytes}
 use Rattle.machine_simulation.proofs.LiveThere.{built_there}
 use Rattle.machine_exceptions.specs.Enters.{MayEnter}
 use Rattle.source_bounds.specs.Compiled.{unit_for}
@@ -52,6 +52,8 @@ use Rattle.whole_runs.proofs.Single.{made_by_turns}
 use Rattle.whole_runs.proofs.Spending.{own_spends}
 use Rattle.cost_turns.specs.Weights.{is_own}
 use Rattle.cost_words.specs.Spends.{spends}
+use Rattle.rv64_isa.specs.Step.{x as hart_at}
+use Rattle.machine_forms.specs.Registers.{sp}
 use Rattle.step_law.specs.Facts.{regions_for, code_for}
 use Rattle.step_law.specs.Rows.{Run, FollowsIn}
 use Rattle.step_law.specs.Thrown.{ComesOut, OutOfHandlerBreaks}
@@ -60,6 +62,7 @@ use Rattle.step_law.proofs.Exceptions.{gone_destroyed, handlers_open}
 use Rattle.step_law.proofs.Facing.{runs_image, code_same, type_known}
 use Rattle.step_law.proofs.Keeping.{IsCalm, CalmAt, unmarked_stands}
 use Rattle.step_law.proofs.OwnSteps.{OwnSteps, own_both}
+use Rattle.step_law.proofs.Rooms.{own_page, handler_there, takes_nothing}
 use Rattle.step_law.proofs.Several.{breaks_behind}
 use Rattle.step_law.proofs.Unshown.{unshown_stays}
 
@@ -94,6 +97,10 @@ module _ (x : Run) (q : Plan) (before : ℕ) (st : State) (w : abi.World) (e d :
   -- the first step pays for what comes of it
   pub checks_pay : (k : ℕ) → k ≤ 44 → k ≤ spends code 1 st
   checks_pay k least = own_spends code st (linear (jump_filter 5 (pos 0) 16)) k (ap is_own out.rests.rests.runs) fetch_first least
+
+  -- call_unexpected leaves so much of the stack
+  pub out_page : frame_size call_unexpected + open_bytes q st.frames + 0xD00 ≤ 0x100_0000
+  out_page = own_page q call_unexpected st.frames st.world w.hart.memory (hart_at w.hart sp) out.rests.rests.back out.rests.rests.memory
 
   pub unpaid : pays_at code st ≡ false
   unpaid = ap pays fetch_first
@@ -193,8 +200,11 @@ module _ (x : Run) (q : Plan) (before : ℕ) (st : State) (w : abi.World) (e d :
     -- a handler that is kept with it is a function
     pub known_handler : (m : ℕ) → kept.terminate_handler ≡ Some m → m < length q.unit.functions
     known_handler m some =
-        let there = subst (HandlerKnown (known_in (regions_for x.program))) some known_exception.2.terminate in
-        subst (λ u. m < length u.functions) (sym out.here.stands.unit) (omega (arith, there, length-map (regions_for x.program).functions function_code))
+        handler_there x.program q kept.terminate_handler m out.here.stands.unit known_exception.2.terminate some
+
+    -- it takes nothing
+    pub handler_takes : (m : ℕ) → kept.terminate_handler ≡ Some m → 0 ≡ (function q m).parameters
+    handler_takes m some = takes_nothing x.program q kept.terminate_handler m out.here.stands.unit known_exception.2.terminate some
 
     -- runs with few turns stay behind
     pub stays : (n : ℕ) → n ≤ 10 → StaysBehind (program_of x.image).image x.pick code n st w

@@ -37,13 +37,14 @@ use Rattle.step_law.specs.Facts.{regions_for, needs_for, code_for}
 use Rattle.step_law.specs.Rows.{Run, FollowsIn}
 use Rattle.step_law.specs.Thrown.{ComesOut, OutOfHandlerIsCrowded}
 use Rattle.step_law.proofs.Aligned.{align_same, itself}
-use Rattle.step_law.proofs.ComesOut.{same_code, inv, selector, unpaid, calm_first, five, one, inv_five, held, checks_pay}
+use Rattle.step_law.proofs.ComesOut.{same_code, inv, selector, unpaid, calm_first, five, one, inv_five, held, out_page}
 use Rattle.step_law.proofs.Exceptions.{gone_destroyed, handlers_open}
 use Rattle.step_law.proofs.Facing.{newest_made}
 use Rattle.step_law.proofs.Keeping.{NotEntered, kept_by_turns}
-use Rattle.step_law.proofs.LostBehind.{IsLostBehind, abort_behind, handler_begins, handler_overflows, room_or_none, with_or_without}
+use Rattle.step_law.proofs.LostBehind.{IsLostBehind, abort_behind, handler_begins, handler_overflows, fits_or_not, with_or_without}
 use Rattle.step_law.proofs.OutLost.{out_named}
 use Rattle.step_law.proofs.OwnSteps.{OwnSteps, own_leads, own_calm, own_reach}
+use Rattle.step_law.proofs.Rooms.{few_to_enter, takes_nothing}
 use Rattle.step_law.proofs.Terminates.{known_handler, terminated_defined}
 
 module _ (x : Run) (q : Plan) (before e d : ℕ) (st : State) (w : abi.World) (out : ComesOut x q before st w e d) (few : before < 2 ^ 40) (may : may_enter st.world e ≡ true) (crowded : is_crowded st.world e ≡ true) where
@@ -103,6 +104,8 @@ module _ (x : Run) (q : Plan) (before e d : ℕ) (st : State) (w : abi.World) (o
     aligned = align_same q q (itself q) st.top last.top st.frames (sym out.rests.rests.runs);
     spared = all_spared x.carrying (NotEntered []) (λ y. refl) (Some terminating) (last.top ∷ last.frames);
     known = λ m some. known_handler q handler m w.terminate_handler some out.rests.rests.runtime.exceptions.terminate_handler;
+    takes = λ m some. takes_nothing x.program q handler m out.here.stands.unit out.here.stands.stands.lives.handlers.terminate some;
+    page = out_page x q before st w e d out;
     frames = out.rests.rests.memory.unit.frames;
     few = omega arith;
   }
@@ -123,14 +126,14 @@ module _ (x : Run) (q : Plan) (before e d : ℕ) (st : State) (w : abi.World) (o
       let hidden = out.here.stands.hides quiet in
       let once = quiet_twice code st last (unpaid x q before st w e d out) (one x q before st w e d out) refl in
       let stays = once_stays (program_of x.image).image x.pick code 3 st w once in
-      room_or_none x q before st w out.here.facts out.here.stands 1 last st.world [] 0 handler lost m quiet some
+      fits_or_not x q before st w out.here.facts out.here.stands 1 last st.world [] 0 handler lost m quiet some
       (λ room.
       let ran = run.foreign_calls (program_of x.image).image q e d m st w foreign_out named quiet some hidden room in
       let comes = ran.2 in
       let made = made_by_turns (program_of x.image).image x.pick comes.turns w comes.after [] comes.runs in
       let more = some_ending (program_of x.image).image x.pick comes.turns w comes.after [] made (out.rests.rests.runtime.terminating ∙ quiet) comes.holds.runtime.terminating in
       handler_begins x q before st w out.here.facts out.here.stands 1 last st.world [] 0 handler lost m quiet some q (record { frames = itself q; base = refl; tables = refl }) reach comes.turns comes.after
-      (kept_by_turns (program_of x.image).image comes.turns w comes.after [] comes.runs) made comes.holds (omega arith) (omega (arith, once, more)) (checks_pay x q before st w e d out comes.turns (omega (arith, comes.few))) stays ran.1)
+      (kept_by_turns (program_of x.image).image comes.turns w comes.after [] comes.runs) made comes.holds (omega arith) (omega (arith, once, more)) (let entry = few_to_enter q m in omega (arith, comes.few, entry)) stays ran.1)
       (λ lacks.
       let ran = λ (k : ℕ) (many : 20 ≤ k). over.foreign (program_of x.image).image x.pick k q e d m st w foreign_out (record { named = named; quiet = quiet; some = some; hidden = hidden; lacks = lacks }) many in
       handler_overflows x q before st w out.here.facts out.here.stands 1 last st.world [] 0 handler lost m quiet some lacks holds 20 (omega arith) stays (ran 20 (omega arith)).shown (λ k many. (ran k many).run)))

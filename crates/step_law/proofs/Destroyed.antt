@@ -24,7 +24,7 @@ use Rattle.source_bounds.specs.Compiled.{unit_for}
 use Rattle.machine_pieces.specs.Turning.{Turns}
 use Rattle.machine_simulation.specs.Matches.{Matches}
 use Rattle.machine_simulation.specs.Objects.{without_object}
-use Rattle.machine_simulation.specs.Plan.{Plan, function}
+use Rattle.machine_simulation.specs.Plan.{Plan, function, shape}
 use Rattle.machine_simulation.specs.Returns.{closed}
 use Rattle.machine_exceptions.specs.Destroys.{AtReturn, DestructorsEnd}
 use Rattle.machine_exceptions.specs.Leaves.{StepsTo}
@@ -39,6 +39,7 @@ use Rattle.address_invariant.proofs.Plans.{plans_go_on}
 use Rattle.whole_runs.proofs.Counts.{own_state, destroyed_once}
 use Rattle.whole_runs.proofs.Rounds.{pays_known, some_shown}
 use Rattle.whole_runs.proofs.Single.{made_by_turns}
+use Rattle.cost_words.proofs.Counts.{return_words}
 use Rattle.step_law.specs.Facts.{regions_for, needs_for, code_for}
 use Rattle.step_law.specs.Leaves.{DestructorsEndFollow}
 use Rattle.step_law.specs.Rows.{Run, IsAt, FollowsIn}
@@ -164,7 +165,7 @@ module _ (x : Run) (q : Plan) (before n m : ℕ) (r : Option ℕ) (waiting a : A
         let ran = run image q n m e st second waiting a fs r w at.matches at_return in
         let calmly = calm ran.0 in
         let many = some_shown image x.pick ran.2.turns w ran.2.after (Free e) [] (made_by_turns image x.pick ran.2.turns w ran.2.after (Free e ∷ []) ran.2.runs) in
-        steps_follow x q p before 3 ran.2.turns st next w ran.2.after (Free e ∷ []) at.facts at.stands (omega arith) calmly (destroyed_once code st waiting.frame (a ∷ fs) st.world quiet one) (omega (arith, many)) (weight_paid x q before n (return r) st w at ran.2.turns (omega (arith, ran.2.few))) ran.1 ran.2.runs
+        steps_follow x q p before 3 ran.2.turns st next w ran.2.after (Free e ∷ []) at.facts at.stands (omega arith) calmly (destroyed_once code st waiting.frame (a ∷ fs) st.world quiet one) (omega (arith, many)) (let words = return_words (shape q n) r in weight_paid x q before n (return r) st w at ran.2.turns (omega (arith, ran.2.few, words))) ran.1 ran.2.runs
         (shown ran.2.turns ran.2.after calmly ran.2.runs ran.2.holds)
 
   ended : DestructorsEnd → FollowsIn x before st w

@@ -1,7 +1,6 @@
 -- A compiled function leaves the last handler of an exception with a destructor, in a whole run: the destructor begins, or the run is over for want of
 -- stack, with 4,096 calls open.
-use Rattle.std.proofs.Common.{◌≡◌, ◌≢◌, ◌∙◌, refl, sym, ap, subst, arith, ℕ, ◌+◌, ◌≤◌, ◌<◌, ◌⊎◌, inl, inr, Bool, true, false, List, [], ◌∷◌, leb, Some, None, if◌then◌else◌}
-use Rattle.std.proofs.lemmas.Bool.Decides.{leb_tells}
+use Rattle.std.proofs.Common.{◌≡◌, ◌≢◌, ◌∙◌, refl, sym, ap, subst, arith, ℕ, ◌+◌, ◌≤◌, ◌<◌, ◌⊎◌, inl, inr, Bool, true, false, List, [], ◌∷◌, Some, None, if◌then◌else◌}
 use Rattle.meaning_forms.specs.World.{Installed}
 use Rattle.run_items.specs.declared.item.Item.TheVariants.{Leave, Destroy}
 use Rattle.cxa_runtime.specs.Raising.{Image}
@@ -16,7 +15,7 @@ use Rattle.linear_forms.specs.Stub.{end_catch}
 use Rattle.linear_forms.specs.Activation.{Activation, State, Code, goes_to}
 use Rattle.linear_forms.specs.Machine.{step}
 use Rattle.linear_forms.specs.Pace.{paying}
-use Rattle.linear_forms.specs.UnitRun.{code_of}
+use Rattle.linear_forms.specs.UnitRun.{code_of, code_at}
 use Rattle.flight_homes.specs.Lives.{ExceptionKnown, known_in}
 use Rattle.flight_homes.specs.Nest.{is_called_by}
 use Rattle.linear_invariant.specs.Calls.{unmarked}
@@ -26,16 +25,16 @@ use Rattle.linear_invariant.proofs.Steps.{steps_stand}
 use Rattle.source_bounds.specs.Compiled.{unit_for}
 use Rattle.machine_pieces.specs.Turning.{Turns}
 use Rattle.machine_simulation.specs.Calls.{open_bytes}
-use Rattle.machine_simulation.specs.Entering.{opened, frame_for}
+use Rattle.machine_simulation.specs.Entering.{opened, frame_for, begin_room}
 use Rattle.machine_simulation.specs.Exceptions.{LinearExceptions, live_in}
 use Rattle.machine_simulation.specs.Matches.{Matches}
-use Rattle.machine_simulation.specs.Plan.{Plan, shape, slot_kinds}
+use Rattle.machine_simulation.specs.Plan.{Plan, shape, slot_kinds, function}
 use Rattle.machine_simulation.proofs.Given.{SameBeside, same_beside}
 use Rattle.machine_exceptions.specs.Leaves.{destroying}
 use Rattle.machine_exceptions.specs.Destroys.{waiting_catch, object_passed, in_destructor, MayDestroy, DestructorsBegin}
 use Rattle.machine_exceptions.proofs.CatchSteps.{no_words, last_step}
 use Rattle.stack_bounds.specs.Taken.{StacksHoldCalls}
-use Rattle.own_ends.specs.Overflow.{DestructorsOverflow, Overflows as RunsOver}
+use Rattle.own_ends.specs.Overflow.{DestructorsOverflow, Overflows as RunsOver, LacksRoom}
 use Rattle.address_invariant.specs.Extents.{extents_of}
 use Rattle.address_invariant.specs.Laws.{GoesOn}
 use Rattle.address_invariant.specs.Reaching.{ObjectsReach, Reaches}
@@ -48,16 +47,19 @@ use Rattle.whole_runs.proofs.Counts.{leaves_once}
 use Rattle.whole_runs.proofs.Rounds.{some_shown, steps_overflow}
 use Rattle.whole_runs.proofs.Single.{made_by_turns}
 use Rattle.whole_runs.proofs.Staying.{deepest_grows}
+use Rattle.whole_runs.proofs.Spending.{call_turns, last_turn_spends}
+use Rattle.cost_words.specs.Spends.{spends}
 use Rattle.step_law.specs.Facts.{regions_for, needs_for, code_for}
 use Rattle.step_law.specs.Leaves.{destructor_of, destructor_due, DestructorsBeginFollow}
 use Rattle.step_law.specs.Rows.{Run, IsAt, FollowsIn}
 use Rattle.step_law.proofs.Aligned.{SameFrames, align_push_two}
 use Rattle.step_law.proofs.At.{same_code, own_end_paid, weight_paid}
-use Rattle.step_law.proofs.Destructors.{destructor_there, object_fits}
+use Rattle.step_law.proofs.Destructors.{destructor_there, object_fits, destructor_alone}
 use Rattle.step_law.proofs.Facing.{newest_made}
 use Rattle.step_law.proofs.Keeping.{NotEntered, unmarked_stands, ShownBehind}
 use Rattle.step_law.proofs.Leaving.{left_fewer, begins, calm_here, in_code, quiet, asked, live, at_leave}
-use Rattle.step_law.proofs.Calm.{CalmSteps, calm_leads, catch_calm, calm_newest, steps_follow}
+use Rattle.step_law.proofs.Calm.{CalmSteps, calm_leads, catch_calm, calm_newest, steps_follow_soon}
+use Rattle.step_law.proofs.Rooms.{room_or_none, page_here, few_to_enter}
 
 module _ (x : Run) (q : Plan) (before n d : ℕ) (st : State) (w : abi.World) (at : IsAt x q before n (plain leave) st w) (y : Entry) (ys : List Entry) (caught : st.world.caught ≡ y ∷ ys) (t : ℕ) (kept : Installed) (last : is_last y ≡ true)
     (is : exception_at st.world y.number ≡ native t (Some d) kept) where
@@ -104,11 +106,20 @@ module _ (x : Run) (q : Plan) (before n d : ℕ) (st : State) (w : abi.World) (a
   there : live_in st.world.live e ≡ Some (native t (Some d) kept)
   there = live x q before n st w at y ys caught ∙ ap (λ z. Some z) is
 
-  -- the destructor is a function that takes an object
+  -- the destructor is a function that takes an object alone
   static : ObjectStatic q.unit d
   static =
       let known : ExceptionKnown (known_in (regions_for x.program)) (native t (Some d) kept) = subst (λ z. ExceptionKnown (known_in (regions_for x.program)) z) is (asked x q before n st w at y ys caught).exception in
       subst (λ u. ObjectStatic u d) (sym at.stands.unit) (destructor_there (regions_for x.program) d known.1)
+
+  takes : 1 ≡ (function q d).parameters
+  takes =
+      let known : ExceptionKnown (known_in (regions_for x.program)) (native t (Some d) kept) = subst (λ z. ExceptionKnown (known_in (regions_for x.program)) z) is (asked x q before n st w at y ys caught).exception in
+      subst (λ u. 1 ≡ (code_at u d).parameters) (sym at.stands.unit) (destructor_alone (regions_for x.program) d known.1)
+
+  -- the step that calls it pays for its beginning
+  last_paid : spends code 1 st + 64 ≤ spends code 3 st
+  last_paid = last_turn_spends code 2 st second next (omega arith) (calm_leads code 2 st second (calm_here x q before n st w at, first, one, (catch_calm code first refl, second, two, refl))) three (call_turns code second next d refl refl)
 
   beside : SameBeside (destroying e st.world) (world_passed (slot_kinds q d) st.world.calls 0 (object_passed e) (destroying e st.world))
   beside = same_beside (slot_kinds q d) st.world.calls 0 (object_passed e) (destroying e st.world)
@@ -163,40 +174,41 @@ module _ (x : Run) (q : Plan) (before n d : ℕ) (st : State) (w : abi.World) (a
     }
 
   -- the stack has room for it
-  begins_there : DestructorsBegin → open_bytes q active + (shape q d).size + 0x1000 ≤ 0x100_0000 → FollowsIn x before st w
+  begins_there : DestructorsBegin → open_bytes q active + begin_room (shape q d).leaf (shape q d).size ≤ 0x100_0000 → FollowsIn x before st w
   begins_there run room =
       let some = static.some in
-      let may : MayDestroy q d e active = record { known = static.known; passed = omega (arith, some); words = (object_fits (slot_kinds q d 0) (object_address e) static.held, tt); room = room } in
+      let may : MayDestroy q d e active = record { known = static.known; passed = omega (arith, some); taken = takes; words = (object_fits (slot_kinds q d 0) (object_address e) static.held, tt); room = room } in
       let ran = run image q n st first y ys t d kept w at.matches (at_leave x q before n st w at y ys caught) last there may in
       let stack : ℕ = frame_for q d active in
       let many = some_shown image x.pick ran.2.turns w ran.2.after (Leave e) (Destroy e ∷ []) (made_by_turns image x.pick ran.2.turns w ran.2.after (Leave e ∷ Destroy e ∷ []) ran.2.runs) in
-      steps_follow x q (r stack) before 3 ran.2.turns st next w ran.2.after (Leave e ∷ Destroy e ∷ []) at.facts at.stands (omega arith) calm once (omega (arith, many))
-      (weight_paid x q before n (plain leave) st w at ran.2.turns (omega (arith, ran.2.few))) ran.1 ran.2.runs
+      let entry = few_to_enter q d in
+      let weight = weight_paid x q before n (plain leave) st w at 24 (omega arith) in
+      steps_follow_soon x q (r stack) before 3 ran.2.turns st next w ran.2.after (Leave e ∷ Destroy e ∷ []) at.facts at.stands (omega arith) calm once (omega (arith, many))
+      (omega (arith, ran.2.few, entry, weight, last_paid)) (omega (arith, ran.2.few, entry, weight)) ran.1 ran.2.runs
       (shown stack ran.2.turns ran.2.after ran.2.runs ran.2.holds)
 
   -- it has none
-  over_by : DestructorsOverflow → 0x100_0000 < open_bytes q active + (shape q d).size + 0x1000 → (j : ℕ) → 20 ≤ j → RunsOver image x.pick j q d e st w
+  over_by : DestructorsOverflow → LacksRoom q d active → (j : ℕ) → 20 ≤ j → RunsOver image x.pick j q d e st w
   over_by over lacks j many =
-      over.compiled image x.pick j q n st first y ys t d kept w at.matches (at_leave x q before n st w at y ys caught) last there (record { known = static.known; lacks = lacks }) many
+      over.compiled image x.pick j q n st first y ys t d kept w at.matches (at_leave x q before n st w at y ys caught) last there lacks many
 
-  runs_over : DestructorsOverflow → StacksHoldCalls → 0x100_0000 < open_bytes q active + (shape q d).size + 0x1000 → FollowsIn x before st w
+  runs_over : DestructorsOverflow → StacksHoldCalls → LacksRoom q d active → FollowsIn x before st w
   runs_over over holds lacks =
       let own = same_code x q before n (plain leave) st w at in
       let few = at.stands.once in
       let depth = at.stands.stands.stand.deep in
-      let deep = holds q active d st.world.deepest (at.facts.frames q at.stands.unit) (subst (λ f. is_called_by end_catch f ≡ true) (sym at.runs) refl, at.stands.stands.stand.nest) (omega (arith, few)) at.stands.hidden (omega (arith, depth)) lacks in
+      let deep = holds q active d st.world.deepest (at.facts.frames q at.stands.unit) (subst (λ f. is_called_by end_catch f ≡ true) (sym at.runs) refl, at.stands.stands.stand.nest) (omega (arith, few)) at.stands.hidden (omega (arith, depth)) lacks.lacks in
       let more = deepest_grows code 3 st next (calm_leads code 3 st next calm) in
       let ran = over_by over lacks 20 (omega arith) in
       inr (inr (inl (subst (λ c. Overflows image x.pick c st w) own
       (steps_overflow image x.pick q st w 3 next 20 (Leave e ∷ Destroy e ∷ []) ran.0 (subst (λ c. paying c 3 st ≤ 1) (sym own) once) (own_end_paid x q before n (plain leave) st w at 20 (omega arith)) (omega (arith, deep, more)) ran.1 (λ j many. (over_by over lacks j many).2)))))
 
   either : DestructorsBegin → DestructorsOverflow → StacksHoldCalls → FollowsIn x before st w
-  either run over holds = by (leb_tells (open_bytes q active + (shape q d).size + 0x1000) 0x100_0000)
+  either run over holds = by (room_or_none (shape q d).leaf (open_bytes q active) (shape q d).size (let page = page_here x q before n (plain leave) st w at refl in omega (arith, page)))
     where
-      by : ((leb (open_bytes q active + (shape q d).size + 0x1000) 0x100_0000 ≡ true) × (open_bytes q active + (shape q d).size + 0x1000 ≤ 0x100_0000))
-          ⊎ ((leb (open_bytes q active + (shape q d).size + 0x1000) 0x100_0000 ≡ false) × (0x100_0000 < open_bytes q active + (shape q d).size + 0x1000)) → FollowsIn x before st w
-      by (inl room) = begins_there run room.1
-      by (inr lacks) = runs_over over holds lacks.1
+      by : (open_bytes q active + begin_room (shape q d).leaf (shape q d).size ≤ 0x100_0000) ⊎ (((shape q d).leaf ≡ false) × (0x100_0000 < open_bytes q active + (shape q d).size + 0x1000)) → FollowsIn x before st w
+      by (inl room) = begins_there run room
+      by (inr lacks) = runs_over over holds (record { known = static.known; looks = lacks.0; lacks = lacks.1 })
 
 pub destructors_begin_follow : DestructorsBegin → DestructorsOverflow → StacksHoldCalls → DestructorsBeginFollow
 destructors_begin_follow run over holds x q before n d st w at due = by st.world.caught refl due

@@ -1,5 +1,5 @@
 -- What live exceptions name as their destructors are functions of the unit that take an object alone.
-use Rattle.std.proofs.Common.{◌≡◌, ◌∙◌, refl, ap, arith, ℕ, ◌+◌, ◌<◌, ◌==◌, ◌&&◌, nat_lt, true, List, [], ◌∷◌, ◌++◌, length, Some, if◌then◌else◌}
+use Rattle.std.proofs.Common.{◌≡◌, ◌∙◌, refl, ap, arith, ℕ, ◌+◌, ◌<◌, ◌==◌, ◌&&◌, nat_lt, true, List, [], ◌∷◌, ◌++◌, length, Some, if◌then◌else◌, sym}
 use Rattle.std.proofs.lemmas.Bool.Decides.{nat_tests}
 use Rattle.std.proofs.lemmas.List.{length-map, length-append}
 use Rattle.region_forms.specs.Form.{Slot, SlotKind, int_slot, address_slot, object_slot, help_slot, kinds_of, kind_of, no_arguments, RegionFunction, Regions, function_at}
@@ -39,6 +39,16 @@ destructor_there r d e =
       held = ap (λ g. holds_address (kinds_of g.slots 0)) slots ∙ ap (λ o. holds_address (kind_of o)) (in_front callee.slots pads 0 there)
           ∙ reference_holds (kinds_of callee.slots 0) (both_right (nat_lt 0 (length callee.slots)) (is_reference (kinds_of callee.slots 0)) first);
     }
+
+pub destructor_alone : (r : Regions) (d : ℕ) → destructor_test r (Some d) ≡ true → 1 ≡ (code_at (unit_of r) d).parameters
+destructor_alone r d e =
+    let callee : RegionFunction = function_at r d in
+    let call = both_left (call_test r d 1 no_arguments) (slot_test is_reference callee.slots 0) e in
+    let counted = both_left (nat_lt d (length r.functions)) (1 + count_of no_arguments == callee.parameters && fit callee.slots 1 no_arguments) call in
+    let less : d < length r.functions = grind (arith, nat_tests, counted) in
+    let rest = both_right (nat_lt d (length r.functions)) (1 + count_of no_arguments == callee.parameters && fit callee.slots 1 no_arguments) call in
+    let count : 1 ≡ callee.parameters = let x = both_left (1 + count_of no_arguments == callee.parameters) (fit callee.slots 1 no_arguments) rest in grind (arith, nat_tests, x) in
+    count ∙ sym (ap (λ g. g.parameters) (unit_at r d less))
 
 -- the object's address goes to such a slot
 pub object_fits : (k : SlotKind) (b : Address) → holds_address k ≡ true → WordFits k (address_word b)

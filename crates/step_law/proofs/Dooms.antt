@@ -33,6 +33,7 @@ use Rattle.machine_stubs.specs.Stretches.{stub_word}
 use Rattle.machine_pieces.specs.Turning.{Turns}
 use Rattle.machine_simulation.specs.Plan.{Plan, shape}
 use Rattle.machine_simulation.specs.Exceptions.{live_in}
+use Rattle.machine_simulation.specs.Entering.{entry_turns}
 use Rattle.machine_exceptions.proofs.Enters.{exception_is}
 use Rattle.machine_exceptions.proofs.Travels.{building_there}
 use Rattle.machine_raises.specs.Doomed.{AtDoomed, DoomsRun}
@@ -52,6 +53,7 @@ use Rattle.step_law.proofs.Keeping.{NotEntered, unmarked_stands}
 use Rattle.step_law.proofs.Lost.{IsLost, aborts_here, nothing_hidden, begins_here, overflows_here, either_here, whatever_here}
 use Rattle.step_law.proofs.Raises.{is_running, may_throw}
 use Rattle.step_law.proofs.Returns.{undefined_breaks}
+use Rattle.step_law.proofs.Rooms.{takes_nothing, few_to_enter}
 use Rattle.step_law.proofs.Terminates.{known_handler, terminated_defined}
 
 -- the newest handler is that of what is entered
@@ -202,6 +204,8 @@ module _ (x : Run) (q : Plan) (before n s t : ℕ) (d : Option ℕ) (st : State)
       spared = (let top = spared_top x q before n o st w at_op e none_carried st.top.function at_op.runs in
           (top.0, top.1, spared_but x q before n o st w at_op e (Some st.top.function) st.frames (others_spared x.carrying e (Some st.top.function) st.frames asked.has.unheld)));
       known = λ m some. known_handler q handler m w.terminate_handler some at_op.matches.runtime.exceptions.terminate_handler;
+      takes = λ m some. takes_nothing x.program q handler m at_op.stands.unit at_op.stands.stands.lives.handlers.terminate some;
+      leaves = refl;
       few = λ turns u turned. one_entered x st.world w e turns u turned;
     }
 
@@ -217,7 +221,7 @@ module _ (x : Run) (q : Plan) (before n s t : ℕ) (d : Option ℕ) (st : State)
         either_here x q before n o st w at_op v thrown (Enter e ∷ []) handler lost m quiet some
         (λ room.
         let ran = run x.image q n m s e t d st w at_op.matches (is_running x q before n o st w at_op) doomed_here quiet some hidden room in
-        begins_here x q before n o st w at_op v thrown (Enter e ∷ []) handler lost m quiet some (length (linear_code (shape q n) o) + 11) (omega arith) ran.0 refl ran.1)
+        begins_here x q before n o st w at_op v thrown (Enter e ∷ []) handler lost m quiet some (length (linear_code (shape q n) o) + 7 + entry_turns q m) (let few = few_to_enter q m in omega (arith, few)) ran.0 refl ran.1)
         (λ lacks.
         overflows_here x q before n o st w at_op v thrown (Enter e ∷ []) handler lost m quiet some lacks holds (length (linear_code (shape q n) o) + 13) (omega arith)
         (λ k many. over x.image x.pick k q n m s e t d st w at_op.matches (is_running x q before n o st w at_op) doomed_here quiet some hidden lacks many))

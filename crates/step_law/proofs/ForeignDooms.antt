@@ -1,6 +1,5 @@
 -- A module raises an exception in a whole run, and nothing stops that: terminate's handler begins, or there is no room for it, or none is called.
-use Rattle.std.proofs.Common.{◌≡◌, ◌∙◌, refl, sym, ap, subst, arith, ℕ, zero, suc, ◌+◌, ◌≤◌, ◌<◌, ◌⊎◌, inl, inr, Bool, true, false, List, [], ◌∷◌, length, leb, Option, Some, None, is_some, if◌then◌else◌}
-use Rattle.std.proofs.lemmas.Bool.Decides.{leb_tells}
+use Rattle.std.proofs.Common.{◌≡◌, ◌∙◌, refl, sym, ap, subst, arith, ℕ, zero, suc, ◌+◌, ◌≤◌, ◌<◌, ◌⊎◌, inl, inr, Bool, true, false, List, [], ◌∷◌, length, Option, Some, None, is_some, if◌then◌else◌}
 use Rattle.meaning_forms.specs.Outcome.{aborted}
 use Rattle.run_items.specs.declared.item.Item.{Item}
 use Rattle.run_items.specs.declared.item.Item.TheVariants.{Foreign}
@@ -28,15 +27,18 @@ use Rattle.machine_forms.specs.LinearCode.{linear_code}
 use Rattle.machine_stubs.specs.Stretches.{stub_word}
 use Rattle.machine_simulation.specs.Plan.{Plan, shape}
 use Rattle.machine_simulation.specs.Calls.{open_bytes}
-use Rattle.machine_simulation.specs.Entering.{frame_for}
+use Rattle.machine_simulation.specs.Entering.{frame_for, begin_room}
 use Rattle.machine_simulation.specs.Matches.{Matches}
 use Rattle.machine_simulation.specs.Objects.{with_object}
 use Rattle.machine_exceptions.specs.Leaves.{StepsTo}
 use Rattle.machine_exceptions.specs.Picks.{TurnsFor}
 use Rattle.machine_exceptions.specs.Terminates.{waiting_terminate}
-use Rattle.raise_ends.specs.Ends.{plan_in_handler}
+use Rattle.machine_exceptions.specs.Answers.{both_ints}
+use Rattle.raise_ends.specs.Ends.{plan_in_handler, HandlerFits}
 use Rattle.raise_ends.specs.Modules.{AtRaise, ModulesDoom}
 use Rattle.handler_overflows.specs.Modules.{ModulesOverflow}
+use Rattle.handler_overflows.specs.Overflow.{HandlerLacksRoom}
+use Rattle.handler_overflows.proofs.Above.{builtin_leaves}
 use Rattle.stack_bounds.specs.Taken.{StacksHoldCalls}
 use Rattle.address_invariant.specs.Extents.{extents_of}
 use Rattle.address_invariant.specs.Reaching.{Reaches}
@@ -51,6 +53,7 @@ use Rattle.whole_runs.proofs.Rounds.{pays_known, some_shown, steps_go_on_made, r
 use Rattle.whole_runs.proofs.Staying.{deepest_grows}
 use Rattle.cost_words.specs.Spends.{spends}
 use Rattle.whole_runs.proofs.Spending.{terminate_turns}
+use Rattle.cxx_ast.specs.declared.name.Builtin.TheVariants.{Module}
 use Rattle.step_law.specs.Facts.{needs_for, code_for}
 use Rattle.step_law.specs.Standing.{Standing, aims}
 use Rattle.step_law.specs.Rows.{Run, IsAt, FollowsIn}
@@ -60,6 +63,7 @@ use Rattle.step_law.proofs.Foreign.{RaisesHere, new, raised, is_foreign_there}
 use Rattle.step_law.proofs.HandlerBegins.{second_step, led_one, middle, next, none_waits, none_forced, spared_begun}
 use Rattle.step_law.proofs.Keeping.{NotEntered, kept_by_picked, ShownBehind, way_kept, marked_behind}
 use Rattle.step_law.proofs.Raises.{is_running}
+use Rattle.step_law.proofs.Rooms.{room_or_none, page_here, few_to_enter, takes_nothing}
 use Rattle.step_law.proofs.Terminates.{known_handler}
 
 module _ (x : Run) (q : Plan) (before n : ℕ) (o : LinearOp) (wants : Option Place) (st : State) (w : abi.World) (at_op : IsAt x q before n o st w) (r : RaisesHere x q n o wants st)
@@ -238,7 +242,7 @@ module _ (x : Run) (q : Plan) (before n : ℕ) (o : LinearOp) (wants : Option Pl
     begun_paid turns least = own_paid x q before n o st w at_op turns (turn_paid x q before n o st w at_op mid turns one (terminate_turns code st mid refl) least)
 
     -- the handler begins
-    begins : ModulesDoom → open_bytes q active + (shape q m).size + 0x1000 ≤ 0x100_0000 → FollowsIn x before st w
+    begins : ModulesDoom → HandlerFits q m st → FollowsIn x before st w
     begins run room =
         let ran = run.calls_the_handler x.image x.pick q n m r.k r.token r.left st w at_op.matches (is_running x q before n o st w at_op) raises_here r.room own_none quiet some hidden room in
         let turns : ℕ = ran.3.turns in
@@ -246,18 +250,18 @@ module _ (x : Run) (q : Plan) (before n : ℕ) (o : LinearOp) (wants : Option Pl
         let more = some_shown (program_of x.image).image x.pick turns w ran.3.after (Foreign e r.k r.token) [] made in
         let few = once in
         inl (subst (λ c. RoundGoesOn (program_of x.image).image x.pick c (Standing x.program x.image x.carrying x.tables) before st w) (same_code x q before n o st w at_op)
-        (steps_go_on_made (program_of x.image).image x.pick q st w (Standing x.program x.image x.carrying x.tables) before 2 go items turns ran.3.after (omega arith) ran.0.0 once ran.0.1 (omega (arith, more, few)) (begun_paid turns (omega (arith, ran.3.few))) made
+        (steps_go_on_made (program_of x.image).image x.pick q st w (Standing x.program x.image x.carrying x.tables) before 2 go items turns ran.3.after (omega arith) ran.0.0 once ran.0.1 (omega (arith, more, few)) (begun_paid turns (let entry = few_to_enter q m in omega (arith, ran.3.few, entry))) made
         (stands (two ran.0.0) ran.1 turns ran.3.after ran.3.runs ran.3.holds)))
 
     -- there is no room for it
-    overflows : ModulesOverflow → StacksHoldCalls → 0x100_0000 < open_bytes q active + (shape q m).size + 0x1000 → FollowsIn x before st w
+    overflows : ModulesOverflow → StacksHoldCalls → HandlerLacksRoom q m st → FollowsIn x before st w
     overflows over holds lacks =
         let most : ℕ = length (linear_code (shape q n) o) + 13 in
         let first = (over.nothing_stops x.image x.pick most q n m r.k r.token r.left st w at_op.matches (is_running x q before n o st w at_op) raises_here r.room own_none quiet some hidden lacks (omega arith)).0 in
         let none = none_waits x q before n o st w at_op m v quiet in
         let nested = at_op.stands.stands.stand.deep in
         let nest : CallsNest active = (refl, at_op.stands.stands.stand.nest) in
-        let deep = holds q active m st.world.deepest (at_op.facts.frames q at_op.stands.unit) nest (omega (arith, none)) at_op.stands.hidden (omega (arith, nested)) lacks in
+        let deep = holds q active m st.world.deepest (at_op.facts.frames q at_op.stands.unit) nest (omega (arith, none)) at_op.stands.hidden (omega (arith, nested)) lacks.lacks in
         let more = deepest_grows code 2 st go (leads (two first.0)) in
         inr (inr (inl (subst (λ c. Overflows (program_of x.image).image x.pick c st w) (same_code x q before n o st w at_op)
         (steps_overflow (program_of x.image).image x.pick q st w 2 go most items first.0 once (own_end_paid x q before n o st w at_op most (omega arith)) (omega (arith, deep, more)) first.1
@@ -265,12 +269,13 @@ module _ (x : Run) (q : Plan) (before n : ℕ) (o : LinearOp) (wants : Option Pl
         (over.nothing_stops x.image x.pick k q n m r.k r.token r.left st w at_op.matches (is_running x q before n o st w at_op) raises_here r.room own_none quiet some hidden lacks many).1)))))
 
     either : ModulesDoom → ModulesOverflow → StacksHoldCalls → FollowsIn x before st w
-    either run over holds = by (leb_tells (open_bytes q active + (shape q m).size + 0x1000) 0x100_0000)
+    either run over holds =
+        by (room_or_none (shape q m).leaf (open_bytes q active) (shape q m).size
+        (let page = page_here x q before n o st w at_op (builtin_leaves Module (both_ints r.called.number r.called.other) wants o r.called.calls) in let none = hidden in omega (arith, page, none)))
       where
-        by : ((leb (open_bytes q active + (shape q m).size + 0x1000) 0x100_0000 ≡ true) × (open_bytes q active + (shape q m).size + 0x1000 ≤ 0x100_0000))
-            ⊎ ((leb (open_bytes q active + (shape q m).size + 0x1000) 0x100_0000 ≡ false) × (0x100_0000 < open_bytes q active + (shape q m).size + 0x1000)) → FollowsIn x before st w
-        by (inl room) = begins run room.1
-        by (inr lacks) = overflows over holds lacks.1
+        by : (open_bytes q active + begin_room (shape q m).leaf (shape q m).size ≤ 0x100_0000) ⊎ (((shape q m).leaf ≡ false) × (0x100_0000 < open_bytes q active + (shape q m).size + 0x1000)) → FollowsIn x before st w
+        by (inl room) = begins run (record { taken = takes_nothing x.program q handler m at_op.stands.unit at_op.stands.stands.lives.handlers.terminate some; room = room })
+        by (inr lacks) = overflows over holds (record { looks = lacks.0; lacks = lacks.1 })
 
   pub dooms_here : ModulesDoom → ModulesOverflow → StacksHoldCalls → FollowsIn x before st w
   dooms_here run over holds = by st.world.ending handler refl refl

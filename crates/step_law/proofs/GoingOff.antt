@@ -37,6 +37,7 @@ pub record GoesOff (x : Run) (q : Plan) (f : Function) (z : ℤ) (st : State) (w
   pub is : (last_state f st).top.frame.slots slot ≡ unwinding z
   pub more : ℕ → ℕ
   pub some : (n : ℕ) → 0 < n → 0 < more n
+  pub one_more : (n : ℕ) → more (suc n) ≡ more n + 1
   pub calmly : (n : ℕ) (next : State) → CalmSteps (code_for x.program) n (last_state f st) next → CalmSteps (code_for x.program) (more n) st next
   pub paid : (n : ℕ) → paying (code_for x.program) (more n) st ≡ paying (code_for x.program) n (last_state f st)
   pub runs_on : (n : ℕ) → exec (code_for x.program) (more n) st ≡ exec (code_for x.program) n (last_state f st)
@@ -68,6 +69,7 @@ module _ (x : Run) (q : Plan) (before : ℕ) (z : ℤ) (st : State) (w : abi.Wor
         is = h.1;
         more = λ n. n;
         some = λ n less. less;
+        one_more = λ n. omega arith;
         calmly = λ n next rest. rest;
         paid = λ n. refl;
         runs_on = λ n. refl;
@@ -97,6 +99,7 @@ module _ (x : Run) (q : Plan) (before : ℕ) (z : ℤ) (st : State) (w : abi.Wor
         is = h.1;
         more = λ n. suc n;
         some = λ n less. omega arith;
+        one_more = λ n. omega arith;
         calmly = λ n next rest. (calm first, middle, one, rest);
         paid = λ n. quiet_then code n st middle (ap pays first) one;
         runs_on = λ n. ap (go_on (exec code n)) one;

@@ -1,7 +1,5 @@
 -- The unexpected handler of an exception that a specification stopped begins, in a whole run.
-use Rattle.std.proofs.Common.{◌≡◌, ◌∙◌, refl, sym, ap, subst, arith, ℕ, zero, suc, ◌+◌, ◌<◌, ◌≤◌, ◌^◌, ◌&&◌, inl, inr, ℤ, Bool, true, false, ◌⊎◌, List, [], ◌∷◌, length, leb, Option, Some, None, if◌then◌else◌}
-use Rattle.std.proofs.lemmas.Bool.Decides.{leb_tells}
-use Rattle.std.proofs.lemmas.List.{length-map}
+use Rattle.std.proofs.Common.{◌≡◌, ◌∙◌, refl, sym, ap, subst, arith, ℕ, zero, suc, ◌+◌, ◌<◌, ◌≤◌, ◌^◌, ◌&&◌, inl, inr, ℤ, Bool, true, false, ◌⊎◌, List, [], ◌∷◌, length, Option, Some, None, if◌then◌else◌}
 use Rattle.std.specs.List.{AllByRecursion}
 use Rattle.meaning_forms.specs.World.{Installed}
 use Rattle.run_items.specs.declared.item.Item.{Item}
@@ -18,11 +16,10 @@ use Rattle.linear_forms.specs.Stub.{Function, compiled}
 use Rattle.linear_forms.specs.Activation.{Activation, State, Code, goes_to, on, next_if, function_word}
 use Rattle.linear_forms.specs.Machine.{step}
 use Rattle.linear_forms.specs.Pace.{pays_at, paying, Leads}
-use Rattle.linear_forms.specs.Unit.{function_code}
 use Rattle.linear_forms.specs.UnitRun.{code_of}
 use Rattle.linear_forms.proofs.Paces
 use Rattle.flight_homes.specs.Keeps.{Carried, flying_in, destroyed_in}
-use Rattle.flight_homes.specs.Lives.{ExceptionKnown, HandlerKnown, known_in}
+use Rattle.flight_homes.specs.Lives.{ExceptionKnown, known_in}
 use Rattle.linear_invariant.specs.Asked.{PassAsked, FlightAsked}
 use Rattle.linear_invariant.specs.Calls.{unmarked}
 use Rattle.linear_invariant.specs.Stands.{StandsIn}
@@ -32,8 +29,8 @@ use Rattle.source_bounds.specs.Compiled.{unit_for}
 use Rattle.machine_pieces.specs.Turning.{Turns, Reaches}
 use Rattle.machine_forms.specs.LinearCode.{linear_code}
 use Rattle.machine_simulation.specs.Calls.{open_bytes}
-use Rattle.machine_simulation.specs.Plan.{Plan, shape, slot_kinds}
-use Rattle.machine_simulation.specs.Entering.{opened, frame_for}
+use Rattle.machine_simulation.specs.Plan.{Plan, shape, slot_kinds, function}
+use Rattle.machine_simulation.specs.Entering.{opened, frame_for, begin_room, entry_turns}
 use Rattle.machine_simulation.specs.Exceptions.{live_in}
 use Rattle.machine_simulation.specs.Matches.{Matches}
 use Rattle.machine_simulation.specs.Objects.{Shows}
@@ -57,16 +54,19 @@ use Rattle.address_invariant.specs.Laws.{GoesOn}
 use Rattle.address_invariant.proofs.Plans.{plans_go_on}
 use Rattle.address_invariant.proofs.Steps.{steps_reach}
 use Rattle.whole_runs.proofs.Single.{made_by_turns}
-use Rattle.whole_runs.proofs.Rounds.{leads_by, some_shown, reaches_goes_on, steps_overflow}
+use Rattle.whole_runs.proofs.Rounds.{leads_by, some_shown, reaches_goes_on_soon, steps_overflow}
+use Rattle.whole_runs.proofs.Spending.{call_turns, last_turn_spends}
+use Rattle.cost_words.specs.Spends.{spends}
 use Rattle.step_law.specs.Facts.{regions_for, needs_for, code_for}
 use Rattle.step_law.specs.Standing.{Standing}
 use Rattle.step_law.specs.Rows.{Run, IsAt, FollowsIn}
 use Rattle.step_law.specs.Unexpected.{UnexpectedFollows}
-use Rattle.step_law.proofs.At.{fetches, same_code, own_end_paid, own_paid, weight_paid}
+use Rattle.step_law.proofs.At.{fetches, same_code, own_end_paid, weight_paid}
 use Rattle.step_law.proofs.Exceptions.{calm_other, spared_others}
 use Rattle.step_law.proofs.Keeping.{NotEntered, CalmAt, kept_by_turns, unmarked_stands, stands_behind}
 use Rattle.step_law.proofs.Aligned.{SameFrames, align_push_two}
 use Rattle.step_law.proofs.Facing.{newest_made}
+use Rattle.step_law.proofs.Rooms.{room_or_none, page_here, few_to_enter, takes_nothing, handler_there}
 use Rattle.step_law.proofs.Several.{led_to, led_twice, forced_behind}
 use Rattle.step_law.proofs.StoppedHere.{inv_stopped, asked_stopped, flight_stopped, lives_stopped, at_stopped, held_stopped}
 use Rattle.step_law.proofs.Unexpecting.{calls_unexpected, unpaid_first}
@@ -127,8 +127,10 @@ module _ (x : Run) (q : Plan) (before n o s type m : ℕ) (d : Option ℕ) (kept
   known : m < length q.unit.functions
   known =
       let lives = subst (ExceptionKnown (known_in (regions_for x.program))) is flight.exception in
-      let there = subst (HandlerKnown (known_in (regions_for x.program))) handler lives.2.unexpected in
-      subst (λ u. m < length u.functions) (sym here.stands.unit) (omega (arith, there, length-map (regions_for x.program).functions function_code))
+      handler_there x.program q kept.unexpected_handler m here.stands.unit lives.2.unexpected handler
+
+  takes : 0 ≡ (function q m).parameters
+  takes = let lives = subst (ExceptionKnown (known_in (regions_for x.program))) is flight.exception in takes_nothing x.program q kept.unexpected_handler m here.stands.unit lives.2.unexpected handler
 
   -- the three states at which steps begin
   first_stands : StandsIn (unmarked (known_in (regions_for x.program))) code x.carrying (here.stands.steps + 1) first
@@ -219,11 +221,27 @@ module _ (x : Run) (q : Plan) (before n o s type m : ℕ) (d : Option ℕ) (kept
         steps_reach (extents_of q) (extents_of r) (unit_for x.program) (needs_for x.program) second next here.facts.reach reach_second
         (newest_made (unmarked (known_in (regions_for x.program))) code x.carrying (here.stands.steps + 1 + 1) second second_stands) (third_step steps_made) goes
 
-    begins : (most : ℕ) → most ≤ 32 → Shows st next (Enter e ∷ []) → Reaches (program_of x.image).image most w (Enter e ∷ []) (λ u. Matches (opened q m st.world.calls (frame_for q m active)) next u) → FollowsIn x before st w
+    -- the last step calls the handler, and pays for its beginning
+    last_paid : spends code 1 st + 64 ≤ spends code 3 st
+    last_paid =
+        last_turn_spends code 2 st second next (omega arith) (Paces.stepped code 1 st first (goes_to second) (calls_unexpected x q before n o s st w here) (Paces.one_step code first (goes_to second) enters_step))
+        (third_step steps_made) (call_turns code second next m refl refl)
+
+    all_paid : (most : ℕ) → most ≤ 96 → most ≤ spends (code_of q.unit) 3 st
+    all_paid most least =
+        let weight = weight_paid x q before n (unexpected o s) st w here 32 (omega arith) in
+        subst (λ c. most ≤ spends c 3 st) (sym same) (omega (arith, least, weight, last_paid))
+
+    soon_paid : (most : ℕ) → most ≤ 96 → most ≤ spends (code_of q.unit) 1 st + 64
+    soon_paid most least =
+        let weight = weight_paid x q before n (unexpected o s) st w here 32 (omega arith) in
+        subst (λ c. most ≤ spends c 1 st + 64) (sym same) (omega (arith, least, weight))
+
+    begins : (most : ℕ) → most ≤ 96 → Shows st next (Enter e ∷ []) → Reaches (program_of x.image).image most w (Enter e ∷ []) (λ u. Matches (opened q m st.world.calls (frame_for q m active)) next u) → FollowsIn x before st w
     begins most least shows ran =
         inl (subst (λ c. RoundGoesOn (program_of x.image).image x.pick c (Standing x.program x.image x.carrying x.tables) before st w) same
-        (reaches_goes_on (program_of x.image).image x.pick q st w (Standing x.program x.image x.carrying x.tables) before 3 next (Enter e ∷ []) most (λ u. Matches (opened q m st.world.calls (frame_for q m active)) next u) (omega arith) made
-        (omega (arith, once)) (own_paid x q before n (unexpected o s) st w here most (weight_paid x q before n (unexpected o s) st w here most least)) shows ran (λ turns u turned matches. stands (opened q m st.world.calls (frame_for q m active)) refl turns u turned matches)))
+        (reaches_goes_on_soon (program_of x.image).image x.pick q st w (Standing x.program x.image x.carrying x.tables) before 3 next (Enter e ∷ []) most (λ u. Matches (opened q m st.world.calls (frame_for q m active)) next u) (omega arith) made
+        (omega (arith, once)) (all_paid most least) (soon_paid most least) shows ran (λ turns u turned matches. stands (opened q m st.world.calls (frame_for q m active)) refl turns u turned matches)))
       where
         stands : (r : Plan) → r ≡ opened q m st.world.calls (frame_for q m active) → (turns : ℕ) (u : abi.World) → Turns (program_of x.image).image turns w u (Enter e ∷ []) → Matches r next u →
             (paying (code_of q.unit) 3 st ≤ turns) × Standing x.program x.image x.carrying x.tables (before + turns) next u
@@ -256,24 +274,25 @@ module _ (x : Run) (q : Plan) (before n o s type m : ℕ) (d : Option ℕ) (kept
     runs_over : HandlerLacksRoom q m active → StacksHoldCalls → Shows st next (Enter e ∷ []) → (most : ℕ) → most ≤ 64 → ((k : ℕ) → most ≤ k → RunEnds (program_of x.image).image x.pick k w (Enter e ∷ []) Stack) → FollowsIn x before st w
     runs_over lacks holds shows most least ends =
         let terminates = here.stands.once in
-        let deep = holds q active m second.world.deepest (here.facts.frames q here.stands.unit) second_stands.stand.nest (omega (arith, terminates)) here.stands.hidden second_stands.stand.deep lacks in
+        let deep = holds q active m second.world.deepest (here.facts.frames q here.stands.unit) second_stands.stand.nest (omega (arith, terminates)) here.stands.hidden second_stands.stand.deep lacks.lacks in
         let more = deepest_grows code 1 second next (Paces.one_step code second (goes_to next) (third_step steps_made)) in
         inr (inr (inl (subst (λ c. Overflows (program_of x.image).image x.pick c st w) same
         (steps_overflow (program_of x.image).image x.pick q st w 3 next most (Enter e ∷ []) made (omega (arith, once)) (own_end_paid x q before n (unexpected o s) st w here most (omega (arith, least))) (omega (arith, deep, more)) shows (λ k many. let ran = ends k many in (ran.0, ran.1))))))
 
   follows : UnexpectedHandlersBegin → UnexpectedHandlersOverflow → StacksHoldCalls → FollowsIn x before st w
-  follows run over holds = by (leb_tells (open_bytes q active + (shape q m).size + 0x1000) 0x100_0000)
+  follows run over holds = by (room_or_none (shape q m).leaf (open_bytes q active) (shape q m).size (let page = page_here x q before n (unexpected o s) st w here refl in omega (arith, page)))
     where
-      by : ((leb (open_bytes q active + (shape q m).size + 0x1000) 0x100_0000 ≡ true) × (open_bytes q active + (shape q m).size + 0x1000 ≤ 0x100_0000))
-          ⊎ ((leb (open_bytes q active + (shape q m).size + 0x1000) 0x100_0000 ≡ false) × (0x100_0000 < open_bytes q active + (shape q m).size + 0x1000)) → FollowsIn x before st w
+      by : (open_bytes q active + begin_room (shape q m).leaf (shape q m).size ≤ 0x100_0000) ⊎ (((shape q m).leaf ≡ false) × (0x100_0000 < open_bytes q active + (shape q m).size + 0x1000)) → FollowsIn x before st w
       by (inl room) =
-          let ran = run (program_of x.image).image q n o s e asked.selector type d kept m st w here.matches stopped handler room.1 in
-          begins ran.0 (length (linear_code (shape q n) (unexpected o s)) + 14) (omega arith) ran.1 ran.2
-      by (inr lacks) =
+          let ran = run (program_of x.image).image q n o s e asked.selector type d kept m st w here.matches stopped handler (record { taken = takes; room = room }) in
+          let entry = few_to_enter q m in
+          begins ran.0 (length (linear_code (shape q n) (unexpected o s)) + 10 + entry_turns q m) (omega (arith, entry)) ran.1 ran.2
+      by (inr none) =
+          let lacks : HandlerLacksRoom q m active = record { looks = none.0; lacks = none.1 } in
           let most = length (linear_code (shape q n) (unexpected o s)) + 16 in
-          let ran = λ (k : ℕ) (many : most ≤ k). over (program_of x.image).image x.pick k q n o s e asked.selector type d kept m st w here.matches stopped handler lacks.1 many in
+          let ran = λ (k : ℕ) (many : most ≤ k). over (program_of x.image).image x.pick k q n o s e asked.selector type d kept m st w here.matches stopped handler lacks many in
           let first_ran = ran most (omega arith) in
-          runs_over first_ran.0 lacks.1 holds first_ran.1 most (omega arith) (λ k many. (ran k many).2)
+          runs_over first_ran.0 lacks holds first_ran.1 most (omega arith) (λ k many. (ran k many).2)
 
 pub unexpected_follows : UnexpectedHandlersBegin → UnexpectedHandlersOverflow → StacksHoldCalls → UnexpectedFollows
 unexpected_follows run over holds x q before n o s type m d kept st w here few is handler =

@@ -10,6 +10,7 @@ pub mod Quiet
 pub mod Builtins
 pub mod Lines
 pub mod CallForms
+pub mod Rooms
 pub mod Calls
 pub mod Returns
 pub mod Resized

@@ -1,6 +1,5 @@
 -- Where the program terminates, in a whole run: the handler begins, or there is no room for it, or none is called and both machines abort.
-use Rattle.std.proofs.Common.{◌≡◌, ◌∙◌, refl, sym, ap, subst, arith, ℕ, zero, suc, ◌+◌, ◌≤◌, ◌<◌, ◌⊎◌, inl, inr, Bool, true, false, List, ◌∷◌, length, leb, Option, Some, None, is_some, if◌then◌else◌}
-use Rattle.std.proofs.lemmas.Bool.Decides.{leb_tells}
+use Rattle.std.proofs.Common.{◌≡◌, ◌∙◌, refl, sym, ap, subst, arith, ℕ, zero, suc, ◌+◌, ◌≤◌, ◌<◌, ◌⊎◌, inl, inr, Bool, true, false, List, ◌∷◌, length, Option, Some, None, is_some, if◌then◌else◌}
 use Rattle.meaning_forms.specs.Outcome.{aborted}
 use Rattle.run_items.specs.declared.item.Item.{Item}
 use Rattle.cxa_runtime.specs.declared.effect.End.TheVariants.{Aborted, Stack}
@@ -20,13 +19,14 @@ use Rattle.linear_invariant.specs.Handled.{open_handlers}
 use Rattle.linear_invariant.specs.Stands.{NewMarked}
 use Rattle.linear_invariant.proofs.Calls.{Spared}
 use Rattle.machine_pieces.specs.Turning.{Turns, Reaches}
-use Rattle.machine_simulation.specs.Plan.{Plan, shape}
+use Rattle.machine_simulation.specs.Plan.{Plan, shape, function}
 use Rattle.machine_simulation.specs.Calls.{open_bytes}
 use Rattle.machine_simulation.specs.Matches.{Matches}
 use Rattle.machine_simulation.specs.Objects.{Shows}
+use Rattle.machine_simulation.specs.Entering.{begin_room}
 use Rattle.machine_exceptions.specs.Leaves.{StepsTo}
 use Rattle.machine_exceptions.specs.Terminates.{waiting_terminate}
-use Rattle.raise_ends.specs.Ends.{RunEnds, LinearEnds}
+use Rattle.raise_ends.specs.Ends.{RunEnds, LinearEnds, HandlerFits}
 use Rattle.stack_bounds.specs.Taken.{StacksHoldCalls}
 use Rattle.whole_runs.specs.Steps.{GoesOn as RoundGoesOn, Ends, Overflows}
 use Rattle.whole_runs.proofs.Counts.{aborts_once, quiet_once}
@@ -36,14 +36,17 @@ use Rattle.whole_runs.proofs.Staying.{deepest_grows}
 use Rattle.cost_words.specs.Spends.{spends}
 use Rattle.whole_runs.proofs.Spending.{terminate_turns}
 use Rattle.machine_forms.specs.LinearCode.{linear_code}
+use Rattle.machine_forms.specs.Leaf.{linear_stays}
+use Rattle.handler_overflows.specs.Overflow.{HandlerLacksRoom}
 use Rattle.step_law.specs.Facts.{code_for}
 use Rattle.step_law.specs.Standing.{Standing, aims}
 use Rattle.step_law.specs.Rows.{Run, IsAt, FollowsIn}
 use Rattle.step_law.proofs.At.{same_code, own_end_paid, own_paid, turn_paid}
 use Rattle.step_law.proofs.HandlerBegins.{EndsIn, second_step, led_one, middle, next, plan, none_waits, spared_begun, leads, shown}
 use Rattle.step_law.proofs.Keeping.{NotEntered, kept_by_turns, way_kept, marked_behind}
+use Rattle.step_law.proofs.Rooms.{room_or_none, page_here}
 
--- An operation terminates in a world, with a handler if there is one, and shows items; while terminate runs the program ends in another world. What it
+-- An operation terminates in a world, with a handler if there is one, which takes nothing, and shows items; while terminate runs the program ends in another world. What it
 -- raises aims at no call, and nothing that the open calls carry is entered.
 pub record IsLost (x : Run) (q : Plan) (o : LinearOp) (st : State) (w : abi.World) (v fall : World) (items : List Item) (h : Option ℕ) : Type 0 where
   pub beside : EndsIn st.world v
@@ -54,6 +57,8 @@ pub record IsLost (x : Run) (q : Plan) (o : LinearOp) (st : State) (w : abi.Worl
   pub marked : NewMarked (aims x.program q (st.top ∷ st.frames) w) (code_for x.program) st
   pub spared : Spared x.carrying (NotEntered items) (Some terminating) (st.top ∷ st.frames)
   pub known : (m : ℕ) → h ≡ Some m → m < length q.unit.functions
+  pub takes : (m : ℕ) → h ≡ Some m → 0 ≡ (function q m).parameters
+  pub leaves : linear_stays o ≡ false
   pub few : (turns : ℕ) (u : abi.World) → Turns (program_of x.image).image turns w u items → open_handlers v.caught ≤ open_handlers st.world.caught + turns
 
 module _ (x : Run) (q : Plan) (before n : ℕ) (o : LinearOp) (st : State) (w : abi.World) (at_op : IsAt x q before n o st w) (v fall : World) (items : List Item) (h : Option ℕ) (lost : IsLost x q o st w v fall items h) where
@@ -167,7 +172,7 @@ module _ (x : Run) (q : Plan) (before n : ℕ) (o : LinearOp) (st : State) (w : 
         (λ turns u turned matches. (paid turns u turned matches, stands second turns u turned matches))))
 
     -- there is no room for it
-    pub overflows_here : (lacks : 0x100_0000 < open_bytes q active + (shape q m).size + 0x1000) → StacksHoldCalls → (most : ℕ) → most ≤ length (linear_code (shape q n) o) + 64 →
+    pub overflows_here : (lacks : HandlerLacksRoom q m st) → StacksHoldCalls → (most : ℕ) → most ≤ length (linear_code (shape q n) o) + 64 →
         ((k : ℕ) → most ≤ k → (StepsTo (code_of q.unit) 2 st go × Shows st go items) × RunEnds (program_of x.image).image x.pick k w items Stack) → FollowsIn x before st w
     overflows_here lacks holds most least over =
         let first = (over most (omega arith)).0 in
@@ -175,18 +180,17 @@ module _ (x : Run) (q : Plan) (before n : ℕ) (o : LinearOp) (st : State) (w : 
         let none = none_waits x q before n o st w at_op m v quiet in
         let nested = at_op.stands.stands.stand.deep in
         let nest : CallsNest active = (refl, at_op.stands.stands.stand.nest) in
-        let deep = holds q active m st.world.deepest (at_op.facts.frames q at_op.stands.unit) nest (omega (arith, none)) at_op.stands.hidden (omega (arith, nested)) lacks in
+        let deep = holds q active m st.world.deepest (at_op.facts.frames q at_op.stands.unit) nest (omega (arith, none)) at_op.stands.hidden (omega (arith, nested)) lacks.lacks in
         let more = deepest_grows code 2 st go led in
         inr (inr (inl (subst (λ c. Overflows (program_of x.image).image x.pick c st w) (same_code x q before n o st w at_op)
         (steps_overflow (program_of x.image).image x.pick q st w 2 go most items first.0 once (own_end_paid x q before n o st w at_op most least) (omega (arith, deep, more)) first.1 (λ k many. (over k many).1)))))
 
-    pub either_here : (open_bytes q active + (shape q m).size + 0x1000 ≤ 0x100_0000 → FollowsIn x before st w) → (0x100_0000 < open_bytes q active + (shape q m).size + 0x1000 → FollowsIn x before st w) → FollowsIn x before st w
-    either_here begin over = by (leb_tells (open_bytes q active + (shape q m).size + 0x1000) 0x100_0000)
+    pub either_here : (HandlerFits q m st → FollowsIn x before st w) → (HandlerLacksRoom q m st → FollowsIn x before st w) → FollowsIn x before st w
+    either_here begin over = by (room_or_none (shape q m).leaf (open_bytes q active) (shape q m).size (let page = page_here x q before n o st w at_op lost.leaves in let none = nothing_hidden in omega (arith, page, none)))
       where
-        by : ((leb (open_bytes q active + (shape q m).size + 0x1000) 0x100_0000 ≡ true) × (open_bytes q active + (shape q m).size + 0x1000 ≤ 0x100_0000))
-            ⊎ ((leb (open_bytes q active + (shape q m).size + 0x1000) 0x100_0000 ≡ false) × (0x100_0000 < open_bytes q active + (shape q m).size + 0x1000)) → FollowsIn x before st w
-        by (inl room) = begin room.1
-        by (inr lacks) = over lacks.1
+        by : (open_bytes q active + begin_room (shape q m).leaf (shape q m).size ≤ 0x100_0000) ⊎ (((shape q m).leaf ≡ false) × (0x100_0000 < open_bytes q active + (shape q m).size + 0x1000)) → FollowsIn x before st w
+        by (inl room) = begin (record { taken = lost.takes m some; room = room })
+        by (inr lacks) = over (record { looks = lacks.0; lacks = lacks.1 })
 
   -- with a handler or without one
   pub whatever_here : ((st.world.ending ≡ true) ⊎ (h ≡ None) → FollowsIn x before st w) → ((m : ℕ) → st.world.ending ≡ false → h ≡ Some m → FollowsIn x before st w) → FollowsIn x before st w

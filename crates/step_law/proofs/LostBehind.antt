@@ -1,6 +1,5 @@
 -- The program terminates behind some steps of call_unexpected: terminate's handler begins, or there is no room for it, or none is called.
-use Rattle.std.proofs.Common.{◌≡◌, ◌∙◌, refl, sym, ap, subst, arith, ℕ, zero, suc, ◌+◌, ◌≤◌, ◌<◌, ◌⊎◌, inl, inr, Bool, true, false, List, ◌∷◌, length, leb, Option, Some, None, if◌then◌else◌}
-use Rattle.std.proofs.lemmas.Bool.Decides.{leb_tells}
+use Rattle.std.proofs.Common.{◌≡◌, ◌∙◌, refl, sym, ap, subst, arith, ℕ, zero, suc, ◌+◌, ◌≤◌, ◌<◌, ◌⊎◌, inl, inr, Bool, true, false, List, ◌∷◌, length, Option, Some, None, if◌then◌else◌}
 use Rattle.std.specs.List.{AllByRecursion}
 use Rattle.meaning_forms.specs.Outcome.{aborted}
 use Rattle.run_items.specs.declared.item.Item.{Item}
@@ -32,11 +31,11 @@ use Rattle.kept_selectors.proofs.Runs.{leads_keep}
 use Rattle.source_bounds.specs.Compiled.{unit_for}
 use Rattle.machine_simulation.specs.Plan.{Plan, function, shape}
 use Rattle.machine_simulation.specs.Calls.{open_bytes}
-use Rattle.machine_simulation.specs.Entering.{frame_for}
+use Rattle.machine_simulation.specs.Entering.{frame_for, begin_room}
 use Rattle.machine_simulation.specs.Matches.{FrameIs, Matches}
 use Rattle.machine_simulation.specs.Objects.{Shows}
 use Rattle.machine_exceptions.specs.Terminates.{waiting_terminate, ending_world, in_handler}
-use Rattle.raise_ends.specs.Ends.{RunEnds, plan_in_handler}
+use Rattle.raise_ends.specs.Ends.{RunEnds, plan_in_handler, HandlerFits}
 use Rattle.runtime_invariant.specs.Aims.{is_entered}
 use Rattle.stack_bounds.specs.Taken.{terminate_calls, is_terminate_call, StacksHoldCalls}
 use Rattle.address_invariant.specs.Extents.{extents_of}
@@ -49,6 +48,7 @@ use Rattle.unexpected_calls.specs.Terminates.{BothAbort}
 use Rattle.whole_runs.specs.Turns.{Made}
 use Rattle.whole_runs.specs.Steps.{StaysBehind}
 use Rattle.whole_runs.proofs.Staying.{deepest_grows}
+use Rattle.whole_runs.proofs.Spending.{call_turns, last_turn_spends}
 use Rattle.cost_words.specs.Spends.{spends}
 use Rattle.step_law.specs.Facts.{regions_for, needs_for, code_for, Facts}
 use Rattle.step_law.specs.Standing.{HeaderAims, IsAimed, aims, StandsBy}
@@ -60,6 +60,7 @@ use Rattle.step_law.proofs.Facing.{code_same, newest_made}
 use Rattle.step_law.proofs.HandlerBegins.{none_terminate, led_one}
 use Rattle.step_law.proofs.Founded.{leads_founded}
 use Rattle.step_law.proofs.Keeping.{RuntimeKept, NotEntered, CalmAt, calm_marked, unmarked_stands, PlanGoes}
+use Rattle.step_law.proofs.Rooms.{room_or_none}
 
 -- Steps that raise nothing lead to a state of call_unexpected whose step terminates in a world, with a handler if there is one, and what that raises aims
 -- at no call. Where the open calls are those that were, their frames' ends are where they were; nothing that they carry is entered.
@@ -77,6 +78,8 @@ pub record IsLostBehind (x : Run) (q : Plan) (st : State) (steps : ℕ) (last : 
   pub aligned : CallsAlign q q (st.top ∷ st.frames) (last.top ∷ last.frames)
   pub spared : Spared x.carrying (NotEntered items) (Some terminating) (last.top ∷ last.frames)
   pub known : (m : ℕ) → h ≡ Some m → m < length q.unit.functions
+  pub takes : (m : ℕ) → h ≡ Some m → 0 ≡ (function q m).parameters
+  pub page : open_bytes q (last.top ∷ last.frames) + 0xD00 ≤ 0x100_0000
   pub frames : (n : ℕ) → n < length q.unit.functions → FrameIs (function q n)
   pub few : open_handlers v.caught ≤ open_handlers st.world.caught + more
 
@@ -148,6 +151,13 @@ module _ (x : Run) (q : Plan) (before : ℕ) (st : State) (w : abi.World) (facts
 
     pub leads_all : Leads code (steps + 2) st (goes_to go)
     leads_all = Paces.leads_both code steps 2 st last (goes_to go) lost.leads leads_two
+
+    -- the last step, in which terminate calls the handler, pays for its beginning
+    last_paid : spends code 1 st + 64 ≤ spends code (steps + 2) st
+    last_paid =
+        let paid = last_turn_spends code (steps + 1) st mid go (omega arith) (Paces.leads_both code steps 1 st last (goes_to mid) lost.leads (Paces.one_step code last (goes_to mid) one)) two (call_turns code mid go m refl refl) in
+        let count : steps + 1 + 1 ≡ steps + 2 = omega arith in
+        subst (λ n. spends code 1 st + 64 ≤ spends code n st) count paid
 
     -- what is carried where terminate is called aims at calls that stay
     abbrev near : Marks
@@ -242,7 +252,7 @@ module _ (x : Run) (q : Plan) (before : ℕ) (st : State) (w : abi.World) (facts
         }
 
         -- the handler begins
-        pub handler_begins : Made (program_of x.image).image x.pick turns w u items → Matches r go u → more ≤ turns → paying code (steps + 2) st ≤ turns → turns ≤ spends code 1 st → StaysBehind (program_of x.image).image x.pick code (steps + 2) st w → Shows st go items →
+        pub handler_begins : Made (program_of x.image).image x.pick turns w u items → Matches r go u → more ≤ turns → paying code (steps + 2) st ≤ turns → turns ≤ spends code 1 st + 64 → StaysBehind (program_of x.image).image x.pick code (steps + 2) st w → Shows st go items →
             FollowsIn x before st w
         handler_begins made matches enough paid least stays shows = inl (record {
           steps = steps + 2;
@@ -254,7 +264,8 @@ module _ (x : Run) (q : Plan) (before : ℕ) (st : State) (w : abi.World) (facts
           shows = shows;
           turns = turns;
           paid = paid;
-          few = least;
+          few = let all = last_paid in omega (arith, least, all);
+          soon = least;
           after = u;
           made = made;
           stands = (r, handler_stands matches enough);
@@ -267,7 +278,7 @@ module _ (x : Run) (q : Plan) (before : ℕ) (st : State) (w : abi.World) (facts
         let none = none_waits quiet in
         let before_last = deepest_grows code steps st last lost.leads in
         let nest : CallsNest (waiting_terminate m ∷ left) = (refl, stands_last.stand.nest) in
-        let deep = holds q (waiting_terminate m ∷ left) m last.world.deepest (facts.frames q stands.unit) nest (omega (arith, none)) (omega (arith, stands.hidden, before_last)) (omega (arith, stands_last.stand.deep)) lacks in
+        let deep = holds q (waiting_terminate m ∷ left) m last.world.deepest (facts.frames q stands.unit) nest (omega (arith, none)) (omega (arith, stands.hidden, before_last)) (omega (arith, stands_last.stand.deep)) lacks.lacks in
         let grown = deepest_grows code 2 last go leads_two in
         inr (inr (inl (record {
           steps = steps + 2;
@@ -281,13 +292,13 @@ module _ (x : Run) (q : Plan) (before : ℕ) (st : State) (w : abi.World) (facts
           few = least;
         })))
 
-    pub room_or_none : (open_bytes q (waiting_terminate m ∷ left) + (shape q m).size + 0x1000 ≤ 0x100_0000 → FollowsIn x before st w) → (HandlerLacksRoom q m (waiting_terminate m ∷ left) → FollowsIn x before st w) → FollowsIn x before st w
-    room_or_none begin over_it = by (leb_tells (open_bytes q (waiting_terminate m ∷ left) + (shape q m).size + 0x1000) 0x100_0000)
+    pub fits_or_not : (HandlerFits q m waiting → FollowsIn x before st w) → (HandlerLacksRoom q m (waiting_terminate m ∷ left) → FollowsIn x before st w) → FollowsIn x before st w
+    fits_or_not begin over_it = by (room_or_none (shape q m).leaf (open_bytes q (waiting_terminate m ∷ left)) (shape q m).size (let page = lost.page in let none = stands.hides quiet in omega (arith, page, none)))
       where
-        by : ((leb (open_bytes q (waiting_terminate m ∷ left) + (shape q m).size + 0x1000) 0x100_0000 ≡ true) × (open_bytes q (waiting_terminate m ∷ left) + (shape q m).size + 0x1000 ≤ 0x100_0000))
-            ⊎ ((leb (open_bytes q (waiting_terminate m ∷ left) + (shape q m).size + 0x1000) 0x100_0000 ≡ false) × (0x100_0000 < open_bytes q (waiting_terminate m ∷ left) + (shape q m).size + 0x1000)) → FollowsIn x before st w
-        by (inl room) = begin room.1
-        by (inr lacks) = over_it lacks.1
+        by : (open_bytes q (waiting_terminate m ∷ left) + begin_room (shape q m).leaf (shape q m).size ≤ 0x100_0000) ⊎ (((shape q m).leaf ≡ false) × (0x100_0000 < open_bytes q (waiting_terminate m ∷ left) + (shape q m).size + 0x1000)) →
+            FollowsIn x before st w
+        by (inl room) = begin (record { taken = lost.takes m some; room = room })
+        by (inr lacks) = over_it (record { looks = lacks.0; lacks = lacks.1 })
 
   -- with a handler or without one
   pub with_or_without : ((st.world.ending ≡ true) ⊎ (h ≡ None) → FollowsIn x before st w) → ((m : ℕ) → st.world.ending ≡ false → h ≡ Some m → FollowsIn x before st w) → FollowsIn x before st w

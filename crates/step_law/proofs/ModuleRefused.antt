@@ -20,18 +20,22 @@ use Rattle.linear_invariant.proofs.Calls.{all_spared}
 use Rattle.machine_forms.specs.LinearCode.{linear_code}
 use Rattle.machine_stubs.specs.Stretches.{stub_word}
 use Rattle.machine_simulation.specs.Plan.{Plan, shape}
-use Rattle.machine_exceptions.specs.Answers.{CallsModule}
+use Rattle.machine_simulation.specs.Entering.{entry_turns}
+use Rattle.machine_exceptions.specs.Answers.{CallsModule, both_ints}
 use Rattle.raise_ends.specs.Full.{ModulesAreRefusedWhenFull}
 use Rattle.raise_ends.specs.Modules.{AtRaise}
 use Rattle.handler_overflows.specs.Modules.{ModulesOverflow}
+use Rattle.handler_overflows.proofs.Above.{builtin_leaves}
 use Rattle.stack_bounds.specs.Taken.{StacksHoldCalls}
 use Rattle.address_invariant.proofs.Newest.{newest_was_made}
+use Rattle.cxx_ast.specs.declared.name.Builtin.TheVariants.{Module}
 use Rattle.step_law.specs.Facts.{code_for}
 use Rattle.step_law.specs.Standing.{aims}
 use Rattle.step_law.specs.Rows.{Run, IsAt, FollowsIn}
 use Rattle.step_law.proofs.At.{fetches, step_acts}
 use Rattle.step_law.proofs.Keeping.{NotEntered}
 use Rattle.step_law.proofs.Lost.{IsLost, aborts_here, nothing_hidden, begins_here, overflows_here, either_here, whatever_here}
+use Rattle.step_law.proofs.Rooms.{takes_nothing, few_to_enter}
 use Rattle.step_law.proofs.Terminates.{known_handler}
 
 -- an operation calls a module whose next reply raises, and there is no room for an exception
@@ -91,6 +95,8 @@ module _ (x : Run) (q : Plan) (before n : ℕ) (o : LinearOp) (wants : Option Pl
     marked = marked;
     spared = all_spared x.carrying (NotEntered []) (λ e. refl) (Some terminating) here;
     known = λ m some. known_handler q handler m w.terminate_handler some at_op.matches.runtime.exceptions.terminate_handler;
+    takes = λ m some. takes_nothing x.program q handler m at_op.stands.unit at_op.stands.stands.lives.handlers.terminate some;
+    leaves = builtin_leaves Module (both_ints r.called.number r.called.other) wants o r.called.calls;
     few = λ turns u turned. omega arith;
   }
 
@@ -116,7 +122,7 @@ module _ (x : Run) (q : Plan) (before n : ℕ) (o : LinearOp) (wants : Option Pl
       either_here x q before n o st w at_op v v [] handler lost m quiet some
       (λ room.
       let ran = run.calls_the_handler x.image q n m r.k r.token r.left st w at_op.matches raises_here r.full quiet some hidden room in
-      begins_here x q before n o st w at_op v v [] handler lost m quiet some (length (linear_code (shape q n) o) + 11) (omega arith) ran.0.0 ran.0.1 ran.1)
+      begins_here x q before n o st w at_op v v [] handler lost m quiet some (length (linear_code (shape q n) o) + 7 + entry_turns q m) (let few = few_to_enter q m in omega (arith, few)) ran.0.0 ran.0.1 ran.1)
       (λ lacks.
       overflows_here x q before n o st w at_op v v [] handler lost m quiet some lacks holds (length (linear_code (shape q n) o) + 13) (omega arith)
       (λ j many. over.full x.image x.pick j q n m r.k r.token r.left st w at_op.matches raises_here r.full quiet some hidden lacks many))

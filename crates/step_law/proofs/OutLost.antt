@@ -45,13 +45,13 @@ module _ (x : Run) (q : Plan) (before : ℕ) (st : State) (w : abi.World) (e d :
     waiting = record { top = last.top; frames = last.frames; world = v }
 
     -- the handler begins
-    pub out_begins : (r0 : Plan) → PlanGoes q r0 → Reaches (extents_of r0) (unit_for x.program) (needs_for x.program) last → (turns : ℕ) (u : abi.World) → turns ≤ 44 → Made (program_of x.image).image x.pick turns w u (i ∷ items) → RuntimeKept w u (i ∷ items) →
+    pub out_begins : (r0 : Plan) → PlanGoes q r0 → Reaches (extents_of r0) (unit_for x.program) (needs_for x.program) last → (turns : ℕ) (u : abi.World) → turns ≤ 108 → Made (program_of x.image).image x.pick turns w u (i ∷ items) → RuntimeKept w u (i ∷ items) →
         Matches (plan_in_handler r0 m waiting) (in_handler q m waiting) u → Shows st (in_handler q m waiting) (i ∷ items) → FollowsIn x before st w
     out_begins r0 plan reach turns u few_turns made kept_it matches shows =
         let later = shown_later (program_of x.image).image x.pick 7 w (quiet_world x q before st w e d out) (nothing x q before st w e d out) turns u i items made in
         let pays = paid x q before st w e d out few type destructor kept is may (steps + 2) (omega (arith, short)) in
         handler_begins x q before st w out.here.facts out.here.stands steps last v (i ∷ items) more h lost m quiet some r0 plan reach turns u kept_it made matches (omega (arith, later, enough)) (omega (arith, later, pays))
-        (checks_pay x q before st w e d out turns few_turns) (stays x q before st w e d out few type destructor kept is may (steps + 2) (omega (arith, short))) shows
+        (let paid_here = checks_pay x q before st w e d out 44 (omega arith) in omega (arith, few_turns, paid_here)) (stays x q before st w e d out few type destructor kept is may (steps + 2) (omega (arith, short))) shows
 
     pub out_overflows : HandlerLacksRoom q m (waiting_terminate m ∷ last.top ∷ last.frames) → StacksHoldCalls → (most n : ℕ) → most ≤ 64 → ((k : ℕ) → most ≤ k → NoRoom (program_of x.image).image x.pick k q m n st waiting w (i ∷ items)) → FollowsIn x before st w
     out_overflows lacks holds most n few_turns ends =

@@ -1,10 +1,10 @@
 -- A forced unwind goes on from end_catch or from call_unexpected and comes to a call out of which nothing may come, in a whole run.
-use Rattle.std.proofs.Common.{◌≡◌, ◌∙◌, refl, sym, ap, subst, arith, ℕ, ◌+◌, ◌≤◌, ◌<◌, ℤ, false, List, [], ◌∷◌, length, append-nil, Some, Option, is_some, if◌then◌else◌}
+use Rattle.std.proofs.Common.{◌≡◌, ◌∙◌, refl, sym, ap, subst, arith, ℕ, ◌+◌, ◌≤◌, ℤ, false, List, [], ◌∷◌, append-nil, Some}
 use Rattle.run_items.specs.declared.item.Item.TheVariants.{Free}
 use Rattle.cxa_runtime.specs.World as abi
 use Rattle.eh_run.specs.Program.{program_of}
-use Rattle.linear_forms.specs.Stub.{Function, compiled, end_catch, terminating, call_unexpected, stub_op, linear}
-use Rattle.linear_forms.specs.Activation.{Activation, State, Code, goes_to, terminated, fetch, finishes, by_program, stub_frame, function_word}
+use Rattle.linear_forms.specs.Stub.{Function, compiled, end_catch, terminating, call_unexpected}
+use Rattle.linear_forms.specs.Activation.{Activation, State, Code, goes_to, terminated}
 use Rattle.linear_forms.specs.Machine.{step}
 use Rattle.linear_forms.specs.UnitRun.{code_of}
 use Rattle.flight_homes.specs.Lives.{known_in}
@@ -13,10 +13,11 @@ use Rattle.linear_invariant.specs.Calls.{unmarked}
 use Rattle.linear_invariant.specs.Stands.{StandsIn}
 use Rattle.linear_invariant.proofs.Steps.{steps_stand}
 use Rattle.source_bounds.specs.Compiled.{unit_for}
-use Rattle.machine_stubs.specs.Stretches.{stub_word}
+use Rattle.machine_stubs.specs.Stretches.{stub_word, frame_size}
 use Rattle.machine_simulation.specs.Calls.{frame_of}
 use Rattle.machine_simulation.specs.Objects.{without_object}
 use Rattle.machine_simulation.specs.Plan.{Plan}
+use Rattle.machine_simulation.specs.Entering.{entry_turns}
 use Rattle.machine_exceptions.specs.Terminates.{waiting_terminate}
 use Rattle.raise_ends.specs.Ends.{HandlerFits}
 use Rattle.own_ends.specs.Overflow.{LacksRoom}
@@ -26,10 +27,8 @@ use Rattle.stack_bounds.specs.Taken.{is_terminate_call, StacksHoldCalls}
 use Rattle.address_invariant.specs.Extents.{extents_of}
 use Rattle.address_invariant.specs.Reaching.{VariablesLie}
 use Rattle.address_invariant.proofs.Steps.{steps_reach}
-use Rattle.whole_runs.proofs.Spending.{own_spends, turn_spends, terminate_turns}
-use Rattle.cost_turns.specs.Weights.{is_own}
-use Rattle.linear_forms.specs.Linear.{free}
-use Rattle.cost_words.specs.Spends.{spends}
+use Rattle.rv64_isa.specs.Step.{x as hart_at}
+use Rattle.machine_forms.specs.Registers.{sp}
 use Rattle.step_law.specs.Facts.{regions_for, needs_for, code_for}
 use Rattle.step_law.specs.Own.{StandsAt}
 use Rattle.step_law.specs.OwnUnwindEnds.{GoesOut, OwnBarredFollow}
@@ -39,16 +38,8 @@ use Rattle.step_law.proofs.Facing.{runs_image, newest_made}
 use Rattle.step_law.proofs.ForcedEnds.{forced_terminates}
 use Rattle.step_law.proofs.GoingOff.{GoesOff, goes_off, off_forces, off_calm, off_quiet}
 use Rattle.step_law.proofs.OwnLeaving.{own_same, own_stands}
-use Rattle.step_law.proofs.OwnBarring.{LastThere, known_by, own_either}
-use Rattle.meaning_forms.specs.Outcome.{aborted}
-use Rattle.region_forms.specs.World.{nothing}
-
--- a step by which terminate begins pays for some turns
-begun_spends : (code : Code) (st : State) (h : Option ℕ) (gs : List Activation) (k : ℕ) → step code st ≡ terminated h gs st.world → st.world.ending ≡ false → k ≤ 64 → k ≤ spends code 1 st
-begun_spends code st h gs k e quiet least =
-    let begun : State = record { top = record { function = terminating; place = 0; frame = stub_frame (function_word h) nothing nothing }; frames = gs; world = record st.world { ending = is_some h } } in
-    let one : step code st ≡ goes_to begun = e ∙ ap (λ b. if b then finishes (by_program aborted) st.world else goes_to begun) quiet in
-    turn_spends code st begun k one (omega (arith, least)) (terminate_turns code st begun refl)
+use Rattle.step_law.proofs.OwnBarring.{LastThere, own_either}
+use Rattle.step_law.proofs.Rooms.{few_to_enter, own_page}
 
 module _ (x : Run) (q : Plan) (before m : ℕ) (z : ℤ) (st next : State) (w : abi.World) (at : StandsAt x q before st w) (law : OwnUnwindsEnd) (holds : StacksHoldCalls) where
   abbrev run_code : Code
@@ -73,7 +64,7 @@ module _ (x : Run) (q : Plan) (before m : ℕ) (z : ℤ) (st next : State) (w : 
     in_own : step (code_of q.unit) (last_state f st) ≡ goes_to next
     in_own = ap (λ c. step c (last_state f st)) (own_same x q before st w at) ∙ e
 
-    fits_by : CallsStand (last_state f st) → HandlerFits (last_plan f q st) m (last_state f st) → OwnBarred (last_plan f q st) x.image m (last_state f st) w (last_turns f + 10) (last_items f st)
+    fits_by : CallsStand (last_state f st) → HandlerFits (last_plan f q st) m (last_state f st) → OwnBarred (last_plan f q st) x.image m (last_state f st) w (last_turns f + 6 + entry_turns (last_plan f q st) m) (last_items f st)
     fits_by stand fits = law.calls_the_handler x.image q f m z st next w g.unwinds (runs_image x q before st w at.facts at.stands) g.called in_own ends stand named_there some fits
 
     over_by : (last_plan f q st).hidden ≡ 0 → LacksRoom (last_plan f q st) m (waiting_terminate m ∷ (last_state f st).top ∷ (last_state f st).frames) → (j : ℕ) → last_turns f + 12 ≤ j →
@@ -101,19 +92,20 @@ module _ (x : Run) (q : Plan) (before m : ℕ) (z : ℤ) (st next : State) (w : 
         some = some;
         off = out.0.rests.runtime.terminating;
         size = subst (λ f. frame_of q.unit q.hidden f ≤ 80) (sym function_is) (omega arith);
+        page = (let free = own_page q call_unexpected st.frames st.world w.hart.memory (hart_at w.hart sp) out.0.rests.back out.0.rests.memory in let top : frame_of q.unit q.hidden st.top.function ≡ frame_size call_unexpected = ap (frame_of q.unit q.hidden) function_is in omega (arith, free, top));
         own = ap is_terminate_call function_is;
         shows = sym (append-nil st.world.items);
         entered = λ k. refl;
         more = λ n. n;
         more_some = λ n less. less;
+        one_more = λ n. omega arith;
         calmly = λ n y rest. rest;
-        spent = 13;
-        few = begun_spends run_code st st.world.installed.terminate_handler t.0 13 t.1 t.2 (omega arith);
+        spent = last_turns call_unexpected + 6 + entry_turns q m;
+        few = (let entry = few_to_enter q m in omega (arith, entry));
         paid = λ n. refl;
       } in
-      let known = known_by x q q before st.top.place st.world [] t.0 m st w at there in
       own_either x q q before st.top.place st.world [] t.0 m st w at there 15 (omega arith) (fits_by call_unexpected g e ends some stands_there.stand)
-      (λ lacks. over_by call_unexpected g e ends some (at.stands.hides t.2) (record { known = subst (λ u. m < length u.functions) (sym at.stands.unit) known; lacks = lacks })) holds
+      (λ lacks. over_by call_unexpected g e ends some (at.stands.hides t.2) lacks) holds
 
   from_catch : (out : GoesOut end_catch q st w z) → CatchFreesOnTheWay → GoesOff x q end_catch z st w → step run_code (last_state end_catch st) ≡ goes_to next → next.top.function ≡ terminating → st.world.installed.terminate_handler ≡ Some m → FollowsIn x before st w
   from_catch out run g e ends some =
@@ -145,19 +137,20 @@ module _ (x : Run) (q : Plan) (before m : ℕ) (z : ℤ) (st next : State) (w : 
         some = some;
         off = out.0.rests.runtime.terminating;
         size = subst (λ f. frame_of q.unit q.hidden f ≤ 80) (sym function_is) (omega arith);
+        page = (let free = own_page q end_catch st.frames st.world w.hart.memory (hart_at w.hart sp) out.0.rests.back out.0.rests.memory in let top : frame_of q.unit q.hidden st.top.function ≡ frame_size end_catch = ap (frame_of q.unit q.hidden) function_is in omega (arith, free, top));
         own = ap is_terminate_call function_is;
         shows = refl;
         entered = λ k. refl;
         more = g.more;
         more_some = g.some;
+        one_more = g.one_more;
         calmly = g.calmly;
-        spent = 18;
-        few = own_spends run_code st (linear (free 0)) 18 (ap is_own function_is) (ap (λ f. fetch run_code f st.top.place) function_is ∙ ap (stub_op end_catch) out.0.place) (omega arith);
+        spent = last_turns end_catch + 6 + entry_turns freed_plan m;
+        few = (let entry = few_to_enter freed_plan m in omega (arith, entry));
         paid = g.paid;
       } in
-      let known = known_by x q freed_plan before (st.top.place + 1) middle.world (Free (held_back st) ∷ []) t.0 m st w at there in
       own_either x q freed_plan before (st.top.place + 1) middle.world (Free (held_back st) ∷ []) t.0 m st w at there 20 (omega arith) (fits_by end_catch g e ends some behind.stand)
-      (λ lacks. over_by end_catch g e ends some (at.stands.hides t.2) (record { known = subst (λ u. m < length u.functions) (sym at.stands.unit) known; lacks = lacks })) holds
+      (λ lacks. over_by end_catch g e ends some (at.stands.hides t.2) lacks) holds
 
 pub own_barred_follow : OwnUnwindsEnd → CatchFreesOnTheWay → StacksHoldCalls → OwnBarredFollow
 own_barred_follow law run holds x q before (compiled n) m z st next w at out e ends some = absurd out

@@ -1,8 +1,6 @@
 -- What must be shown of one of the runtime's own functions from which a forced unwind goes on to a call out of which nothing may come: the terminate handler
 -- in effect begins below the frames that were left, or the run is over for want of stack, with 4,096 calls open.
-use Rattle.std.proofs.Common.{◌≡◌, ◌≢◌, ◌⊎◌, ◌∙◌, refl, sym, ap, subst, arith, ℕ, ◌+◌, ◌*◌, ◌≤◌, ◌<◌, inl, inr, Bool, true, false, List, [], ◌∷◌, ◌++◌, length, append-nil, leb, Some, if◌then◌else◌}
-use Rattle.std.proofs.lemmas.Bool.Decides.{leb_tells}
-use Rattle.std.proofs.lemmas.List.{length-map}
+use Rattle.std.proofs.Common.{◌≡◌, ◌≢◌, ◌⊎◌, ◌∙◌, refl, sym, ap, subst, arith, ℕ, ◌+◌, ◌*◌, ◌≤◌, ◌<◌, inl, inr, Bool, true, false, List, [], ◌∷◌, ◌++◌, length, append-nil, Some, if◌then◌else◌, suc}
 use Rattle.run_items.specs.declared.item.Item.{Item}
 use Rattle.meaning_forms.specs.Outcome.{aborted}
 use Rattle.cxa_runtime.specs.declared.effect.End.TheVariants.{Stack}
@@ -10,13 +8,13 @@ use Rattle.cxa_runtime.specs.Raising.{Image}
 use Rattle.cxa_runtime.specs.World as abi
 use Rattle.eh_run.specs.Program.{program_of}
 use Rattle.region_forms.specs.World.{World}
+use Rattle.region_forms.specs.Effect.{new_world}
 use Rattle.linear_forms.specs.Linear.{UnitCode}
 use Rattle.linear_forms.specs.Activation.{Activation, State, Code, goes_to, finishes, by_program, depth_of, terminated}
 use Rattle.linear_forms.specs.Machine.{step}
 use Rattle.linear_forms.specs.Pace.{pays_at, paying, Leads}
-use Rattle.linear_forms.specs.Unit.{function_code}
 use Rattle.linear_forms.specs.UnitRun.{code_at, code_of}
-use Rattle.flight_homes.specs.Lives.{HandlerKnown, known_in}
+use Rattle.flight_homes.specs.Lives.{known_in}
 use Rattle.flight_homes.specs.Nest.{CallsNest, waits_terminate}
 use Rattle.linear_invariant.specs.Calls.{unmarked}
 use Rattle.linear_invariant.specs.Handled.{open_handlers}
@@ -24,13 +22,14 @@ use Rattle.linear_invariant.specs.Stands.{StandsIn}
 use Rattle.source_bounds.specs.Compiled.{unit_for}
 use Rattle.machine_pieces.specs.Turning.{Turns}
 use Rattle.machine_simulation.specs.Calls.{frame_of, open_bytes}
-use Rattle.machine_simulation.specs.Entering.{frame_for}
+use Rattle.machine_simulation.specs.Entering.{frame_for, begin_room}
 use Rattle.machine_simulation.specs.Matches.{FrameIs, Matches}
-use Rattle.machine_simulation.specs.Plan.{Plan, function, shape}
+use Rattle.machine_simulation.specs.Plan.{Plan, function, shape, slot_kinds}
 use Rattle.machine_exceptions.specs.Terminates.{waiting_terminate, ending_world, in_handler}
 use Rattle.raise_ends.specs.Barriers.{barred_state}
-use Rattle.raise_ends.specs.Ends.{RunEnds, HandlerBegins, hiding, plan_in_handler}
+use Rattle.raise_ends.specs.Ends.{RunEnds, HandlerBegins, hiding, plan_in_handler, HandlerFits}
 use Rattle.own_ends.specs.Unwinds.{OwnLeft, OwnBarred, OwnOverflows}
+use Rattle.own_ends.specs.Overflow.{LacksRoom}
 use Rattle.stack_bounds.specs.Taken.{is_terminate_call, terminate_calls, StacksHoldCalls}
 use Rattle.address_bounds.specs.Reaches.{Needs}
 use Rattle.address_invariant.specs.Extents.{Extents, extents_of}
@@ -42,6 +41,7 @@ use Rattle.whole_runs.proofs.Counts.{quiet_once}
 use Rattle.whole_runs.proofs.Rounds.{some_ending}
 use Rattle.whole_runs.proofs.Single.{made_by_turns}
 use Rattle.whole_runs.proofs.Staying.{once_stays, deepest_grows}
+use Rattle.whole_runs.proofs.Spending.{call_turns, last_turn_spends}
 use Rattle.cost_words.specs.Spends.{spends}
 use Rattle.step_law.specs.Facts.{regions_for, needs_for, code_for}
 use Rattle.step_law.specs.Own.{StandsAt}
@@ -55,6 +55,7 @@ use Rattle.step_law.proofs.Calm.{CalmSteps, calm_leads, calm_before, rest_of}
 use Rattle.step_law.proofs.Facing.{newest_made}
 use Rattle.step_law.proofs.HandlerBegins.{none_terminate}
 use Rattle.step_law.proofs.Keeping.{NotEntered, CalmAt, calm_marked, way_kept, kept_by_turns}
+use Rattle.step_law.proofs.Rooms.{takes_nothing, handler_there, room_or_none}
 
 -- where the outermost call is of a compiled function, calls were made
 calls_made : (y : Extents) (u : UnitCode) (needs : Needs) (v : World) (a : Activation) (fs : List Activation) → IsFounded a.function fs → CallsReach y u needs v (a ∷ fs) → 0 < v.calls
@@ -79,14 +80,16 @@ pub record LastThere (x : Run) (q lq : Plan) (p : ℕ) (v : World) (items : List
   pub some : v.installed.terminate_handler ≡ Some m
   pub off : w.terminating ≡ st.world.ending
   pub size : frame_of lq.unit lq.hidden st.top.function ≤ 80
+  pub page : open_bytes lq (st.top ∷ st.frames) + 0xD00 ≤ 0x100_0000
   pub own : is_terminate_call st.top.function ≡ 0
   pub shows : v.items ≡ st.world.items ++ items
   pub entered : (e : ℕ) → NotEntered items e
   pub more : ℕ → ℕ
   pub more_some : (n : ℕ) → 0 < n → 0 < more n
+  pub one_more : (n : ℕ) → more (suc n) ≡ more n + 1
   pub calmly : (n : ℕ) (next : State) → CalmSteps (code_for x.program) n (record { top = record { function = st.top.function; place = p; frame = st.top.frame }; frames = st.frames; world = v }) next → CalmSteps (code_for x.program) (more n) st next
   pub spent : ℕ
-  pub few : spent ≤ spends (code_for x.program) 1 st
+  pub few : spent ≤ spends (code_for x.program) 1 st + 64
   pub paid : (n : ℕ) → paying (code_for x.program) (more n) st ≡ paying (code_for x.program) n (record { top = record { function = st.top.function; place = p; frame = st.top.frame }; frames = st.frames; world = v })
 
 module _ (x : Run) (q lq : Plan) (before p : ℕ) (v : World) (items : List Item) (gs : List Activation) (m : ℕ) (st : State) (w : abi.World) (at : StandsAt x q before st w) (l : LastThere x q lq p v items gs m st w) where
@@ -115,11 +118,9 @@ module _ (x : Run) (q lq : Plan) (before p : ℕ) (v : World) (items : List Item
   lq_unit : lq.unit ≡ unit_for x.program
   lq_unit = l.unit ∙ at.stands.unit
 
-  pub known_by : m < length (unit_for x.program).functions
+  known_by : m < length (unit_for x.program).functions
   known_by =
-      let count : length (unit_for x.program).functions ≡ length (regions_for x.program).functions = length-map (regions_for x.program).functions function_code in
-      let less : m < length (regions_for x.program).functions = subst (HandlerKnown (known_in (regions_for x.program))) l.some l.inv.lives.handlers.terminate in
-      omega (arith, count, less)
+      subst (λ u. m < length u.functions) lq_unit (handler_there x.program lq v.installed.terminate_handler m lq_unit l.inv.lives.handlers.terminate l.some)
 
   frame_is : FrameIs (function lq m)
   frame_is = subst (λ u. FrameIs (code_at u m)) (sym lq_unit) (at.facts.known.frames m (code_at (unit_for x.program) m) (there_is (unit_for x.program).functions m known_by))
@@ -170,6 +171,24 @@ module _ (x : Run) (q lq : Plan) (before p : ℕ) (v : World) (items : List Item
 
     leads : Leads code (l.more 2) st (goes_to go)
     leads = calm_leads code (l.more 2) st go all_calm
+
+    -- it is called where terminate waits
+    abbrev called_there : State
+    called_there = record { top = go.top; frames = middle.top ∷ middle.frames; world = new_world (slot_kinds lq m) [] (depth_of (middle.top ∷ middle.frames) + 1) middle.world }
+
+    called_from : go.frames ≡ middle.top ∷ middle.frames
+    called_from =
+        let there : step (code_of lq.unit) middle ≡ goes_to called_there = refl in
+        let both : goes_to go ≡ goes_to called_there = sym (ap (λ c. step c middle) same_own ∙ two) ∙ there in
+        let same : go ≡ called_there = cc both in
+        ap (λ (s : State). s.frames) same
+
+    -- the last step, in which terminate calls the handler, pays for its beginning
+    last_paid : spends code 1 st + 64 ≤ spends code (l.more 2) st
+    last_paid =
+        let up_to : CalmSteps code (l.more 1) st middle = l.calmly 1 middle (l.calm, middle, one, refl) in
+        let paid = last_turn_spends code (l.more 1) st middle go (l.more_some 1 (omega arith)) (calm_leads code (l.more 1) st middle up_to) two (call_turns code middle go m refl called_from) in
+        subst (λ n. spends code 1 st + 64 ≤ spends code n st) (sym (l.one_more 1)) paid
 
     abbrev kept_calls : List Activation
     kept_calls = last.top ∷ left.calls
@@ -234,7 +253,8 @@ module _ (x : Run) (q lq : Plan) (before p : ℕ) (v : World) (items : List Item
           shows = shows_all;
           turns = turns;
           paid = let few = once in omega (arith, few, many);
-          few = omega (arith, least, l.few);
+          few = (let all = last_paid in let first = l.few in omega (arith, least, first, all));
+          soon = omega (arith, least, l.few);
           after = u;
           made = made;
           stands = (r, barred_stands x q r before turns m (l.more 2) (st.top ∷ left.calls) left.barring left.outer v st w u items at.facts at.stands barred);
@@ -260,11 +280,18 @@ module _ (x : Run) (q lq : Plan) (before p : ℕ) (v : World) (items : List Item
           few = omega (arith, least);
         })))
 
-  pub own_either : (most : ℕ) → most ≤ 64 → (open_bytes lq (waiting_terminate m ∷ last.top ∷ st.frames) + (shape lq m).size + 0x1000 ≤ 0x100_0000 → OwnBarred lq x.image m last w l.spent items) →
-      (0x100_0000 < open_bytes lq (waiting_terminate m ∷ last.top ∷ st.frames) + (shape lq m).size + 0x1000 → (j : ℕ) → most ≤ j → OwnOverflows lq x.image x.pick j m last w items) → StacksHoldCalls → FollowsIn x before st w
-  own_either most least fits over holds = by (leb_tells (open_bytes lq (waiting_terminate m ∷ last.top ∷ st.frames) + (shape lq m).size + 0x1000) 0x100_0000)
+  takes : 0 ≡ (function lq m).parameters
+  takes = takes_nothing x.program lq v.installed.terminate_handler m lq_unit l.inv.lives.handlers.terminate l.some
+
+  pub own_either : (most : ℕ) → most ≤ 64 → (HandlerFits lq m last → OwnBarred lq x.image m last w l.spent items) →
+      (LacksRoom lq m (waiting_terminate m ∷ last.top ∷ st.frames) → (j : ℕ) → most ≤ j → OwnOverflows lq x.image x.pick j m last w items) → StacksHoldCalls → FollowsIn x before st w
+  own_either most least fits over holds =
+      by (room_or_none (shape lq m).leaf (open_bytes lq (waiting_terminate m ∷ last.top ∷ st.frames)) (shape lq m).size (let page = l.page in let none = l.hidden ∙ at.stands.hides (sym l.ending ∙ l.quiet) in omega (arith, page, none)))
     where
-      by : ((leb (open_bytes lq (waiting_terminate m ∷ last.top ∷ st.frames) + (shape lq m).size + 0x1000) 0x100_0000 ≡ true) × (open_bytes lq (waiting_terminate m ∷ last.top ∷ st.frames) + (shape lq m).size + 0x1000 ≤ 0x100_0000))
-          ⊎ ((leb (open_bytes lq (waiting_terminate m ∷ last.top ∷ st.frames) + (shape lq m).size + 0x1000) 0x100_0000 ≡ false) × (0x100_0000 < open_bytes lq (waiting_terminate m ∷ last.top ∷ st.frames) + (shape lq m).size + 0x1000)) → FollowsIn x before st w
-      by (inl room) = let b = fits room.1 in goes_on b.left b.begins b.ran.turns b.ran.few b.ran.after b.ran.runs b.ran.holds
-      by (inr lacks) = let first = over lacks.1 most (omega arith) in runs_over first.left first.begins holds most least lacks.1 (λ j many. (over lacks.1 j many).ran)
+      by : (open_bytes lq (waiting_terminate m ∷ last.top ∷ st.frames) + begin_room (shape lq m).leaf (shape lq m).size ≤ 0x100_0000)
+          ⊎ (((shape lq m).leaf ≡ false) × (0x100_0000 < open_bytes lq (waiting_terminate m ∷ last.top ∷ st.frames) + (shape lq m).size + 0x1000)) → FollowsIn x before st w
+      by (inl room) = let b = fits (record { taken = takes; room = room }) in goes_on b.left b.begins b.ran.turns b.ran.few b.ran.after b.ran.runs b.ran.holds
+      by (inr none) =
+          let lacks : LacksRoom lq m (waiting_terminate m ∷ last.top ∷ st.frames) = record { known = subst (λ u. m < length u.functions) (sym lq_unit) known_by; looks = none.0; lacks = none.1 } in
+          let first = over lacks most (omega arith) in
+          runs_over first.left first.begins holds most least none.1 (λ j many. (over lacks j many).ran)

@@ -1,7 +1,6 @@
 -- call_unexpected leaves the last handler of an exception with a destructor, in a whole run: the destructor begins, or the run is over for want of stack,
 -- with 4,096 calls open.
-use Rattle.std.proofs.Common.{◌≡◌, ◌≢◌, ◌∙◌, refl, sym, ap, subst, arith, ℕ, ◌+◌, ◌-◌, ◌≤◌, ◌<◌, ◌⊎◌, inl, inr, Bool, true, false, List, [], ◌∷◌, length, leb, Some, None, if◌then◌else◌}
-use Rattle.std.proofs.lemmas.Bool.Decides.{leb_tells}
+use Rattle.std.proofs.Common.{◌≡◌, ◌≢◌, ◌∙◌, refl, sym, ap, subst, arith, ℕ, ◌+◌, ◌-◌, ◌≤◌, ◌<◌, ◌⊎◌, inl, inr, Bool, true, false, List, [], ◌∷◌, length, Some, None, if◌then◌else◌}
 use Rattle.meaning_forms.specs.World.{Installed}
 use Rattle.run_items.specs.declared.item.Item.{Item}
 use Rattle.run_items.specs.declared.item.Item.TheVariants.{Leave, Destroy}
@@ -14,7 +13,7 @@ use Rattle.eh_run.specs.Program.{program_of}
 use Rattle.region_forms.specs.Caught.{Entry, is_last}
 use Rattle.region_forms.specs.Effect.{newest_of, world_passed}
 use Rattle.region_forms.specs.World.{Exception, building, native, foreign, object_address, World, exception_at}
-use Rattle.linear_forms.specs.Stub.{end_catch}
+use Rattle.linear_forms.specs.Stub.{end_catch, call_unexpected}
 use Rattle.linear_forms.specs.Activation.{Activation, State, Code, goes_to}
 use Rattle.linear_forms.specs.Machine.{step}
 use Rattle.linear_forms.specs.Pace.{paying}
@@ -28,8 +27,8 @@ use Rattle.linear_invariant.proofs.Steps.{leads_stand}
 use Rattle.source_bounds.specs.Compiled.{unit_for}
 use Rattle.machine_pieces.specs.Turning.{Turns}
 use Rattle.machine_pieces.proofs.Turning.{turns_then}
-use Rattle.machine_simulation.specs.Calls.{open_bytes}
-use Rattle.machine_simulation.specs.Entering.{opened, frame_for}
+use Rattle.machine_simulation.specs.Calls.{open_bytes, frame_of}
+use Rattle.machine_simulation.specs.Entering.{opened, frame_for, begin_room}
 use Rattle.machine_simulation.specs.Exceptions.{LinearExceptions, live_in}
 use Rattle.machine_simulation.specs.Matches.{FrameIs, Matches}
 use Rattle.machine_simulation.specs.Plan.{Plan, function, shape, slot_kinds}
@@ -41,7 +40,8 @@ use Rattle.raise_ends.specs.Ends.{RunEnds}
 use Rattle.stack_bounds.specs.Taken.{StacksHoldCalls}
 use Rattle.own_ends.specs.Canceled.{CanceledLeaves}
 use Rattle.own_ends.specs.Destroying.{OwnDestructorsBegin}
-use Rattle.own_ends.specs.Overflow.{DestructorsOverflow, Overflows as RunsOver}
+use Rattle.own_ends.specs.Overflow.{DestructorsOverflow, Overflows as RunsOver, LacksRoom}
+use Rattle.own_ends.specs.Leaving.{Leaving}
 use Rattle.address_invariant.specs.Extents.{extents_of}
 use Rattle.address_invariant.specs.Laws.{GoesOn}
 use Rattle.address_invariant.specs.Reaching.{IsBegunCall, CallsReach, ObjectsReach, Reaches}
@@ -52,6 +52,11 @@ use Rattle.whole_runs.proofs.Counts.{leaves_once}
 use Rattle.whole_runs.proofs.Rounds.{some_shown}
 use Rattle.whole_runs.proofs.Single.{made_by_turns}
 use Rattle.whole_runs.proofs.Staying.{once_stays, deepest_grows}
+use Rattle.whole_runs.proofs.Spending.{call_turns, last_turn_spends}
+use Rattle.rv64_isa.specs.Step.{x as hart_at}
+use Rattle.machine_forms.specs.Registers.{sp}
+use Rattle.cost_words.specs.Spends.{spends}
+use Rattle.machine_stubs.specs.Stretches.{frame_size}
 use Rattle.step_law.specs.Facts.{regions_for, needs_for, code_for}
 use Rattle.step_law.specs.Leaves.{destructor_of, destructor_due}
 use Rattle.step_law.specs.Own.{StandsAt}
@@ -59,13 +64,14 @@ use Rattle.step_law.specs.OwnLeaves.{OwnDestructorsBeginFollow}
 use Rattle.step_law.specs.Rows.{Run, FollowsIn}
 use Rattle.step_law.proofs.Aligned.{SameFrames, CallsAlign, align_push_two}
 use Rattle.step_law.proofs.At.{there_is}
-use Rattle.step_law.proofs.Calm.{CalmSteps, calm_leads, catch_calm, calm_newest, steps_follow}
-use Rattle.step_law.proofs.Destructors.{destructor_there, object_fits}
+use Rattle.step_law.proofs.Calm.{CalmSteps, calm_leads, catch_calm, calm_newest, steps_follow_soon}
+use Rattle.step_law.proofs.Destructors.{destructor_there, object_fits, destructor_alone}
 use Rattle.step_law.proofs.Facing.{newest_made}
 use Rattle.step_law.proofs.Keeping.{NotEntered, ShownBehind}
 use Rattle.step_law.proofs.Leaving.{left_fewer}
 use Rattle.step_law.proofs.OwnLeaving.{at_place, Comes, own_step, own_stands, comes, own_begins, own_quiet, own_calm, own_called}
 use Rattle.step_law.proofs.OwnLeft.{own_asked, own_live, own_at_leave}
+use Rattle.step_law.proofs.Rooms.{room_or_none, own_page, few_to_enter}
 
 -- a run that ends behind turns ends
 ends_behind : (image : Image) (pick : ℕ → ℕ) (t most : ℕ) (w v : abi.World) (items : List Item) (end : End) → Turns image t w v [] → ((j : ℕ) → most ≤ j → RunEnds image pick j v items end) → (j : ℕ) → t + most ≤ j → RunEnds image pick j w items end
@@ -126,11 +132,32 @@ module _ (x : Run) (q : Plan) (before d : ℕ) (st : State) (w : abi.World) (at 
   there : live_in st.world.live e ≡ Some (native t (Some d) kept)
   there = own_live x q before st w at c y ys caught ∙ ap (λ z. Some z) is
 
-  -- the destructor is a function that takes an object
+  -- the destructor is a function that takes an object alone
   static : ObjectStatic q.unit d
   static =
       let known : ExceptionKnown (known_in (regions_for x.program)) (native t (Some d) kept) = subst (λ z. ExceptionKnown (known_in (regions_for x.program)) z) is (own_asked x q before st w at c y ys caught).exception in
       subst (λ u. ObjectStatic u d) (sym at.stands.unit) (destructor_there (regions_for x.program) d known.1)
+
+  takes : 1 ≡ (function q d).parameters
+  takes =
+      let known : ExceptionKnown (known_in (regions_for x.program)) (native t (Some d) kept) = subst (λ z. ExceptionKnown (known_in (regions_for x.program)) z) is (own_asked x q before st w at c y ys caught).exception in
+      subst (λ u. 1 ≡ (code_at u d).parameters) (sym at.stands.unit) (destructor_alone (regions_for x.program) d known.1)
+
+  -- the step that calls it pays for its beginning
+  last_paid : spends code 1 st + 64 ≤ spends code (c.more 3) st
+  last_paid =
+      let up_to : CalmSteps code (c.more 2) st second = c.calmly 2 second (own_calm x q before st w at c, first, one, (catch_calm code first refl, second, two, refl)) in
+      let paid = last_turn_spends code (c.more 2) st second next (c.some 2 (omega arith)) (calm_leads code (c.more 2) st second up_to) three (call_turns code second next d refl refl) in
+      subst (λ n. spends code 1 st + 64 ≤ spends code n st) (sym (c.one_more 2)) paid
+
+  -- call_unexpected leaves so much of the stack
+  page : open_bytes q (here.top ∷ st.frames) + 0xD00 ≤ 0x100_0000
+  page = let free = by c.leaving in let top : frame_of q.unit q.hidden st.top.function ≡ frame_size call_unexpected = ap (frame_of q.unit q.hidden) c.runs in omega (arith, free, top)
+    where
+      by : Leaving q c.place c.word here c.there → frame_size call_unexpected + open_bytes q st.frames + 0xD00 ≤ 0x100_0000
+      by (inl h) = own_page q call_unexpected st.frames st.world c.there.hart.memory (hart_at c.there.hart sp) h.0.rests.back h.0.rests.memory
+      by (inr (inl h)) = own_page q call_unexpected st.frames st.world c.there.hart.memory (hart_at c.there.hart sp) h.0.rests.back h.0.rests.memory
+      by (inr (inr h)) = own_page q call_unexpected st.frames st.world c.there.hart.memory (hart_at c.there.hart sp) h.back h.memory
 
   frame_is : FrameIs (function q d)
   frame_is =
@@ -199,28 +226,31 @@ module _ (x : Run) (q : Plan) (before d : ℕ) (st : State) (w : abi.World) (at 
     }
 
   -- the stack has room for it
-  begins_there : OwnDestructorsBegin → open_bytes q active + (shape q d).size + 0x1000 ≤ 0x100_0000 → FollowsIn x before st w
+  begins_there : OwnDestructorsBegin → open_bytes q active + begin_room (shape q d).leaf (shape q d).size ≤ 0x100_0000 → FollowsIn x before st w
   begins_there law room =
       let some = static.some in
-      let may : MayDestroy q d e active = record { known = static.known; passed = omega (arith, some); words = (object_fits (slot_kinds q d 0) (object_address e) static.held, tt); room = room } in
+      let may : MayDestroy q d e active = record { known = static.known; passed = omega (arith, some); taken = takes; words = (object_fits (slot_kinds q d 0) (object_address e) static.held, tt); room = room } in
       let ran = law image q c.place c.word here y ys t d kept c.there (own_at_leave x q before st w at c y ys caught) last there may in
       let items : List Item = Leave e ∷ Destroy e ∷ [] in
       let stack : ℕ = frame_for q d active in
       let all : Turns image (c.turns + ran.2.turns) w ran.2.after items = turns_then image c.turns ran.2.turns w c.there ran.2.after [] items c.turned ran.2.runs in
       let many = some_shown image x.pick (c.turns + ran.2.turns) w ran.2.after (Leave e) (Destroy e ∷ []) (made_by_turns image x.pick (c.turns + ran.2.turns) w ran.2.after items all) in
-      steps_follow x q (r stack) before (c.more 3) (c.turns + ran.2.turns) st next w ran.2.after items at.facts at.stands (c.some 3 (omega arith)) calm_all once (omega (arith, many)) (omega (arith, ran.2.few, c.few)) ran.1 all
+      let entry = few_to_enter q d in
+      let first_pays = c.few in
+      steps_follow_soon x q (r stack) before (c.more 3) (c.turns + ran.2.turns) st next w ran.2.after items at.facts at.stands (c.some 3 (omega arith)) calm_all once (omega (arith, many)) (omega (arith, ran.2.few, entry, first_pays, last_paid))
+      (omega (arith, ran.2.few, entry, first_pays)) ran.1 all
       (shown stack (c.turns + ran.2.turns) ran.2.after all ran.2.holds)
 
   -- it has none
-  over_by : DestructorsOverflow → 0x100_0000 < open_bytes q active + (shape q d).size + 0x1000 → (j : ℕ) → 22 ≤ j → RunsOver image x.pick j q d e here c.there
+  over_by : DestructorsOverflow → LacksRoom q d active → (j : ℕ) → 22 ≤ j → RunsOver image x.pick j q d e here c.there
   over_by over lacks j many =
-      over.own image x.pick j q c.place c.word here y ys t d kept c.there (own_at_leave x q before st w at c y ys caught) last there (record { known = static.known; lacks = lacks }) many
+      over.own image x.pick j q c.place c.word here y ys t d kept c.there (own_at_leave x q before st w at c y ys caught) last there lacks many
 
-  runs_over : DestructorsOverflow → StacksHoldCalls → 0x100_0000 < open_bytes q active + (shape q d).size + 0x1000 → FollowsIn x before st w
+  runs_over : DestructorsOverflow → StacksHoldCalls → LacksRoom q d active → FollowsIn x before st w
   runs_over over holds lacks =
       let few = at.stands.once in
       let depth = at.stands.stands.stand.deep in
-      let deep = holds q active d st.world.deepest (at.facts.frames q at.stands.unit) (subst (λ f. is_called_by end_catch f ≡ true) (sym c.runs) refl, at.stands.stands.stand.nest) (omega (arith, few)) at.stands.hidden (omega (arith, depth)) lacks in
+      let deep = holds q active d st.world.deepest (at.facts.frames q at.stands.unit) (subst (λ f. is_called_by end_catch f ≡ true) (sym c.runs) refl, at.stands.stands.stand.nest) (omega (arith, few)) at.stands.hidden (omega (arith, depth)) lacks.lacks in
       let leads = calm_leads code (c.more 3) st next calm_all in
       let more = deepest_grows code (c.more 3) st next leads in
       let ran = over_by over lacks 22 (omega arith) in
@@ -238,12 +268,11 @@ module _ (x : Run) (q : Plan) (before d : ℕ) (st : State) (w : abi.World) (at 
       })))
 
   either : OwnDestructorsBegin → DestructorsOverflow → StacksHoldCalls → FollowsIn x before st w
-  either law over holds = by (leb_tells (open_bytes q active + (shape q d).size + 0x1000) 0x100_0000)
+  either law over holds = by (room_or_none (shape q d).leaf (open_bytes q active) (shape q d).size (let free = page in omega (arith, free)))
     where
-      by : ((leb (open_bytes q active + (shape q d).size + 0x1000) 0x100_0000 ≡ true) × (open_bytes q active + (shape q d).size + 0x1000 ≤ 0x100_0000))
-          ⊎ ((leb (open_bytes q active + (shape q d).size + 0x1000) 0x100_0000 ≡ false) × (0x100_0000 < open_bytes q active + (shape q d).size + 0x1000)) → FollowsIn x before st w
-      by (inl room) = begins_there law room.1
-      by (inr lacks) = runs_over over holds lacks.1
+      by : (open_bytes q active + begin_room (shape q d).leaf (shape q d).size ≤ 0x100_0000) ⊎ (((shape q d).leaf ≡ false) × (0x100_0000 < open_bytes q active + (shape q d).size + 0x1000)) → FollowsIn x before st w
+      by (inl room) = begins_there law room
+      by (inr lacks) = runs_over over holds (record { known = static.known; looks = lacks.0; lacks = lacks.1 })
 
 pub own_destructors_begin_follow : OwnDestructorsBegin → DestructorsOverflow → StacksHoldCalls → CanceledLeaves → OwnDestructorsBeginFollow
 own_destructors_begin_follow law over holds cancels x q before d st w at leaving due = by st.world.caught refl due

@@ -52,6 +52,7 @@ pub record Comes (x : Run) (q : Plan) (st : State) (w : abi.World) : Type 0 wher
   pub runs : st.top.function ≡ call_unexpected
   pub more : ℕ → ℕ
   pub some : (n : ℕ) → 0 < n → 0 < more n
+  pub one_more : (n : ℕ) → more (suc n) ≡ more n + 1
   pub calmly : (n : ℕ) (next : State) → CalmSteps (code_for x.program) n (at_place place st) next → CalmSteps (code_for x.program) (more n) st next
   pub paid : (n : ℕ) → paying (code_for x.program) (more n) st ≡ paying (code_for x.program) n (at_place place st)
   pub runs_on : (n : ℕ) → exec (code_for x.program) (more n) st ≡ exec (code_for x.program) n (at_place place st)
@@ -95,6 +96,7 @@ module _ (x : Run) (q : Plan) (before : ℕ) (st : State) (w : abi.World) (at : 
     runs = runs;
     more = λ n. n;
     some = λ n h. h;
+    one_more = λ n. omega arith;
     calmly = λ n next h. subst (λ p. CalmSteps code n (at_place p st) next) (sym is) h;
     paid = λ n. ap (λ p. paying code n (at_place p st)) is;
     runs_on = λ n. ap (λ p. exec code n (at_place p st)) is;
@@ -116,6 +118,7 @@ module _ (x : Run) (q : Plan) (before : ℕ) (st : State) (w : abi.World) (at : 
         runs = h.rests.runs;
         more = λ n. suc n;
         some = λ n some. omega arith;
+        one_more = λ n. omega arith;
         calmly = λ n next rest. (calm op, at_place 16 st, one, rest);
         paid = λ n. quiet_then code n st (at_place 16 st) (ap pays op) one;
         runs_on = λ n. ap (go_on (exec code n)) one;

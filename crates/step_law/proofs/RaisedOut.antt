@@ -51,6 +51,7 @@ use Rattle.whole_runs.specs.Turns.{Made}
 use Rattle.whole_runs.specs.Steps.{StaysBehind}
 use Rattle.whole_runs.proofs.Staying.{deepest_grows}
 use Rattle.whole_runs.proofs.Counts.{at_most}
+use Rattle.whole_runs.proofs.Spending.{first_among}
 use Rattle.cost_words.specs.Spends.{spends}
 use Rattle.step_law.specs.Facts.{regions_for, needs_for, code_for, Facts}
 use Rattle.step_law.specs.Standing.{HeaderAims, IsAimed, aims, StandsBy}
@@ -294,7 +295,8 @@ module _ (x : Run) (q : Plan) (before : ℕ) (st : State) (w : abi.World) (facts
           shows = shows;
           turns = turns;
           paid = paid;
-          few = least;
+          few = (let all = first_among code (n + 1) st (omega arith) in omega (arith, least, all));
+          soon = omega (arith, least);
           after = u;
           made = made;
           stands = (r, pad_stands enough);

@@ -8,11 +8,13 @@ use Rattle.linear_forms.specs.Activation.{State}
 use Rattle.machine_forms.specs.Registers.{sp}
 use Rattle.machine_forms.specs.Shape.{return_offset}
 use Rattle.machine_pieces.specs.Memory.{Apart}
+use Rattle.machine_pieces.specs.Saving.{AreApartFrom}
 use Rattle.machine_simulation.specs.Plan.{Plan, shape}
 use Rattle.machine_simulation.specs.Calls.{CallStands, CallsWait}
 use Rattle.machine_simulation.specs.Exceptions.{PlanHas}
 use Rattle.machine_simulation.specs.Extents.{StandApart}
 use Rattle.machine_simulation.specs.Matches.{IsAway, ObjectsStand, Matches}
+use Rattle.machine_simulation.specs.KeptCalls.{kept_of, KeptCalls}
 
 abbrev pub resized : Plan → (Base → ℕ) → Plan
 resized p size = record p { size = size }
@@ -87,6 +89,17 @@ module _ (p : Plan) (size : Base → ℕ) (same : (b : Base) → p.live b ≡ tr
         stubs = m.memory.unit.stubs;
         functions = m.memory.unit.functions;
       };
+    };
+    kept = record {
+      small = m.kept.small;
+      before = m.kept.before;
+      top = record {
+        keeps = m.kept.top.keeps;
+        saves = m.kept.top.saves;
+        dead = m.kept.top.dead;
+        alone = λ b live. subst (λ k. AreApartFrom (shape p m.number) (x w.hart sp) (p.at b) k (kept_of p m.number)) (sym (same b live)) (m.kept.top.alone b live);
+      };
+      waiting = subst (λ fs. KeptCalls r fs st.world w.hart.memory (x w.hart sp + (shape p m.number).size) m.kept.before) (sym alone) tt;
     };
     runtime = record {
       input = m.runtime.input;

@@ -1,6 +1,5 @@
 -- The newest exception that is handled is thrown again, and nothing stops it, in a whole run.
 use Rattle.std.proofs.Common.{◌≡◌, ◌∙◌, refl, sym, ap, subst, arith, ℕ, ◌+◌, ◌≤◌, ◌<◌, ◌⊎◌, true, false, List, [], ◌∷◌, length, Option, Some, None, if◌then◌else◌}
-use Rattle.std.proofs.lemmas.List.{length-map}
 use Rattle.meaning_forms.specs.Outcome.{aborted}
 use Rattle.run_items.specs.declared.item.Item.{Item}
 use Rattle.cxa_runtime.specs.World as abi
@@ -17,9 +16,8 @@ use Rattle.linear_forms.specs.Stub.{terminating, linear}
 use Rattle.linear_forms.specs.Activation.{Activation, State, Code, finishes, by_program, kinds, look, terminated}
 use Rattle.linear_forms.specs.Machine.{step}
 use Rattle.linear_forms.specs.Operation.{performed}
-use Rattle.linear_forms.specs.Unit.{function_code}
 use Rattle.linear_forms.specs.Unwinding.{raised_to, unwind, doomed_by}
-use Rattle.flight_homes.specs.Lives.{HandlerKnown, ExceptionKnown, known_in}
+use Rattle.flight_homes.specs.Lives.{ExceptionKnown, known_in}
 use Rattle.linear_invariant.specs.Asked.{NewestAsked}
 use Rattle.linear_invariant.specs.Handled.{open_handlers}
 use Rattle.linear_invariant.specs.Stands.{NewMarked}
@@ -29,7 +27,8 @@ use Rattle.linear_invariant.proofs.Worlds.{But}
 use Rattle.machine_forms.specs.LinearCode.{linear_code}
 use Rattle.machine_stubs.specs.Stretches.{stub_word}
 use Rattle.machine_pieces.specs.Turning.{Turns}
-use Rattle.machine_simulation.specs.Plan.{Plan, shape}
+use Rattle.machine_simulation.specs.Plan.{Plan, shape, function}
+use Rattle.machine_simulation.specs.Entering.{entry_turns}
 use Rattle.machine_simulation.proofs.LiveThere.{built_there}
 use Rattle.raise_ends.specs.Ends.{unless_ending}
 use Rattle.raise_ends.specs.Rethrows.{handler_used, entered_where_native, entering, AtRethrow, RethrowsDoom}
@@ -46,6 +45,7 @@ use Rattle.step_law.proofs.HandlerBegins.{EndsIn}
 use Rattle.step_law.proofs.Keeping.{NotEntered, unmarked_stands}
 use Rattle.step_law.proofs.Lost.{IsLost, aborts_here, nothing_hidden, begins_here, overflows_here, either_here, whatever_here}
 use Rattle.step_law.proofs.Raises.{is_running, raises_are_asked}
+use Rattle.step_law.proofs.Rooms.{few_to_enter, takes_nothing, handler_there}
 use Rattle.step_law.proofs.Terminates.{known_handler}
 
 -- what terminate does of an exception that is lost
@@ -139,10 +139,13 @@ module _ (x : Run) (q : Plan) (before n : ℕ) (y : Entry) (ys : List Entry) (st
   known_kept : (i : Exception) → ExceptionKnown (known_in (regions_for x.program)) i → (m : ℕ) → handler_used i st.world ≡ Some m → m < length q.unit.functions
   known_kept building h m some = known_handler q st.world.installed.terminate_handler m w.terminate_handler some at_op.matches.runtime.exceptions.terminate_handler
   known_kept (foreign k token) h m some = known_handler q st.world.installed.terminate_handler m w.terminate_handler some at_op.matches.runtime.exceptions.terminate_handler
-  known_kept (native t d kept) h m some =
-      let there : m < length (regions_for x.program).functions = subst (HandlerKnown (known_in (regions_for x.program))) some h.2.terminate in
-      let count = length-map (regions_for x.program).functions function_code in
-      subst (λ u. m < length u.functions) (sym at_op.stands.unit) (omega (arith, there, count))
+  known_kept (native t d kept) h m some = handler_there x.program q kept.terminate_handler m at_op.stands.unit h.2.terminate some
+
+  -- and takes nothing
+  takes_kept : (i : Exception) → ExceptionKnown (known_in (regions_for x.program)) i → (m : ℕ) → handler_used i st.world ≡ Some m → 0 ≡ (function q m).parameters
+  takes_kept building h m some = takes_nothing x.program q st.world.installed.terminate_handler m at_op.stands.unit at_op.stands.stands.lives.handlers.terminate some
+  takes_kept (foreign k token) h m some = takes_nothing x.program q st.world.installed.terminate_handler m at_op.stands.unit at_op.stands.stands.lives.handlers.terminate some
+  takes_kept (native t d kept) h m some = takes_nothing x.program q kept.terminate_handler m at_op.stands.unit h.2.terminate some
 
   others : Spared x.carrying (But e) (Some terminating) here
   others = let all = others_spared x.carrying e None here (asked.unheld still) in (all.0, all.1, all.2)
@@ -162,6 +165,8 @@ module _ (x : Run) (q : Plan) (before n : ℕ) (y : Entry) (ys : List Entry) (st
     marked = marked;
     spared = spared_by z;
     known = λ m some. known_kept z asked.exception m some;
+    takes = λ m some. takes_kept z asked.exception m some;
+    leaves = refl;
     few = λ turns u turned. lost_few x z e st.world w turns u turned;
   }
 
@@ -188,7 +193,7 @@ module _ (x : Run) (q : Plan) (before n : ℕ) (y : Entry) (ys : List Entry) (st
       either_here x q before n o st w at_op v st.world items handler lost m quiet some
       (λ room.
       let ran = run.calls_the_handler x.image q n m y ys st w at_op.matches (is_running x q before n o st w at_op) rethrows_here quiet some hidden room in
-      begins_here x q before n o st w at_op v st.world items handler lost m quiet some (length (linear_code (shape q n) o) + 11) (omega arith) ran.0.0 ran.0.1 ran.1)
+      begins_here x q before n o st w at_op v st.world items handler lost m quiet some (length (linear_code (shape q n) o) + 7 + entry_turns q m) (let few = few_to_enter q m in omega (arith, few)) ran.0.0 ran.0.1 ran.1)
       (λ lacks.
       overflows_here x q before n o st w at_op v st.world items handler lost m quiet some lacks holds (length (linear_code (shape q n) o) + 13) (omega arith)
       (λ k many. over x.image x.pick k q n m y ys st w at_op.matches (is_running x q before n o st w at_op) rethrows_here quiet some hidden lacks many))

@@ -27,7 +27,7 @@ use Rattle.machine_pieces.specs.Frames.{SlotFits}
 use Rattle.machine_pieces.specs.Turning.{Turns}
 use Rattle.machine_simulation.specs.Plan.{Plan, function, shape, slot_kinds}
 use Rattle.machine_simulation.specs.Asked.{WantedAsked}
-use Rattle.machine_simulation.specs.Calls.{CallsWait, wanted, stored_behind, stored_in}
+use Rattle.machine_simulation.specs.Calls.{CallsWait, wanted, stored_behind, stored_in, given_in}
 use Rattle.machine_simulation.specs.Ending.{MainsEnd}
 use Rattle.machine_simulation.specs.Exits.{CallsExit, ExitsEnd}
 use Rattle.machine_simulation.specs.Matches.{Matches}
@@ -57,6 +57,7 @@ use Rattle.cost_words.proofs.Counts.{return_words}
 use Rattle.machine_forms.specs.PlaceCode.{root_stored}
 use Rattle.machine_forms.specs.Shape.{Shape}
 use Rattle.machine_forms.specs.Registers.{register}
+use Rattle.machine_forms.specs.KeptCode.{root_register}
 use Rattle.step_law.specs.Facts.{regions_for, needs_for, code_for}
 use Rattle.step_law.specs.Standing.{Standing}
 use Rattle.step_law.specs.Rows.{Run, IsAt, FollowsIn, ReturnsFollow, MainsFollow, ExitsFollow}
@@ -104,7 +105,11 @@ root_words f (in_global g) n = omega arith
 
 stored_words : (f : Shape) (q : Option Place) → length (stored_in f q) ≤ 2
 stored_words f None = omega arith
-stored_words f (Some p) = root_words f p.root p.offset
+stored_words f (Some p) = by (root_register f p.root)
+  where
+    by : (k : Option ℕ) → length (given_in f k p) ≤ 2
+    by (Some rd) = omega arith
+    by None = root_words f p.root p.offset
 
 module _ (x : Run) (q : Plan) (before n : ℕ) (o : LinearOp) (st : State) (w : abi.World) (at : IsAt x q before n o st w) where
   pub undefined_breaks : (f : Final) (v : World) → step (code_for x.program) st ≡ finishes f v → f ≡ not_defined → FollowsIn x before st w
@@ -116,7 +121,7 @@ module _ (x : Run) (q : Plan) (before n : ℕ) (o : LinearOp) (st : State) (w : 
     where
       by : (s : Option ℕ) → LinearStatic q.unit (function q n) (return s) → ResultStands q n st.top.frame s
       by None h = tt
-      by (Some s) h = let near = h.near in (h.inside, omega (arith, near), plain_fits (slot_kinds q n s))
+      by (Some s) h = let near = h.near in (h.inside, omega (arith, near), plain_fits (slot_kinds q n s), λ k e. refl)
         where
           plain_fits : (k : SlotKind) → SlotFits k 0
           plain_fits int_slot = tt
@@ -303,10 +308,10 @@ mains_follow over x q before n r st w at alone = by (result_in r st.top.frame st
         let own = ap (λ c. step c st) (same_code x q before n (return r) st w at) ∙ e in
         let result = result_stands x q before n (return r) st w at r refl in
         inr (inl (ends_one (program_of x.image).image x.pick (code_for x.program) st w (exit z) st.world [] e (sym (append-nil st.world.items)) (record {
-          turns = 6;
+          turns = length (linear_code (shape q n) (return r)) + 2;
           shows = λ k many. (over (program_of x.image).image x.pick k q n st w r z st.world at.matches at.runs at.there alone result own many).0;
           ends = λ k many. (over (program_of x.image).image x.pick k q n st w r z st.world at.matches at.runs at.there alone result own many).1;
-        }) (end_paid x q before n (return r) st w at 6 (omega arith))))
+        }) (end_paid x q before n (return r) st w at (length (linear_code (shape q n) (return r)) + 2) (omega arith))))
 
 -- ---- exit is called
 

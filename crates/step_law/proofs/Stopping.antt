@@ -1,6 +1,5 @@
 -- A specification stopped an exception with which no unexpected handler is kept, in a whole run.
 use Rattle.std.proofs.Common.{◌≡◌, ◌∙◌, refl, sym, ap, subst, arith, ℕ, zero, suc, ◌+◌, ◌<◌, ◌≤◌, ◌^◌, ◌&&◌, ◌⊎◌, true, false, List, [], ◌∷◌, length, Option, Some, None}
-use Rattle.std.proofs.lemmas.List.{length-map}
 use Rattle.std.specs.List.{AllByRecursion}
 use Rattle.meaning_forms.specs.World.{Installed}
 use Rattle.run_items.specs.declared.item.Item.{Item}
@@ -16,10 +15,9 @@ use Rattle.linear_forms.specs.Stub.{Function, compiled, terminating}
 use Rattle.linear_forms.specs.Activation.{Activation, State, Code, goes_to, next_if, on, function_word, terminated}
 use Rattle.linear_forms.specs.Machine.{step}
 use Rattle.linear_forms.specs.Pace.{pays, pays_at, Leads}
-use Rattle.linear_forms.specs.Unit.{function_code}
 use Rattle.linear_forms.proofs.Paces
 use Rattle.flight_homes.specs.Keeps.{destroyed_in}
-use Rattle.flight_homes.specs.Lives.{ExceptionKnown, HandlerKnown, known_in}
+use Rattle.flight_homes.specs.Lives.{ExceptionKnown, known_in}
 use Rattle.linear_invariant.specs.Asked.{PassAsked, FlightAsked}
 use Rattle.linear_invariant.specs.Calls.{unmarked}
 use Rattle.linear_invariant.specs.Stands.{StandsIn}
@@ -29,7 +27,7 @@ use Rattle.linear_invariant.proofs.Steps.{steps_stand}
 use Rattle.source_bounds.specs.Compiled.{unit_for}
 use Rattle.machine_forms.specs.LinearCode.{linear_code}
 use Rattle.machine_stubs.specs.Stretches.{stub_word}
-use Rattle.machine_simulation.specs.Plan.{Plan, shape}
+use Rattle.machine_simulation.specs.Plan.{Plan, shape, function}
 use Rattle.machine_simulation.specs.Exceptions.{live_in}
 use Rattle.machine_simulation.proofs.Matching.{stands_by}
 use Rattle.machine_exceptions.specs.Unexpected.{in_unexpected}
@@ -48,13 +46,14 @@ use Rattle.step_law.specs.Facts.{regions_for, needs_for, code_for}
 use Rattle.step_law.specs.Rows.{Run, IsAt, FollowsIn}
 use Rattle.step_law.specs.Passing.{StoppedTerminates}
 use Rattle.step_law.proofs.Aligned.{align_push, itself}
-use Rattle.step_law.proofs.At.{fetches, weight_paid}
+use Rattle.step_law.proofs.At.{fetches, end_paid}
 use Rattle.step_law.proofs.CalledFirst.{SomeUnshown, called_unshown}
 use Rattle.step_law.proofs.Exceptions.{spared_others, calm_other}
 use Rattle.step_law.proofs.Facing.{newest_made}
 use Rattle.step_law.proofs.Dooms.{newest_entered}
 use Rattle.step_law.proofs.Keeping.{NotEntered, CalmAt, kept_by_turns, unmarked_stands}
-use Rattle.step_law.proofs.LostBehind.{IsLostBehind, abort_behind, handler_begins, handler_overflows, room_or_none, with_or_without}
+use Rattle.step_law.proofs.LostBehind.{IsLostBehind, abort_behind, handler_begins, handler_overflows, fits_or_not, with_or_without}
+use Rattle.step_law.proofs.Rooms.{few_to_enter, takes_nothing, handler_there, page_here}
 use Rattle.step_law.proofs.Several.{led_to, led_twice}
 use Rattle.step_law.proofs.StoppedHere.{inv_stopped, runs_stopped, asked_stopped, flight_stopped, lives_stopped, at_stopped, held_stopped}
 use Rattle.step_law.proofs.Unexpecting.{calls_unexpected}
@@ -176,8 +175,12 @@ module _ (x : Run) (q : Plan) (before n o s type : ℕ) (d : Option ℕ) (kept :
     known : (m : ℕ) → kept.terminate_handler ≡ Some m → m < length q.unit.functions
     known m some =
         let lives = subst (ExceptionKnown (known_in (regions_for x.program))) is flight.exception in
-        let there = subst (HandlerKnown (known_in (regions_for x.program))) some lives.2.terminate in
-        subst (λ u. m < length u.functions) (sym here.stands.unit) (omega (arith, there, length-map (regions_for x.program).functions function_code))
+        handler_there x.program q kept.terminate_handler m here.stands.unit lives.2.terminate some
+
+    takes : (m : ℕ) → kept.terminate_handler ≡ Some m → 0 ≡ (function q m).parameters
+    takes m some =
+        let lives = subst (ExceptionKnown (known_in (regions_for x.program))) is flight.exception in
+        takes_nothing x.program q kept.terminate_handler m here.stands.unit lives.2.terminate some
 
     lost : IsLostBehind x q st 3 last v items 1 kept.terminate_handler
     lost = record {
@@ -193,6 +196,8 @@ module _ (x : Run) (q : Plan) (before n o s type : ℕ) (d : Option ℕ) (kept :
       aligned = align_push q q (itself q) last.top open_calls;
       spared = (tt, tt, (tt, none_destroyed st.top.function here.runs, spared_others x.carrying e (Some st.top.function) st.frames flight.unheld));
       known = known;
+      takes = takes;
+      page = (let free = page_here x q before n (unexpected o s) st w here refl in omega (arith, free));
       frames = here.matches.memory.unit.frames;
       few = (let more = few_entered e st.world.caught in omega (arith, more));
     }
@@ -216,7 +221,7 @@ module _ (x : Run) (q : Plan) (before n o s type : ℕ) (d : Option ℕ) (kept :
     with_one : UnexpectedTerminates → TerminateHandlersOverflow → StacksHoldCalls → (m : ℕ) → st.world.ending ≡ false → kept.terminate_handler ≡ Some m → FollowsIn x before st w
     with_one run over holds m quiet some =
         let hidden = here.stands.hides quiet in
-        room_or_none x q before st w here.facts here.stands 3 last v items 1 kept.terminate_handler lost m quiet some
+        fits_or_not x q before st w here.facts here.stands 3 last v items 1 kept.terminate_handler lost m quiet some
         (λ room.
         let ran = run.calls_without (program_of x.image).image q n o s e asked.selector type d kept m st w here.matches stopped none named quiet some hidden room in
         let reaches = ran.2 in
@@ -225,7 +230,7 @@ module _ (x : Run) (q : Plan) (before n o s type : ℕ) (d : Option ℕ) (kept :
         let most = at_most code 5 st in
         handler_begins x q before st w here.facts here.stands 3 last v items 1 kept.terminate_handler lost m quiet some q
         (record { frames = itself q; base = refl; tables = refl }) reach_last reaches.turns reaches.after (kept_by_turns (program_of x.image).image reaches.turns w reaches.after items reaches.runs)
-        made reaches.holds (omega (arith, later)) (omega (arith, later, most, unshown.enough)) (weight_paid x q before n (unexpected o s) st w here reaches.turns (omega (arith, reaches.few))) (stays 5 (omega arith)) ran.1)
+        made reaches.holds (omega (arith, later)) (omega (arith, later, most, unshown.enough)) (let entry = few_to_enter q m in end_paid x q before n (unexpected o s) st w here reaches.turns (omega (arith, reaches.few, entry))) (stays 5 (omega arith)) ran.1)
         (λ lacks.
         let most = length (linear_code (shape q n) (unexpected o s)) + 24 in
         let ran = λ (k : ℕ) (many : most ≤ k). over.without (program_of x.image).image x.pick k q n o s e asked.selector type d kept m st w here.matches stopped none

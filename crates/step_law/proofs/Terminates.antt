@@ -23,14 +23,17 @@ use Rattle.linear_invariant.specs.Stands.{NewMarked}
 use Rattle.linear_invariant.proofs.Asked.{enters_are_asked}
 use Rattle.linear_invariant.proofs.Calls.{all_spared}
 use Rattle.machine_forms.specs.LinearCode.{linear_code}
+use Rattle.machine_forms.specs.Leaf.{linear_stays}
 use Rattle.machine_stubs.specs.Stretches.{stub_word}
 use Rattle.machine_simulation.specs.Plan.{Plan, shape}
 use Rattle.machine_simulation.specs.Exceptions.{IsFunction, addresses_of}
 use Rattle.machine_simulation.specs.Objects.{HoldsObject}
+use Rattle.machine_simulation.specs.Entering.{entry_turns}
 use Rattle.machine_exceptions.specs.Answers.{CallsBuiltin}
 use Rattle.machine_exceptions.specs.Enters.{handlers_of, MayEnter, is_crowded}
 use Rattle.machine_exceptions.specs.Terminates.{IsNothing, TerminatesAtOnce, EntersCrowded, AtTerminating, TerminatesRun}
 use Rattle.handler_overflows.specs.AtOnce.{TerminatesOverflow}
+use Rattle.handler_overflows.proofs.Above.{builtin_leaves}
 use Rattle.stack_bounds.specs.Taken.{StacksHoldCalls}
 use Rattle.address_invariant.proofs.Newest.{newest_was_made}
 use Rattle.step_law.specs.Facts.{regions_for, code_for}
@@ -43,6 +46,7 @@ use Rattle.step_law.proofs.Exceptions.{gone_destroyed}
 use Rattle.step_law.proofs.Keeping.{NotEntered, unmarked_stands}
 use Rattle.step_law.proofs.Lost.{IsLost, aborts_here, nothing_hidden, begins_here, overflows_here, either_here, whatever_here}
 use Rattle.step_law.proofs.Returns.{undefined_breaks}
+use Rattle.step_law.proofs.Rooms.{takes_nothing, few_to_enter}
 
 -- an operation of regions that terminates
 record Terminating (code : Code) (st : State) (o : LinearOp) : Type 0 where
@@ -50,6 +54,7 @@ record Terminating (code : Code) (st : State) (o : LinearOp) : Type 0 where
   is : o ≡ plain op
   does : effect (kinds code st.top.function) op st.top.frame st.world ≡ terminates st.world.installed.terminate_handler st.world
   unpaid : linear_pays o ≡ false
+  leaves : linear_stays o ≡ false
 
 rethrown_nothing : (v : World) (xs : List Entry) → IsNothing xs → rethrown xs v ≡ terminates v.installed.terminate_handler v
 rethrown_nothing v [] h = refl
@@ -58,14 +63,14 @@ rethrown_nothing v (y ∷ xs) h = rw (h) refl
 terminating_at : (code : Code) (st : State) (o : LinearOp) → TerminatesAtOnce st.world o → Terminating code st o
 terminating_at code st o (inl calls) =
     let form = builtin_is Terminate no_arguments None o calls in
-    record { op = form.0; is = form.1; does = form.2 (kinds code st.top.function) st.top.frame st.world; unpaid = unpaid calls }
+    record { op = form.0; is = form.1; does = form.2 (kinds code st.top.function) st.top.frame st.world; unpaid = unpaid calls; leaves = builtin_leaves Terminate no_arguments None o calls }
   where
     unpaid : CallsBuiltin Terminate no_arguments None o → linear_pays o ≡ false
     unpaid (inl (d, some, is)) = absurd (cc some)
     unpaid (inr (inl (none, is))) = ap linear_pays is
     unpaid (inr (inr (none, is))) = ap linear_pays is
-terminating_at code st o (inr (inl (s, is, full))) = record { op = make s; is = is; does = rw (full) refl; unpaid = ap linear_pays is }
-terminating_at code st o (inr (inr (is, none))) = record { op = rethrow; is = is; does = rethrown_nothing st.world st.world.caught none; unpaid = ap linear_pays is }
+terminating_at code st o (inr (inl (s, is, full))) = record { op = make s; is = is; does = rw (full) refl; unpaid = ap linear_pays is; leaves = ap linear_stays is }
+terminating_at code st o (inr (inr (is, none))) = record { op = rethrow; is = is; does = rethrown_nothing st.world st.world.caught none; unpaid = ap linear_pays is; leaves = ap linear_stays is }
 
 -- a handler in effect is a function of the unit
 pub known_handler : (q : Plan) (o : Option ℕ) (m a : ℕ) → o ≡ Some m → IsFunction (addresses_of q) o a → m < length q.unit.functions
@@ -113,6 +118,8 @@ module _ (x : Run) (q : Plan) (before n : ℕ) (o : LinearOp) (st : State) (w : 
     marked = marked;
     spared = all_spared x.carrying (NotEntered []) (λ e. refl) (Some terminating) here;
     known = λ m some. known_handler q handler m w.terminate_handler some at_op.matches.runtime.exceptions.terminate_handler;
+    takes = λ m some. takes_nothing x.program q handler m at_op.stands.unit at_op.stands.stands.lives.handlers.terminate some;
+    leaves = t.leaves;
     few = λ turns u turned. omega arith;
   }
 
@@ -130,7 +137,7 @@ module _ (x : Run) (q : Plan) (before n : ℕ) (o : LinearOp) (st : State) (w : 
       either_here x q before n o st w at_op st.world st.world [] handler lost m quiet some
       (λ room.
       let ran = run.calls_the_handler (program_of x.image).image q n m st w at_op.matches at_end quiet some hidden room in
-      begins_here x q before n o st w at_op st.world st.world [] handler lost m quiet some (length (linear_code (shape q n) o) + 13) (omega arith) ran.0 (ran.1 ∙ sym (append-nil st.world.items)) ran.2)
+      begins_here x q before n o st w at_op st.world st.world [] handler lost m quiet some (length (linear_code (shape q n) o) + 9 + entry_turns q m) (let few = few_to_enter q m in omega (arith, few)) ran.0 (ran.1 ∙ sym (append-nil st.world.items)) ran.2)
       (λ lacks.
       overflows_here x q before n o st w at_op st.world st.world [] handler lost m quiet some lacks holds 15 (omega arith)
       (λ k many. over (program_of x.image).image x.pick k q n m st w at_op.matches at_end quiet some hidden lacks many))
@@ -183,7 +190,7 @@ crowds_follow run over holds x q before n s st w at_op few crowded = by (may_ent
         let turns_few = at_op.stands.few in
         let may_it : MayEnter st.frames st.world e = record { whole = ap (λ es. contains es e) (gone_destroyed st.frames) ∙ asked.has.whole; few = omega (arith, handlers, turns_few, few) } in
         let why : EntersCrowded q n st (plain (enter s)) = record { slot = s; number = e; is = refl; holds = holds_it; defined = may; may = may_it; crowded = crowded } in
-        whatever x q before n (plain (enter s)) st w at_op (inr why) (record { op = enter s; is = refl; does = does; unpaid = refl }) run over holds
+        whatever x q before n (plain (enter s)) st w at_op (inr why) (record { op = enter s; is = refl; does = does; unpaid = refl; leaves = refl }) run over holds
 
     by : (b : Bool) → may_enter st.world e ≡ b → FollowsIn x before st w
     by true may = ends may

@@ -1,19 +1,22 @@
 -- Calls that wait, and memory, where one of the runtime's own functions is the newest open call again.
 use Rattle.std.proofs.Common.{◌≡◌, ◌∙◌, refl, sym, ap, subst, arith, ℕ, ◌+◌, ◌≤◌, List, [], ◌∷◌, Some, None, inl, inr}
-use Rattle.std.specs.Prelude.{◌⊎◌}
+use Rattle.std.specs.Prelude.{◌⊎◌, ◌&&◌, not, Bool, true, false}
 use Rattle.rv64_isa.specs.State.{Part}
-use Rattle.region_forms.specs.World.{of_variable, of_exception, Frame, World}
+use Rattle.region_forms.specs.World.{Base, of_variable, of_exception, Frame, World}
 use Rattle.linear_forms.specs.Stub.{Function}
 use Rattle.linear_forms.specs.Activation.{Activation}
 use Rattle.flight_homes.specs.Nest.{number_of_call, newest_call}
 use Rattle.machine_stubs.specs.Stretches.{frame_size}
-use Rattle.machine_simulation.specs.Plan.{Plan, shape}
+use Rattle.machine_simulation.specs.Plan.{Plan, function, shape}
 use Rattle.machine_simulation.specs.Extents.{newer}
 use Rattle.machine_simulation.specs.StubCalls.{StubStands, StubWaits, DestructorWaits, UnexpectedWaits, LeavingWaits}
 use Rattle.machine_simulation.specs.Calls.{CallStands, CallsWait}
 use Rattle.machine_simulation.specs.Returns.{closed}
 use Rattle.machine_simulation.proofs.StubKeeping.{stub_same, stub_stays}
+use Rattle.machine_simulation.specs.KeptCalls.{KeptCalls}
 use Rattle.machine_simulation.proofs.Keeping.{held_later, waits_stay}
+use Rattle.machine_simulation.proofs.KeptSlots.{kept_slot}
+use Rattle.machine_simulation.proofs.KeptCalls.{kept_alone, kept_calls_still}
 use Rattle.machine_simulation.proofs.Holding.{same_number}
 use Rattle.machine_simulation.proofs.Closing.{live_before, newer_over, call_narrowed, waits_narrowed, apart_narrowed, unit_narrowed}
 use Rattle.machine_raises.proofs.OnStack.{Around}
@@ -97,6 +100,23 @@ call_alike p n frame v u memory stack back ints later st = record {
 waits_alike : (p : Plan) (fs : List Activation) (v u : World) (memory : List Part) (stack back limit : ℕ) → u.memory ≡ v.memory → v.last_number ≤ u.last_number → CallsWait p fs v memory stack back limit → CallsWait p fs u memory stack back limit
 waits_alike p fs v u memory stack back limit ints later h =
     waits_stay p fs v u memory memory stack back limit later (λ f s b stub. stub_same f s memory) (λ m g s b less st. call_alike p m g v u memory s b ints later st) h
+
+-- ---- what registers hold for the calls that wait
+dead_still : (a b : Bool) → a ≡ false → (a && not b) ≡ false
+dead_still true b e = absurd (cc e)
+dead_still false b e = refl
+
+pub registers_closed : (p : Plan) (c : ℕ) (fs : List Activation) (v u : World) (memory : List Part) (stack back limit : ℕ) (regs : List ℕ) → u.memory ≡ v.memory → CallsWait p fs v memory stack back limit → KeptCalls p fs v memory stack regs →
+    KeptCalls (closed p c) fs u memory stack regs
+registers_closed p c fs v u memory stack back limit regs ints waits h =
+    let over : Base → Bool = newer c in
+    kept_calls_still p p.at p.size (λ b. p.live b && not (over b)) p.ints v u memory memory stack fs stack back limit regs (omega arith)
+    (λ n frame place home rs before above less st one. record {
+      ints = λ s r is. ap (λ m. m (record { base = of_variable frame.call s; offset = 0 })) ints;
+      saved = λ s r b is held. held;
+      dead = λ s r is. dead_still (p.live (of_variable frame.call s)) (over (of_variable frame.call s)) (one.dead s r is);
+      alone = λ b s r live is. let k = kept_slot (function p n) s r is in kept_alone p n frame v memory place rs before b s r one (live_before p over b live).0 is k.place k.slot_is;
+    }) waits h
 
 -- ---- the memory where one of the runtime's own functions is the newest call
 pub stub_memory : (p : Plan) (f : Function) (limit below : ℕ) (rest : List Activation) (v u : World) (memory : List Part) (stack back : ℕ) → Around p v memory limit → below ≤ limit → u.memory ≡ v.memory → u.calls ≡ v.calls →

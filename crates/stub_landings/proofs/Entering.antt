@@ -17,10 +17,12 @@ use Rattle.flight_homes.specs.Nest.{number_of_call, newest_call}
 use Rattle.machine_forms.specs.Registers.{sp, a0, a1}
 use Rattle.machine_pieces.specs.Numbers.{IsInt, extended}
 use Rattle.machine_pieces.proofs.Turning.{no_turns, same_runtime}
-use Rattle.machine_stubs.specs.Stretches.{stub_word}
+use Rattle.machine_pieces.specs.Keeping.{saved_of}
+use Rattle.machine_pieces.proofs.Keeping.{given_saved}
+use Rattle.machine_stubs.specs.Stretches.{stub_word, frame_size}
 use Rattle.machine_stubs.specs.EndCatch.{object_slot}
 use Rattle.image_tables.specs.Functions.{records_end, operation_at}
-use Rattle.raise_simulation.specs.OpenCalls.{outer_sp}
+use Rattle.raise_simulation.specs.OpenCalls.{outer_sp, regs_at}
 use Rattle.raise_simulation.specs.Opens.{activations, calls}
 use Rattle.machine_simulation.specs.Plan.{Plan}
 use Rattle.machine_simulation.specs.Extents.{newer}
@@ -35,11 +37,11 @@ use Rattle.machine_raises.proofs.Stacks.{top_tail}
 use Rattle.machine_raises.proofs.Passing.{pad_is}
 use Rattle.machine_raises.proofs.Landing.{runtime_to}
 use Rattle.machine_raises.proofs.Entered.{pad_hart, EntersPad, kept_in_pad, gets_closed, pad_entered_runs}
-use Rattle.stub_landings.specs.Rests.{StubMemory, StubRests, FreesOnTheWay, KeepsStopped, ChecksThrown, LeavesBoth, Rests}
+use Rattle.stub_landings.specs.Rests.{StubMemory, StubRegisters, StubRests, FreesOnTheWay, KeepsStopped, ChecksThrown, LeavesBoth, Rests}
 use Rattle.stub_landings.specs.OwnCalls.{IsOwn}
 use Rattle.stub_landings.specs.Landings.{resting, pad_words, GoesOn}
 use Rattle.stub_landings.proofs.Pads.{OwnPad, own_pads}
-use Rattle.stub_landings.proofs.Closed.{stub_memory}
+use Rattle.stub_landings.proofs.Closed.{registers_closed, stub_memory}
 use Rattle.stub_landings.proofs.Landed.{own_landed_in}
 
 -- ---- the state behind a pad
@@ -64,6 +66,7 @@ pub record InPad (p : Plan) (b : Activation) (rest fs : List Activation) (u : Wo
   pub back : ℕ
   pub registers : length w.hart.regs ≡ 32
   pub memory : StubMemory (closed p (newest_call rest)) b.function rest u w.hart.memory (x w.hart sp) back
+  pub kept : StubRegisters (closed p (newest_call rest)) b.function rest u w.hart.memory (x w.hart sp) (saved_of w.hart)
   pub how : ((inner : ℕ) × StubWaits (closed p (newest_call rest)) b u w.hart.memory (x w.hart sp) inner back × (destroyed fs ≡ destroyed (b ∷ rest))) ⊎ ((b.place ≡ 1 → ⊥) × (fs ≡ rest))
   pub runtime : RuntimeMatches p fs u w
   pub gets : PadGets (closed p (newest_call rest)) u word (x w.hart a0)
@@ -78,6 +81,7 @@ rests_there p f k q object selector b rest fs u word n w h callee pc none = reco
   registers = h.registers;
   pc = pc;
   memory = subst (λ g. StubMemory (closed p (newest_call rest)) g rest u w.hart.memory (x w.hart sp) h.back) callee h.memory;
+  kept = subst (λ g. StubRegisters (closed p (newest_call rest)) g rest u w.hart.memory (x w.hart sp) (saved_of w.hart)) callee h.kept;
   runtime = runtime_to p (newest_call rest) fs ((behind f q object selector b rest u word n).top ∷ rest) u w h.runtime none;
 }
 
@@ -180,10 +184,18 @@ enters_own i a st free own p fs v s running h judge u w word value cfa table nex
     let w0 : abi.World = at_pad value lands.selector (abi.at_hart lands.after w) in
     let pointer : low ≡ x w0.hart sp = sym (hart.3 ∙ lands.in_frame.pointer) in
     let memory = stub_memory p b.function h.limit there.below rest v u s.memory low there.back h.around there.less ints count later there.stands there.waiting in
+    let regs : List ℕ = regs_at (calls lands.inner) (saved_of s) in
+    let saved : saved_of w0.hart ≡ regs = given_saved lands.after w0.hart value (extended lands.selector) refl ∙ lands.in_frame.saved in
+    let kept : StubRegisters q b.function rest u s.memory low regs = record {
+      small = there.kept.small;
+      waiting = registers_closed p (newest_call rest) rest v u s.memory (low + frame_size b.function) there.back there.below regs ints there.waiting there.kept.waiting;
+    } in
     let in_pad : InPad p b rest fs u word lands.selector w0 = record {
       back = there.back;
       registers = hart.0;
       memory = subst (λ ps. StubMemory q b.function rest u ps (x w0.hart sp) there.back) (sym lands.in_frame.memory) (subst (λ k. StubMemory q b.function rest u s.memory k there.back) pointer memory);
+      kept = subst (λ ps. StubRegisters q b.function rest u ps (x w0.hart sp) (saved_of w0.hart)) (sym lands.in_frame.memory)
+          (subst (λ k. StubRegisters q b.function rest u s.memory k (saved_of w0.hart)) pointer (subst (λ rs. StubRegisters q b.function rest u s.memory low rs) (sym saved) kept));
       how = waited p b rest fs v u s.memory w0.hart.memory low (x w0.hart sp) there.back (sym lands.in_frame.memory) pointer later there.how;
       runtime = record { input = runtime.input; replies = runtime.replies; last_number = runtime.last_number; terminating = runtime.terminating; exceptions = runtime.exceptions; plan = runtime.plan };
       gets = subst (PadGets q u word) (sym hart.1) (gets_closed p u (newest_call rest) word value gets);

@@ -8,13 +8,15 @@ use Rattle.linear_forms.specs.Activation.{Activation}
 use Rattle.machine_forms.specs.Registers.{sp}
 use Rattle.machine_forms.specs.Routine.{op_byte}
 use Rattle.machine_forms.specs.StubCode.{stub_first, stub_routine}
+use Rattle.machine_pieces.specs.Keeping.{saved_of}
 use Rattle.machine_stubs.specs.Stretches.{stub_word, frame_size}
+use Rattle.machine_simulation.proofs.Floors.{stub_floor}
 use Rattle.image_tables.specs.Functions.{IsThere, routine_of, frame_of, records_end, first_byte}
 use Rattle.image_tables.specs.TableLaws.{IsByteOf}
 use Rattle.machine_simulation.specs.Plan.{Plan}
 use Rattle.machine_simulation.specs.StubCalls.{StubStands}
 use Rattle.machine_raises.specs.Targets.{call_size}
-use Rattle.machine_raises.proofs.OnStack.{OwnFrame, OnStack}
+use Rattle.machine_raises.proofs.OnStack.{OwnFrame, OwnKept, OnStack}
 use Rattle.machine_raises.proofs.Stacks.{top_found}
 use Rattle.machine_raises.proofs.Waiting.{GoesOnAt}
 use Rattle.stub_landings.specs.OwnCalls.{IsOwn, GoesOnInOwn, InOwn}
@@ -48,6 +50,19 @@ frame_owned p end_catch a v memory stack back limit own h = h
 frame_owned p terminating a v memory stack back limit own h = h
 frame_owned p call_unexpected a v memory stack back limit own h = h
 
+-- and it leaves the registers of kept variables
+own_kept : (p : Plan) (f : Function) (a : Activation) (v : World) (memory : List Part) (stack : ℕ) (regs : List ℕ) → IsOwn f → OwnKept p f a v memory stack regs regs
+own_kept p (compiled n) a v memory stack regs own = absurd own
+own_kept p end_catch a v memory stack regs own = refl
+own_kept p terminating a v memory stack regs own = refl
+own_kept p call_unexpected a v memory stack regs own = refl
+
+pub kept_owned : (p : Plan) (f : Function) (a : Activation) (v : World) (memory : List Part) (stack : ℕ) (regs before : List ℕ) → IsOwn f → OwnKept p f a v memory stack regs before → before ≡ regs
+kept_owned p (compiled n) a v memory stack regs before own h = absurd own
+kept_owned p end_catch a v memory stack regs before own h = h
+kept_owned p terminating a v memory stack regs before own h = h
+kept_owned p call_unexpected a v memory stack regs before own h = h
+
 own_at : (p : Plan) (f : Function) (a : Activation) (ip : ℕ) → p.base ≡ records_end p.unit → OwnFacts p f → a.function ≡ f → GoesOnInOwn p f a.place ip → GoesOnAt p a ip
 own_at p f a ip base facts runs on =
     let k = on.word in
@@ -60,7 +75,6 @@ own_at p f a ip base facts runs on =
     record {
       there = subst (IsThere p.unit) (sym runs) facts.there;
       byte = 4 * k - 1;
-      far = omega (arith, on.framed);
       inside = subst (λ g. IsByteOf p.unit g a.place (4 * k - 1)) (sym runs) inside;
       is = omega (arith, on.is, base, on.framed, facts.first) ∙ ap (λ g. first_byte p.unit g + (4 * k - 1) + 1) (sym runs);
     }
@@ -69,6 +83,7 @@ pub own_on_stack : (p : Plan) (f : Function) (back : ℕ) (a : Activation) (fs :
 own_on_stack p f back a fs v s base h =
     let facts = own_facts p f h.own in
     let m = h.memory in
+    let floor = stub_floor f (x s sp) m.stands.above in
     record {
       size = frame_size f;
       back = back;
@@ -78,12 +93,16 @@ own_on_stack p f back a fs v s base h =
       frame = ap (frame_of p.unit) h.runs ∙ facts.frame;
       called = ap (call_size p) h.runs ∙ facts.size;
       big = facts.big;
-      low = m.stands.above;
+      low = omega (arith, floor);
       high = m.stands.below;
       saved = m.stands.saved;
       waiting = m.waiting;
       around = record { newest = omega arith; apart = m.apart; inside = m.inside; may = m.may; fresh = m.fresh; objects = m.objects; unit = m.unit };
       own = subst (λ g. OwnFrame p g a v s.memory (x s sp) back v.calls) (sym h.runs) (own_frame p f a v s.memory (x s sp) back v.calls h.own m.stands);
+      small = h.kept.small;
+      before = saved_of s;
+      keeps = subst (λ g. OwnKept p g a v s.memory (x s sp) (saved_of s) (saved_of s)) (sym h.runs) (own_kept p f a v s.memory (x s sp) (saved_of s) h.own);
+      kept = h.kept.waiting;
     }
 
 pub stub_stacks_stand : StubStacksStand

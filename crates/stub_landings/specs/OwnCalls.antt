@@ -11,11 +11,12 @@ use Rattle.linear_forms.specs.Activation.{Activation, State}
 use Rattle.machine_forms.specs.Registers.{sp, a7}
 use Rattle.machine_forms.specs.Routine.{op_word}
 use Rattle.machine_forms.specs.StubCode.{stub_routine}
+use Rattle.machine_pieces.specs.Keeping.{saved_of}
 use Rattle.machine_stubs.specs.Stretches.{stub_word}
 use Rattle.machine_simulation.specs.Plan.{Plan}
 use Rattle.machine_simulation.specs.Matches.{RuntimeMatches}
 use Rattle.machine_raises.specs.Stacks.{IsRunning}
-use Rattle.stub_landings.specs.Rests.{StubMemory}
+use Rattle.stub_landings.specs.Rests.{StubMemory, StubRegisters}
 
 -- one of the runtime's own functions
 abbrev pub IsOwn : Function → Type 0
@@ -32,13 +33,14 @@ pub record GoesOnInOwn (p : Plan) (f : Function) (place ip : ℕ) : Type 0 where
   pub last : word ≤ op_word (stub_routine f) (place + 1)
   pub is : ip ≡ stub_word p.base f word
 
--- a hart that goes on inside an operation of one of them, whose frame begins at sp, above the calls that wait
+-- a hart that goes on inside an operation of one of them, whose frame begins at sp, above the calls that wait, with their registers
 pub record InOwn (p : Plan) (f : Function) (back : ℕ) (a : Activation) (fs : List Activation) (v : World) (s : hart.State) : Type 0 where
   pub own : IsOwn f
   pub runs : a.function ≡ f
   pub registers : length s.regs ≡ 32
   pub goes_on : GoesOnInOwn p f a.place s.pc
   pub memory : StubMemory p f fs v s.memory (x s sp) back
+  pub kept : StubRegisters p f fs v s.memory (x s sp) (saved_of s)
 
 -- A hart at the ECALL of a runtime call of one of them, and behind it. Of exceptions whose destructors run the runtime has those that calls below
 -- it wait for.

@@ -11,6 +11,7 @@ use Rattle.flight_homes.specs.Nest.{newest_call}
 use Rattle.machine_forms.specs.Registers.{sp}
 use Rattle.machine_pieces.specs.Numbers.{IsInt, extended}
 use Rattle.machine_pieces.specs.Frames.{IntAt, AddressAt}
+use Rattle.machine_pieces.specs.Keeping.{saved_of, AreSmall}
 use Rattle.machine_stubs.specs.Stretches.{stub_word, frame_size}
 use Rattle.machine_stubs.specs.EndCatch.{object_slot}
 use Rattle.machine_stubs.specs.CallUnexpected.{stopped_slot, list_slot, table_slot, thrown_slot}
@@ -18,6 +19,7 @@ use Rattle.machine_simulation.specs.Plan.{Plan}
 use Rattle.machine_simulation.specs.Extents.{newer, StandApart, IntsInside}
 use Rattle.machine_simulation.specs.Calls.{CallsWait}
 use Rattle.machine_simulation.specs.StubCalls.{StubStands, KeepsException, KeepsFlying}
+use Rattle.machine_simulation.specs.KeptCalls.{KeptCalls}
 use Rattle.machine_simulation.specs.Matches.{StackMay, StillFresh, ObjectsStand, UnitStands, RuntimeMatches, Matches}
 use Rattle.machine_raises.specs.Pads.{PadGets}
 
@@ -34,13 +36,19 @@ pub record StubMemory (p : Plan) (f : Function) (fs : List Activation) (v : Worl
   pub objects : ObjectsStand p v memory
   pub unit : UnitStands p memory
 
--- the hart is at the k-th word of one of them, in such memory
+-- The registers of kept variables while one of them runs: it leaves them to the calls that wait.
+pub record StubRegisters (p : Plan) (f : Function) (fs : List Activation) (v : World) (memory : List Part) (stack : ℕ) (regs : List ℕ) : Type 0 where
+  pub small : AreSmall regs
+  pub waiting : KeptCalls p fs v memory (stack + frame_size f) regs
+
+-- the hart is at the k-th word of one of them, in such memory, with such registers
 pub record StubRests (p : Plan) (f : Function) (k : ℕ) (st : State) (w : abi.World) : Type 0 where
   pub back : ℕ
   pub runs : st.top.function ≡ f
   pub registers : length w.hart.regs ≡ 32
   pub pc : w.hart.pc ≡ stub_word p.base f k
   pub memory : StubMemory p f st.frames st.world w.hart.memory (x w.hart sp) back
+  pub kept : StubRegisters p f st.frames st.world w.hart.memory (x w.hart sp) (saved_of w.hart)
   pub runtime : RuntimeMatches p (st.top ∷ st.frames) st.world w
 
 -- end_catch, behind its pad, is about to free the object: the hart is at the pad's first word, with what the pad gets

@@ -26,7 +26,7 @@ use Rattle.machine_exceptions.proofs.Enters.{exception_is}
 use Rattle.machine_raises.specs.Resumes.{TypeIsThere}
 use Rattle.machine_raises.specs.Throws.{RaisedTo}
 use Rattle.runtime_invariant.specs.Memory.{RunsKeepMemory}
-use Rattle.stub_landings.specs.Rests.{StubMemory, Rests}
+use Rattle.stub_landings.specs.Rests.{StubMemory, Rests, StubRegisters}
 use Rattle.stub_landings.specs.OwnCalls.{AtOwnCall}
 use Rattle.stub_landings.specs.OwnRaises.{OwnRethrowsLand}
 use Rattle.stub_landings.specs.Landings.{resting, pad_words}
@@ -35,9 +35,10 @@ use Rattle.unexpected_calls.specs.Lists.{ListsAnswer}
 use Rattle.unexpected_calls.specs.Thrown.{ThrownOut, list_says, checked_state}
 use Rattle.unexpected_calls.specs.Allowed.{RaisedFrom, AllowedIsThrown}
 use Rattle.unexpected_calls.proofs.Steps.{steps_on}
-use Rattle.unexpected_calls.proofs.OverCall.{over_stub, over_beside}
+use Rattle.unexpected_calls.proofs.OverCall.{over_stub, over_beside, over_registers, over_at}
 use Rattle.unexpected_calls.proofs.Thrown.{running_then, running_behind, thrown_checked}
 use Rattle.unexpected_calls.proofs.CheckSteps.{steps_to_allowed}
+use Rattle.machine_pieces.specs.Keeping.{saved_of}
 
 -- what is entered is the newest
 pub newest_entered : (e : ℕ) (xs : List Entry) → newest_of (entered_on e xs) ≡ e
@@ -91,7 +92,7 @@ at_rethrow made checks answers keeps lists i p e d type destructor kept j st w h
     let low : ℕ = x chk.after.hart sp in
     let come = answers.rethrows image p.unit p.base chk.after chk.stands chk.given in
     let r = come.holds in
-    let over = over_beside p c.number c.caller c.others v chk.after.hart.memory r.behind.memory low back (low + 24) 8 chk.over (omega arith) (omega arith) r.holds in
+    let over = over_beside p c.number c.caller c.others v chk.after.hart.memory r.behind.memory low back (low + 24) 8 (saved_of chk.after.hart) chk.over (omega arith) (omega arith) r.holds in
     let running = running_behind i p come.after.hart r.behind r.calls (running_then keeps image i p come.turns chk.after come.after [] come.runs chk.running) in
     record {
       turns = chk.turns + come.turns;
@@ -110,7 +111,10 @@ at_rethrow made checks answers keeps lists i p e d type destructor kept j st w h
           registers = r.stands.registers;
           goes_on = unexpected_rethrows p r.behind.pc r.stands.pc;
           memory = subst (λ gs. StubMemory p call_unexpected gs v r.behind.memory (x r.behind sp) back) (sym c.frames)
-              (subst (λ b. StubMemory p call_unexpected (c.caller ∷ c.others) v r.behind.memory b back) (sym r.pointer) (over_stub p c.number c.caller c.others v r.behind.memory low back c.compiled over));
+              (subst (λ b. StubMemory p call_unexpected (c.caller ∷ c.others) v r.behind.memory b back) (sym r.pointer) (over_stub p c.number c.caller c.others v r.behind.memory low back (saved_of chk.after.hart) c.compiled over));
+          kept = subst (λ gs. StubRegisters p call_unexpected gs v r.behind.memory (x r.behind sp) (saved_of r.behind)) (sym c.frames)
+              (over_registers p c.number c.caller c.others v r.behind.memory (x r.behind sp) back (saved_of r.behind) c.compiled
+              (over_at p c.number c.caller c.others v r.behind.memory low back (saved_of chk.after.hart) r.behind refl r.pointer r.variables over));
         };
         runtime = runtime_stays p st.frames v chk.after come.after r.kept.runtime chk.runtime;
       };

@@ -35,7 +35,7 @@ use Rattle.machine_raises.specs.Pads.{PadsArePlain}
 use Rattle.machine_raises.specs.Throws.{RaisedTo}
 use Rattle.machine_raises.specs.Modules.{RaisedForTo}
 use Rattle.runtime_invariant.specs.Memory.{RunsKeepMemory}
-use Rattle.stub_landings.specs.Rests.{StubMemory, Rests}
+use Rattle.stub_landings.specs.Rests.{StubMemory, Rests, StubRegisters}
 use Rattle.stub_landings.specs.OwnCalls.{AtOwnCall}
 use Rattle.stub_landings.specs.OwnRaises.{OwnThrowsLand}
 use Rattle.stub_landings.specs.Landings.{resting, pad_words}
@@ -45,10 +45,11 @@ use Rattle.unexpected_calls.specs.Lists.{ListsAnswer}
 use Rattle.unexpected_calls.specs.Thrown.{ThrownOut, list_says, checked_state}
 use Rattle.unexpected_calls.specs.Bad.{bad_state, BadIsThrown}
 use Rattle.unexpected_calls.proofs.Steps.{steps_on}
-use Rattle.unexpected_calls.proofs.OverCall.{over_stub, over_beside, over_alike}
+use Rattle.unexpected_calls.proofs.OverCall.{over_stub, over_beside, over_alike, over_registers, over_at}
 use Rattle.unexpected_calls.proofs.Thrown.{running_then, running_behind, thrown_checked}
 use Rattle.unexpected_calls.proofs.CheckSteps.{steps_to_bad}
 use Rattle.unexpected_calls.proofs.BadMade.{BadMade, at_make, bad_made}
+use Rattle.machine_pieces.specs.Keeping.{saved_of}
 
 -- ---- the steps
 
@@ -103,7 +104,7 @@ at_throw answers keeps i pick p e back slot st w c there b =
     let room : 24 * (bad_row + 1) ≤ p.base = omega (arith, b.running.base, types, there) in
     let come = answers.throws_a_bad_exception image p.unit p.base (object_of slot) b.after room b.stands b.given (omega (arith, b.below)) in
     let r = come.holds in
-    let over = over_alike q c.number c.caller c.others u v r.behind.memory low back refl refl (same_number u) (over_beside q c.number c.caller c.others u b.after.hart.memory r.behind.memory low back (low + 16) 8 b.over (omega arith) (omega arith) r.holds.3) in
+    let over = over_alike q c.number c.caller c.others u v r.behind.memory low back (saved_of b.after.hart) refl refl (same_number u) (over_beside q c.number c.caller c.others u b.after.hart.memory r.behind.memory low back (low + 16) 8 (saved_of b.after.hart) b.over (omega arith) (omega arith) r.holds.3) in
     let run = runtime_stays q st.frames u b.after come.after r.kept.runtime b.runtime in
     record {
       turns = b.turns + come.turns;
@@ -122,7 +123,10 @@ at_throw answers keeps i pick p e back slot st w c there b =
           registers = r.stands.registers;
           goes_on = unexpected_throws q r.behind.pc r.stands.pc;
           memory = subst (λ gs. StubMemory q call_unexpected gs v r.behind.memory (x r.behind sp) back) (sym c.frames)
-              (subst (λ a. StubMemory q call_unexpected (c.caller ∷ c.others) v r.behind.memory a back) (sym r.pointer) (over_stub q c.number c.caller c.others v r.behind.memory low back c.compiled over));
+              (subst (λ a. StubMemory q call_unexpected (c.caller ∷ c.others) v r.behind.memory a back) (sym r.pointer) (over_stub q c.number c.caller c.others v r.behind.memory low back (saved_of b.after.hart) c.compiled over));
+          kept = subst (λ gs. StubRegisters q call_unexpected gs v r.behind.memory (x r.behind sp) (saved_of r.behind)) (sym c.frames)
+              (over_registers q c.number c.caller c.others v r.behind.memory (x r.behind sp) back (saved_of r.behind) c.compiled
+              (over_at q c.number c.caller c.others v r.behind.memory low back (saved_of b.after.hart) r.behind refl r.pointer r.variables over));
         };
         runtime = record { input = run.input; replies = run.replies; last_number = run.last_number; terminating = run.terminating; exceptions = run.exceptions; plan = run.plan };
       };

@@ -68,7 +68,7 @@ use Rattle.raise_ends.proofs.Asking.{lost_as}
 use Rattle.raise_ends.proofs.Aborting.{no_handler, shown_again, shown_first}
 use Rattle.raise_ends.proofs.Comes.{aborts_again}
 use Rattle.runtime_invariant.specs.Memory.{RunsKeepMemory}
-use Rattle.stub_landings.specs.Rests.{StubMemory}
+use Rattle.stub_landings.specs.Rests.{StubMemory, StubRegisters}
 use Rattle.stub_landings.specs.OwnCalls.{AtOwnCall}
 use Rattle.stub_landings.specs.StubStacks.{StubStacksStand}
 use Rattle.unexpected_calls.specs.Leaves.{CalledByCompiled}
@@ -86,6 +86,7 @@ use Rattle.unexpected_calls.proofs.Lost.{own_lost}
 use Rattle.unexpected_calls.proofs.Thrown.{thrown_checked}
 use Rattle.unexpected_calls.proofs.BadMade.{none_live, at_make, bad_made}
 use Rattle.unexpected_calls.proofs.Bad.{steps_to_throw, AtThrow, at_throw}
+use Rattle.machine_pieces.specs.Keeping.{saved_of}
 
 -- ---- the step
 
@@ -190,8 +191,9 @@ doom_asks i pick p e slot stack st w c t l named quiet =
     let u : World = (bad_doomed e st).world in
     let own = t.call in
     let memory = own.inside.memory in
-    let over = over_alike q c.number c.caller c.others v u t.behind.memory (x t.behind sp) own.back refl refl (same_number v)
-    (over_call q c.number c.caller c.others v t.behind.memory (x t.behind sp) own.back c.compiled (subst (λ gs. StubMemory q call_unexpected gs v t.behind.memory (x t.behind sp) own.back) c.frames memory)) in
+    let over = over_alike q c.number c.caller c.others v u t.behind.memory (x t.behind sp) own.back (saved_of t.behind) refl refl (same_number v)
+    (over_call q c.number c.caller c.others v t.behind.memory (x t.behind sp) own.back (saved_of t.behind) c.compiled (subst (λ gs. StubMemory q call_unexpected gs v t.behind.memory (x t.behind sp) own.back) c.frames memory)
+    (subst (λ gs. StubRegisters q call_unexpected gs v t.behind.memory (x t.behind sp) (saved_of t.behind)) c.frames own.inside.kept)) in
     let r = l.runtime in (
       over.outer,
       record {
@@ -208,6 +210,8 @@ doom_asks i pick p e slot stack st w c t l named quiet =
         unwinding = l.unwinding;
         shown = l.shown;
         memory = over.matches;
+        high = over.stands.above;
+        small = over.registers.small;
         end = omega (arith, stub_end q st.frames v t.behind.memory (x t.behind sp) own.back memory);
         runtime = record { input = r.input; replies = r.replies; last_number = r.last_number; terminating = r.terminating; exceptions = r.exceptions; plan = r.plan };
         named = named;
@@ -247,7 +251,7 @@ bad_is_doomed made runs checks answers keeps lists stands agree = record {
       let t = all.2.at in
       let asks = doom_asks i pick p e slot (x w.hart sp) st w h.called t all.2.dooms_it named quiet in
       let two = handler_in_two p m raising waiting st.world.installed.terminate_handler (Enter bad ∷ []) (doomed_step p e st all.2.live none false quiet) quiet some refl in
-      let rest = asks_begins (program_of i).image q h.called.number h.called.caller h.called.others waiting st.world.installed.terminate_handler t.at asks.0 (Enter bad ∷ []) asks.1 made runs m quiet some hidden fits in (
+      let rest = asks_begins (program_of i).image q h.called.number h.called.caller h.called.others waiting st.world.installed.terminate_handler t.at asks.0 (Enter bad ∷ []) asks.1 made runs m quiet some hidden (record { taken = fits.taken; room = fits.room }) in (
         steps_on (code_of p.unit) 7 2 st raising (in_handler p m waiting) (steps_to_throw i p e d type destructor kept j st w h says free) two.0,
         (same_beside (slot_kinds p m) waiting.world.calls 0 [] (ending_world waiting.world)).items ∙ ap (λ is. is ++ Enter bad ∷ []) (append_assoc st.world.items (Enter e ∷ []) (Make bad ∷ [])) ∙ append_assoc st.world.items (Enter e ∷ Make bad ∷ []) (Enter bad ∷ []),
         slot,

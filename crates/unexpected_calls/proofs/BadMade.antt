@@ -38,13 +38,15 @@ use Rattle.machine_exceptions.specs.Picks.{TurnsFor}
 use Rattle.machine_exceptions.proofs.LiveLists.{with_one, new_in, other_in}
 use Rattle.machine_exceptions.proofs.Made.{slot_given, made_match, slots_apart}
 use Rattle.machine_exceptions.proofs.Makes.{made_world}
-use Rattle.machine_exceptions.proofs.Making.{Making, new_at, old_at, matches_made}
+use Rattle.machine_exceptions.proofs.Making.{Making, new_at, old_at, matches_made, registers_made}
 use Rattle.machine_exceptions.proofs.Picking.{turns_for, then_for, call_for}
 use Rattle.machine_raises.specs.Stacks.{IsRunning}
 use Rattle.runtime_invariant.specs.Memory.{RunsKeepMemory}
 use Rattle.unexpected_calls.proofs.Above.{stack_apart}
-use Rattle.unexpected_calls.proofs.OverCall.{OverCall, over_beside}
+use Rattle.unexpected_calls.proofs.OverCall.{OverCall, over_beside, over_at}
 use Rattle.unexpected_calls.proofs.Thrown.{Checked, running_then, running_behind}
+use Rattle.machine_pieces.specs.Keeping.{saved_of}
+use Rattle.machine_exceptions.proofs.Ecalls.{given_in_first}
 
 pub allocate_is : (image : Image) (wish : ℕ) (t : abi.World) → call_effect 3 image wish t ≡ allocate image.places wish t
 unfolding call_effect numbered
@@ -89,20 +91,23 @@ none_live lives e last most next = by (live_in lives e) refl
     by (Some y) is = absurd (omega (arith, most e y is, next))
 
 -- the calls stand as they stood
-over_made : (p : Plan) (e slot : ℕ) (v u : World) → Making p e slot v u → (n : ℕ) (a : Activation) (fs : List Activation) (memory : List Part) (stack back : ℕ) → OverCall p n a fs v memory stack back → OverCall (with_object p e slot) n a fs u memory stack back
-over_made p e slot v u making n a fs memory stack back h =
+over_made : (p : Plan) (e slot : ℕ) (v u : World) → Making p e slot v u → (n : ℕ) (a : Activation) (fs : List Activation) (memory : List Part) (stack back : ℕ) (regs : List ℕ) → OverCall p n a fs v memory stack back regs →
+    OverCall (with_object p e slot) n a fs u memory stack back regs
+over_made p e slot v u making n a fs memory stack back regs h =
     let m = matches_made p e slot v u making n a.frame fs memory (stack + 80) h.outer h.matches in
     let w = h.waits in
+    let floor = h.stands.above in
     record {
       stands = record {
         above = h.stands.above;
         below = h.stands.below;
         saved = h.stands.saved;
-        alone = λ b live. stack_apart (with_object p e slot) n a.frame fs u memory (stack + 80) h.outer stack 80 m h.stands.above (omega arith) b live;
+        alone = λ b live. stack_apart (with_object p e slot) n a.frame fs u memory (stack + 80) h.outer stack 80 m (omega (arith, floor)) (omega arith) b live;
       };
       outer = h.outer;
       matches = m;
       waits = record { callee = w.callee; op = w.op; there = w.there; calls = w.calls; front = w.front; is = w.is; returns = w.returns; stands = m.top };
+      registers = registers_made p e slot v u making n a.frame fs memory (stack + 80) h.outer regs h.matches h.registers;
     }
 
 running_with : (p : Plan) (e slot : ℕ) (i : CleanImage) (s : Hart) → IsRunning p i s → IsRunning (with_object p e slot) i s
@@ -120,7 +125,7 @@ pub record AtMake (i : CleanImage) (p : Plan) (e number back : ℕ) (caller : Ac
   pub calls : step_of at.hart ≡ (Ecall, behind)
   pub asks : x behind a7 ≡ 3
   pub stands : StubStands p.unit p.base call_unexpected 43 (x behind sp) 80 behind
-  pub over : OverCall p number caller others (entered e st.world) behind.memory (x behind sp) back
+  pub over : OverCall p number caller others (entered e st.world) behind.memory (x behind sp) back (saved_of behind)
   pub pointer : x behind sp ≡ x w.hart sp
   pub running : IsRunning p i behind
   pub runtime : RuntimeMatches p st.frames (entered e st.world) at
@@ -132,7 +137,7 @@ at_make answers keeps i p e number back caller others st w chk =
     let low : ℕ = x chk.after.hart sp in
     let come = answers.makes_a_bad_exception image p.unit p.base chk.after chk.stands chk.given in
     let r = come.holds in
-    let over = over_beside p number caller others v chk.after.hart.memory r.behind.memory low back (low + 24) 8 chk.over (omega arith) (omega arith) r.holds in
+    let over = over_beside p number caller others v chk.after.hart.memory r.behind.memory low back (low + 24) 8 (saved_of chk.after.hart) chk.over (omega arith) (omega arith) r.holds in
     record {
       turns = chk.turns + come.turns;
       few = omega (arith, chk.few, come.few);
@@ -142,7 +147,7 @@ at_make answers keeps i p e number back caller others st w chk =
       calls = r.calls;
       asks = r.asks;
       stands = subst (λ a. StubStands p.unit p.base call_unexpected 43 a 80 r.behind) (sym r.pointer) r.stands;
-      over = subst (λ a. OverCall p number caller others v r.behind.memory a back) (sym r.pointer) over;
+      over = over_at p number caller others v r.behind.memory low back (saved_of chk.after.hart) r.behind refl r.pointer r.variables over;
       pointer = r.pointer ∙ chk.pointer;
       running = running_behind i p come.after.hart r.behind r.calls (running_then keeps image i p come.turns chk.after come.after [] come.runs chk.running);
       runtime = runtime_stays p st.frames v chk.after come.after r.kept.runtime chk.runtime;
@@ -158,7 +163,7 @@ pub record BadMade (i : CleanImage) (pick : ℕ → ℕ) (p : Plan) (e number ba
   pub object : (with_object p (st.world.last_number + 1) slot).at (of_exception (st.world.last_number + 1)) ≡ object_of slot
   pub below : slot < 1024
   pub given : x after.hart a0 ≡ object_of slot
-  pub over : OverCall (with_object p (st.world.last_number + 1) slot) number caller others (made_world (entered e st.world)) after.hart.memory (x after.hart sp) back
+  pub over : OverCall (with_object p (st.world.last_number + 1) slot) number caller others (made_world (entered e st.world)) after.hart.memory (x after.hart sp) back (saved_of after.hart)
   pub pointer : x after.hart sp ≡ x w.hart sp
   pub running : IsRunning (with_object p (st.world.last_number + 1) slot) i after.hart
   pub runtime : RuntimeMatches (with_object p (st.world.last_number + 1) slot) st.frames (made_world (entered e st.world)) after
@@ -200,7 +205,7 @@ bad_made made i pick p e number back caller others st w c free =
           let o = slots_apart places gone (exceptions_in v) (kept_by c.at) slot m vacant d there.0 there.1 in
           (o.0, o.1, r.plan.size d live, o.2);
     } in
-    let over = over_made p e2 slot v u making number caller others c.behind.memory (x c.behind sp) back c.over in
+    let over = over_made p e2 slot v u making number caller others c.behind.memory (x c.behind sp) back (saved_of c.behind) c.over in
     let pointer : x end.hart sp ≡ x c.behind sp = read_other c.behind.regs 10 2 object (λ d. absurd (omega (arith, d))) in
     let not_live = none_live v.live e2 v.last_number m.numbers refl in
     let running = running_with p e2 slot i c.behind c.running in (
@@ -219,7 +224,7 @@ bad_made made i pick p e number back caller others st w c free =
         object = object_there;
         below = small;
         given = read_same c.behind.regs 10 object (λ d. absurd (omega (arith, d))) (omega (arith, c.stands.registers));
-        over = subst (λ a. OverCall q number caller others u c.behind.memory a back) (sym pointer) over;
+        over = over_at q number caller others u c.behind.memory (x c.behind sp) back (saved_of c.behind) w2.hart refl pointer (given_in_first c.behind w2.hart object refl) over;
         pointer = pointer ∙ c.pointer;
         running = record { image = running.image; lists = running.lists; base = running.base; tables = running.tables; run = running.run };
         runtime = record {

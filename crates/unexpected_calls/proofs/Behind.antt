@@ -36,19 +36,23 @@ use Rattle.machine_simulation.proofs.Closing.{popped_to, plan_popped, destroyed_
 use Rattle.machine_simulation.proofs.Freeing.{beside_matches}
 use Rattle.machine_simulation.proofs.Calling.{stack_at}
 use Rattle.machine_simulation.proofs.Given.{same_beside}
-use Rattle.machine_simulation.proofs.Returning.{call_waits}
+use Rattle.machine_simulation.proofs.Returning.{call_waits, comes_back}
 use Rattle.machine_exceptions.specs.Leaves.{StepsTo}
 use Rattle.machine_exceptions.specs.Terminates.{ending_world, in_handler}
 use Rattle.machine_exceptions.proofs.Enters.{exception_is}
 use Rattle.machine_exceptions.proofs.EndCatching.{room_below}
-use Rattle.machine_exceptions.proofs.GivingBack.{gives_back_frame}
 use Rattle.machine_exceptions.proofs.DestructorsEnd.{CameBack, returns_value}
 use Rattle.raise_ends.specs.Ends.{NoneIsCalled, HandlerFits, plan_in_handler}
 use Rattle.raise_ends.proofs.Steps.{handler_in_two}
 use Rattle.unexpected_calls.specs.Terminates.{BothAbort, NamesTerminate, HandlerReturns, came_back, UnexpectedTerminates}
-use Rattle.unexpected_calls.proofs.Sent.{AsksFor, for_aborts, for_begins}
+use Rattle.unexpected_calls.proofs.Sent.{AsksFor, for_aborts, for_begins, reaches_most}
 use Rattle.unexpected_calls.proofs.Steps.{exec_on}
 use Rattle.unexpected_calls.proofs.Without.{linear_ends, calls_without, aborts_without}
+use Rattle.machine_pieces.specs.Keeping.{saved_of, AreSmall}
+use Rattle.machine_simulation.specs.Entering.{entry_turns}
+use Rattle.machine_simulation.proofs.KeptClosed.{before_small}
+use Rattle.machine_forms.specs.LinearCode.{linear_code}
+use Rattle.linear_forms.specs.Linear.{return}
 
 -- ---- call_unexpected waits for the handler
 
@@ -102,8 +106,11 @@ terminates_behind p n m e r type d kept waiting a fs st middle h =
 
 -- ---- the ABI machine
 
+few_both : (a b c d : ℕ) → a ≤ c → b ≤ d → a + b ≤ c + d
+few_both a b c d h i = omega (arith, h, i)
+
 pub asks_behind : UnexpectedBegins → (image : Image) (p : Plan) (n m e : ℕ) (r : Option ℕ) (type : ℕ) (d : Option ℕ) (kept : Installed) (waiting a : Activation) (fs : List Activation) (st middle : LinearState) (w : abi.World) (back : ℕ) → Stands p n st w back →
-    HandlerReturns p n m e r type d kept waiting a fs st middle → NamesTerminate image p → (outer : ℕ) × AsksFor image (closed p a.frame.call) m e kept a fs (came_back waiting a fs st) w outer 6 []
+    HandlerReturns p n m e r type d kept waiting a fs st middle → NamesTerminate image p → (outer : ℕ) × AsksFor image (closed p a.frame.call) m e kept a fs (came_back waiting a fs st) w outer (length (linear_code (shape p n) (return r)) + 2) []
 asks_behind begins image p n m e r type d kept waiting a fs st middle w back stood h named =
     let v : World = st.world in
     let s : State = w.hart in
@@ -115,7 +122,7 @@ asks_behind begins image p n m e r type d kept waiting a fs st middle w back sto
     let even = even_base p s.memory stood.memory.unit in
     let back_is : back ≡ stub_word p.base call_unexpected 10 = hw.waits.returns in
     let small : stub_word p.base call_unexpected 10 < 2 ^ 64 = omega (arith, stood.memory.unit.stubs.call_unexpected.0.word.below, stood.memory.unit.few) in
-    let gave = gives_back_frame p n st w back r went.value stood h.at.there h.result went.value_is (omega (arith, back_is, even)) (omega (arith, back_is, small)) in
+    let gave = comes_back p n st w back r went.value stood h.at.there h.result went.value_is (omega (arith, back_is, even)) (omega (arith, back_is, small)) in
     let ran = executes_turns image gave.steps w s gave.after refl gave.runs in
     let w1 : abi.World = ran.after in
     let memory1 : w1.hart.memory ≡ s.memory = ap (λ (u : State). u.memory) ran.hart ∙ gave.memory in
@@ -125,12 +132,13 @@ asks_behind begins image p n m e r type d kept waiting a fs st middle w back sto
     = subst (λ ps. AddressAt ps (x w1.hart sp + stopped_slot) (p.at (of_exception e))) (sym memory1) (subst (λ k. AddressAt s.memory (k + stopped_slot) (p.at (of_exception e))) (sym stack1)
     (subst (λ k. AddressAt s.memory (mid + stopped_slot) (p.at (of_exception k))) number hw.waits.stopped.there)) in
     let c = call_waits p m a fs v s.memory (mid + 80) hw.outer st.top.frame.call h.caller hw.rest in
+    let high : 0x7000_1000 ≤ mid + 80 = hw.stands.above in
     let stands : StubStands p.unit p.base call_unexpected 10 (x w1.hart sp) 80 w1.hart = record {
       pc = ap (λ (u : State). u.pc) ran.hart ∙ gave.pc ∙ back_is;
       registers = ap (λ (u : State). length u.regs) ran.hart ∙ gave.registers;
       code = subst (StubAt p.unit p.base call_unexpected) (sym memory1) stood.memory.unit.stubs.call_unexpected;
       room = subst (λ k. Room k 80 w1.hart.memory) (omega (arith, stack1))
-          (subst (Room (mid + 80 - 80) 80) (sym memory1) (room_below s.memory (mid + 80) 80 stood.memory.may (omega (arith, stood.memory.top.above)) (omega (arith, hw.stands.below)) (omega (arith, hw.stands.saved.aligned)) refl));
+          (subst (Room (mid + 80 - 80) 80) (sym memory1) (room_below s.memory (mid + 80) 80 stood.memory.may (omega (arith, high)) (omega (arith, hw.stands.below)) (omega (arith, hw.stands.saved.aligned)) refl));
     } in
     let come = begins.terminates_behind image p.unit p.base (p.at (of_exception e)) w1 stands stopped in
     let y = come.holds in
@@ -139,13 +147,14 @@ asks_behind begins image p n m e r type d kept waiting a fs st middle w back sto
     let held2 : MemoryMatches q m a.frame fs v w1.hart.memory (x w1.hart sp + 80) c.outer
     = subst (λ ps. MemoryMatches q m a.frame fs v ps (x w1.hart sp + 80) c.outer) (sym memory1) (subst (λ k. MemoryMatches q m a.frame fs v s.memory (k + 80) c.outer) (sym stack1) held1) in
     let held3 = beside_matches q m a.frame fs v w1.hart.memory y.behind.memory (x w1.hart sp + 80) c.outer (x w1.hart sp) 80 held2
-    (record { low = omega (arith, stack1, stood.memory.top.above); high = omega arith }) y.kept.beside in
+    (record { low = omega (arith, stack1, high); high = omega arith }) y.kept.beside in
+    let small_regs = before_small p n st.top.frame v s.memory (x s sp) (saved_of s) stood.kept.before stood.kept.top stood.kept.small refl in
     let r2 = runtime_stays p st.frames v w1 come.after y.kept.runtime (runtime_stays p st.frames v w w1 ran.runtime stood.runtime) in
     let out : destroyed below ≡ destroyed fs = ap (λ f. destroyed_by f waiting.frame ++ destroyed (a ∷ fs)) h.stub ∙ ap (λ ds. ds ++ destroyed fs) (destroyed_nothing p m a h.caller) in (
       c.outer,
       record {
         turns = gave.steps + come.turns;
-        few = omega (arith, gave.most, come.few);
+        few = few_both gave.steps come.turns (length (linear_code (shape p n) (return r))) 2 gave.most come.few;
         at = come.after;
         runs = turns_then image gave.steps come.turns w w1 come.after [] [] ran.turns come.runs;
         behind = y.behind;
@@ -154,6 +163,8 @@ asks_behind begins image p n m e r type d kept waiting a fs st middle w back sto
         registers = y.stands.registers;
         given = y.holds;
         memory = subst (λ k. MemoryMatches q m a.frame fs v y.behind.memory (k + 80) c.outer) (sym y.pointer) held3;
+        high = omega (arith, y.pointer, stack1, high);
+        small = subst AreSmall (sym (y.variables ∙ ap saved_of ran.hart ∙ gave.saved)) small_regs.0;
         end = omega (arith, y.pointer, stack1, stack_at p n st w back stood, ap (frame_of p.unit p.hidden) stood.runs, ap (λ gs. open_bytes p gs) h.frames);
         runtime = record {
           input = r2.input;
@@ -175,7 +186,7 @@ asks_behind begins image p n m e r type d kept waiting a fs st middle w back sto
 
 calls_behind : CallsAreMade → TerminateRuns → UnexpectedBegins → (image : Image) (p : Plan) (n c e : ℕ) (r : Option ℕ) (type : ℕ) (d : Option ℕ) (kept : Installed) (m : ℕ) (waiting a : Activation) (fs : List Activation) (st middle : LinearState) (w : abi.World) →
     Matches p st w → HandlerReturns p n c e r type d kept waiting a fs st middle → NamesTerminate image p → st.world.ending ≡ false → kept.terminate_handler ≡ Some m → p.hidden ≡ 0 → let back = came_back waiting a fs st in HandlerFits p m back →
-    let next = in_handler p m back in StepsTo (code_of p.unit) 3 st next × Shows st next [] × Reaches image 17 w [] (λ u. Matches (plan_in_handler (closed p a.frame.call) m back) next u)
+    let next = in_handler p m back in StepsTo (code_of p.unit) 3 st next × Shows st next [] × Reaches image (length (linear_code (shape p n) (return r)) + 9 + entry_turns p m) w [] (λ u. Matches (plan_in_handler (closed p a.frame.call) m back) next u)
 calls_behind made runs begins image p n c e r type d kept m waiting a fs st middle w h at named quiet some hidden fits =
     let to : LinearState = came_back waiting a fs st in
     let stood = stands_by p n st w h at.at.runs in
@@ -184,11 +195,12 @@ calls_behind made runs begins image p n c e r type d kept m waiting a fs st midd
     let asks = asks_behind begins image p n c e r type d kept waiting a fs st middle w h.back stood at named in (
       (to, back_step p n r waiting a fs st went at.stub at.place, two.0),
       (same_beside (slot_kinds p m) to.world.calls 0 [] (ending_world to.world)).items ∙ sym (append-nil st.world.items),
-      for_begins image (closed p a.frame.call) c e kept a fs to w asks.0 6 [] asks.1 made runs m quiet some hidden fits,
+      reaches_most image (length (linear_code (shape p n) (return r)) + 2 + 7 + entry_turns p m) (length (linear_code (shape p n) (return r)) + 9 + entry_turns p m) w [] (λ u. Matches (plan_in_handler (closed p a.frame.call) m to) (in_handler p m to) u) (omega arith)
+          (for_begins image (closed p a.frame.call) c e kept a fs to w asks.0 (length (linear_code (shape p n) (return r)) + 2) [] asks.1 made runs m quiet some hidden (record { taken = fits.taken; room = fits.room })),
     )
 
 aborts_behind : CallsAreMade → TerminateRuns → UnexpectedBegins → (image : Image) (pick : ℕ → ℕ) (k : ℕ) (p : Plan) (n c e : ℕ) (r : Option ℕ) (type : ℕ) (d : Option ℕ) (kept : Installed) (waiting a : Activation) (fs : List Activation) (st middle : LinearState)
-    (w : abi.World) → Matches p st w → HandlerReturns p n c e r type d kept waiting a fs st middle → NamesTerminate image p → NoneIsCalled st.world kept.terminate_handler → 14 ≤ k → BothAbort image pick k p 4 st w []
+    (w : abi.World) → Matches p st w → HandlerReturns p n c e r type d kept waiting a fs st middle → NamesTerminate image p → NoneIsCalled st.world kept.terminate_handler → length (linear_code (shape p n) (return r)) + 10 ≤ k → BothAbort image pick k p 4 st w []
 aborts_behind made runs begins image pick k p n c e r type d kept waiting a fs st middle w h at named no_one many =
     let to : LinearState = came_back waiting a fs st in
     let stood = stands_by p n st w h at.at.runs in
@@ -199,7 +211,7 @@ aborts_behind made runs begins image pick k p n c e r type d kept waiting a fs s
       last = ends.0;
       linear = exec_on (code_of p.unit) 1 3 st to _ (to, back_step p n r waiting a fs st went at.stub at.place, refl) ends.1;
       shown = ends.2;
-      run = for_aborts image (closed p a.frame.call) c e kept a fs to w asks.0 6 [] asks.1 made runs pick k no_one many;
+      run = for_aborts image (closed p a.frame.call) c e kept a fs to w asks.0 (length (linear_code (shape p n) (return r)) + 2) [] asks.1 made runs pick k no_one (omega (arith, many));
     }
 
 pub unexpected_terminates : CallsAreMade → TerminateRuns → UnexpectedBegins → UnexpectedTerminates

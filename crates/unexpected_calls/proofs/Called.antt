@@ -27,12 +27,16 @@ use Rattle.machine_simulation.specs.Calls.{HeldBy}
 use Rattle.machine_simulation.specs.Exceptions.{addresses_of, exceptions_in, kept_by, destroyed}
 use Rattle.machine_simulation.specs.Matches.{UnitStands, MemoryMatches}
 use Rattle.machine_simulation.proofs.Words.{operation_at, even_base, word_below}
-use Rattle.machine_simulation.proofs.Matching.{Stands, runtime_stays}
+use Rattle.machine_simulation.proofs.Matching.{Stands, runtime_stays, kept_at}
 use Rattle.machine_simulation.proofs.Passing.{Passes, word_passed, address_passed}
 use Rattle.machine_exceptions.specs.Unexpected.{AtUnexpected, CallsUnexpected}
 use Rattle.machine_exceptions.proofs.Ecalls.{object_loaded}
 use Rattle.machine_exceptions.proofs.Finding.{live_header}
 use Rattle.machine_exceptions.proofs.Stopped.{SelectorPassed, selector_passed}
+use Rattle.machine_pieces.specs.Keeping.{saved_of}
+use Rattle.machine_simulation.proofs.Floors.{caller_above}
+use Rattle.machine_simulation.proofs.Freeing.{registers_above}
+use Rattle.machine_pieces.proofs.Keeping.{same_saved}
 
 -- the function is near to every word of the unit
 unexpected_reached : (p : Plan) (n : ℕ) (memory : List Part) → UnitStands p memory → Reached (setting p n).ground (entry call_unexpected) (stub_word p.base call_unexpected 0)
@@ -51,6 +55,7 @@ called image p n o s e z st w back h at =
     let here : ℕ = first_word p n + op_word (routine p n) st.top.place in
     let h0 : State = w.hart in
     let v : World = st.world in
+    let high : 0x7000_1000 ≤ x h0 sp = caller_above p n st.top.place st.top.frame v h0.memory (x h0 sp) back (unexpected o s) at.there refl h.memory.top in
     let own = operation_at p h0.memory n st.top.place (unexpected o s) h.memory.unit h.memory.top.known at.there in
     let one : List Piece = slot_loaded (shape p n) a0 o ∷ passed a0 0 ∷ [] in
     let two : List Piece = slot_loaded (shape p n) a0 s ∷ passed a0 1 ∷ [] in
@@ -63,11 +68,11 @@ called image p n o s e z st w back h at =
     let word : Word = address_word (object_address e) in
     let alive : (b : Address) → address_in word ≡ Some b → HeldBy p v st.top.frame.call b.base = λ b is. let same : object_address e ≡ b = cc is in subst (λ (c : Address). HeldBy p v st.top.frame.call c.base) same made in
     let loaded = object_loaded p n st w back here o e h at.object own.code.0 h.pc in
-    let first : Passes p n st.top.frame st.frames v back here 2 0 (word ∷ []) h0 = word_passed p n st.top.frame st.frames v back here 1 0 word h0 loaded (address_passed (setting p n) (object_address e) small) alive h.memory (omega arith)
-    (omega (arith, h.memory.top.above)) own.code.1.0 in
+    let first : Passes p n st.top.frame st.frames v back here 2 0 (word ∷ []) h0 = word_passed p n st.top.frame st.frames v back here 1 0 word a0 h0 loaded.goes loaded.is (address_passed (setting p n) (object_address e) small) alive h.memory (omega arith)
+    (omega (arith, high)) own.code.1.0 in
     let s1 : State = first.after in
     let memory1 : MemoryMatches p n st.top.frame st.frames v s1.memory (x s1 sp) back = subst (λ a. MemoryMatches p n st.top.frame st.frames v s1.memory a back) (sym first.stack) first.memory in
-    let sel : SelectorPassed p n st.top.frame st.frames v back (here + 2) z s1 = selector_passed p n st.top.frame st.frames v back (here + 2) s z s1 memory1 at.word at.selector first.registers first.pc
+    let sel : SelectorPassed p n st.top.frame st.frames v back (here + 2) z s1 = selector_passed p n st.top.frame st.frames v back (here + 2) s z s1 memory1 at.word at.selector (omega (arith, high, first.stack)) first.registers first.pc
     (pieces_still h0.memory s1.memory g (here + 2) two first.written parts2.0) in
     let second = sel.passes in
     let s2 : State = second.after in
@@ -84,10 +89,12 @@ called image p n o s e z st w back h at =
     let stack1 : x s1 sp ≡ x h0 sp = first.stack in
     let stack2 : x s2 sp ≡ x h0 sp = second.stack ∙ first.stack in
     let stack : x ran.after.hart sp ≡ x h0 sp = same sp ∙ call.kept sp (λ d. absurd (omega (arith, d))) ∙ stack2 in
+    let saved : saved_of ran.after.hart ≡ saved_of h0
+    = ap saved_of ran.hart ∙ same_saved s2 t (λ r k. call.kept r (λ d. absurd (omega (arith, k.above, d)))) ∙ second.saved ∙ first.saved in
     let below = word_below p h0.memory n st.top.place _ h.memory.unit h.memory.top.known own in
     let kept1 : AddressAt s1.memory (x h0 sp - 8) (p.at (of_exception e) + 0) = first.passed.0 in
     let kept2 : AddressAt s2.memory (x h0 sp - 8) (p.at (of_exception e) + 0)
-    = record { aligned = kept1.aligned; below = kept1.below; holds = second.above (x h0 sp - 8) 8 (p.at (of_exception e) + 0) (omega (arith, stack1, h.memory.top.above)) kept1.holds } in
+    = record { aligned = kept1.aligned; below = kept1.below; holds = second.above (x h0 sp - 8) 8 (p.at (of_exception e) + 0) (omega (arith, stack1, high)) kept1.holds } in
     let held2 : MemoryMatches p n st.top.frame st.frames v s2.memory (x h0 sp) back = subst (λ a. MemoryMatches p n st.top.frame st.frames v s2.memory a back) stack1 second.memory in
     record {
       turns = steps;
@@ -104,10 +111,13 @@ called image p n o s e z st w back h at =
           returns_to = same ra ∙ call.back ∙ ap (address g) (omega arith);
           memory = subst (λ ps. MemoryMatches p n st.top.frame st.frames v ps (x ran.after.hart sp) back) (sym memory)
               (subst (λ a. MemoryMatches p n st.top.frame st.frames v s2.memory a back) (sym stack) held2);
+          kept = kept_at p n st (x h0 sp) s2.memory (saved_of h0) ran.after.hart memory stack saved
+              (registers_above p n st.top.frame st.frames v h0.memory s2.memory (x h0 sp) back (saved_of h0) h.memory
+              (λ b k c from there. second.above b k c (omega (arith, from, stack1)) (first.above b k c (omega (arith, from)) there)) h.kept);
           runtime = runtime_stays p st.frames v w ran.after ran.runtime h.runtime;
           stopped = subst (λ ps. AddressAt ps (x ran.after.hart sp - 80 + 72) (p.at (of_exception e))) (sym memory)
-              (subst (λ a. AddressAt s2.memory a (p.at (of_exception e))) (omega (arith, stack, h.memory.top.above)) (subst (AddressAt s2.memory (x h0 sp - 8)) (omega arith) kept2));
-          list = subst (λ ps. IntAt ps (x ran.after.hart sp - 80 + 64) z) (sym memory) (subst (λ a. IntAt s2.memory a z) (omega (arith, stack, stack1, h.memory.top.above)) sel.selector);
+              (subst (λ a. AddressAt s2.memory a (p.at (of_exception e))) (omega (arith, stack, high)) (subst (AddressAt s2.memory (x h0 sp - 8)) (omega arith) kept2));
+          list = subst (λ ps. IntAt ps (x ran.after.hart sp - 80 + 64) z) (sym memory) (subst (λ a. IntAt s2.memory a z) (omega (arith, stack, stack1, high)) sel.selector);
         };
       };
     }

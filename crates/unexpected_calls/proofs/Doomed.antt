@@ -41,7 +41,7 @@ use Rattle.image_tables.specs.Functions.{records_end}
 use Rattle.raise_simulation.specs.Raises.{RaisesAgree}
 use Rattle.machine_simulation.specs.Plan.{Plan, slot_kinds}
 use Rattle.machine_simulation.specs.Exceptions.{Addresses, addresses_of, exceptions_in, kept_by, destroyed, live_in, HasHeader, HeaderIs, IsFunction}
-use Rattle.machine_simulation.specs.Matches.{RuntimeMatches}
+use Rattle.machine_simulation.specs.Matches.{RuntimeMatches, Matches}
 use Rattle.machine_simulation.proofs.Holding.{same_number}
 use Rattle.machine_simulation.proofs.Given.{same_beside}
 use Rattle.machine_exceptions.specs.Leaves.{StepsTo}
@@ -53,14 +53,14 @@ use Rattle.machine_exceptions.proofs.Freed.{slots_alike}
 use Rattle.machine_raises.specs.Resumes.{TypeIsThere}
 use Rattle.machine_raises.proofs.Onward.{thrown_known}
 use Rattle.machine_raises.proofs.Rethrowing.{newest_kept}
-use Rattle.raise_ends.specs.Ends.{RunEnds, NoneIsCalled, unless_ending, LinearEnds}
+use Rattle.raise_ends.specs.Ends.{RunEnds, NoneIsCalled, unless_ending, LinearEnds, plan_in_handler}
 use Rattle.raise_ends.proofs.Steps.{over_at_once, over_without, handler_in_two}
 use Rattle.raise_ends.proofs.Again.{again_world, again_runtime}
 use Rattle.raise_ends.proofs.Asking.{lost_as}
 use Rattle.raise_ends.proofs.Aborting.{no_handler, shown_again, shown_first}
 use Rattle.raise_ends.proofs.Comes.{aborts_again}
 use Rattle.runtime_invariant.specs.Memory.{RunsKeepMemory}
-use Rattle.stub_landings.specs.Rests.{StubMemory}
+use Rattle.stub_landings.specs.Rests.{StubMemory, StubRegisters}
 use Rattle.stub_landings.specs.OwnCalls.{AtOwnCall}
 use Rattle.stub_landings.specs.StubStacks.{StubStacksStand}
 use Rattle.unexpected_calls.specs.Lists.{ListsAnswer}
@@ -70,10 +70,12 @@ use Rattle.unexpected_calls.specs.Doomed.{NothingStops, doomed_in, AllowedIsDoom
 use Rattle.unexpected_calls.proofs.Steps.{steps_on, exec_on}
 use Rattle.unexpected_calls.proofs.OverCall.{over_call, over_alike}
 use Rattle.unexpected_calls.proofs.StackEnd.{stub_end}
-use Rattle.unexpected_calls.proofs.Sent.{Asks, asks_aborts, asks_begins, then_reaches, then_ends}
+use Rattle.unexpected_calls.proofs.Sent.{Asks, asks_aborts, asks_begins, then_reaches, then_ends, reaches_most}
 use Rattle.unexpected_calls.proofs.Lost.{own_lost, rethrows_so}
 use Rattle.unexpected_calls.proofs.CheckSteps.{steps_to_allowed}
 use Rattle.unexpected_calls.proofs.Allowed.{AtRethrow, at_rethrow}
+use Rattle.machine_pieces.specs.Keeping.{saved_of}
+use Rattle.machine_simulation.specs.Entering.{entry_turns}
 
 -- ---- the step
 
@@ -181,8 +183,9 @@ doom_asks i p e d type destructor kept j st w h c l named quiet =
     let q = h.called in
     let own = c.call in
     let memory = own.inside.memory in
-    let over = over_alike p q.number q.caller q.others v (entered_doomed e v) c.behind.memory (x c.behind sp) own.back refl refl (same_number v)
-    (over_call p q.number q.caller q.others v c.behind.memory (x c.behind sp) own.back q.compiled (subst (λ gs. StubMemory p call_unexpected gs v c.behind.memory (x c.behind sp) own.back) q.frames memory)) in
+    let over = over_alike p q.number q.caller q.others v (entered_doomed e v) c.behind.memory (x c.behind sp) own.back (saved_of c.behind) refl refl (same_number v)
+    (over_call p q.number q.caller q.others v c.behind.memory (x c.behind sp) own.back (saved_of c.behind) q.compiled (subst (λ gs. StubMemory p call_unexpected gs v c.behind.memory (x c.behind sp) own.back) q.frames memory)
+    (subst (λ gs. StubRegisters p call_unexpected gs v c.behind.memory (x c.behind sp) (saved_of c.behind)) q.frames own.inside.kept)) in
     let r = l.runtime in (
       over.outer,
       record {
@@ -199,6 +202,8 @@ doom_asks i p e d type destructor kept j st w h c l named quiet =
         unwinding = l.unwinding;
         shown = l.shown;
         memory = over.matches;
+        high = over.stands.above;
+        small = over.registers.small;
         end = omega (arith, stub_end p st.frames v c.behind.memory (x c.behind sp) own.back memory);
         runtime = record { input = r.input; replies = r.replies; last_number = r.last_number; terminating = r.terminating; exceptions = r.exceptions; plan = r.plan };
         named = named;
@@ -226,7 +231,8 @@ allowed_is_doomed made runs checks answers keeps lists stands agree = record {
       let rest = asks_begins (program_of i).image p h.called.number h.called.caller h.called.others waiting kept.terminate_handler c.at asks.0 (Enter e ∷ []) asks.1 made runs m quiet some hidden fits in (
         steps_on (code_of p.unit) 4 2 st raising (in_handler p m waiting) (steps_to_allowed i p e d type destructor kept j st w h says) two.0,
         (same_beside (slot_kinds p m) waiting.world.calls 0 [] (ending_world waiting.world)).items ∙ append_assoc st.world.items (Enter e ∷ []) (Enter e ∷ []),
-        then_reaches (program_of i).image c.turns 11 w c.at (Enter e ∷ []) (Enter e ∷ []) _ 18 c.runs c.few rest,
+        reaches_most (program_of i).image (18 + (7 + entry_turns p m)) (25 + entry_turns p m) w (Enter e ∷ Enter e ∷ []) (λ u. Matches (plan_in_handler p m waiting) (in_handler p m waiting) u) (omega arith)
+            (then_reaches (program_of i).image c.turns (7 + entry_turns p m) w c.at (Enter e ∷ []) (Enter e ∷ []) (λ u. Matches (plan_in_handler p m waiting) (in_handler p m waiting) u) 18 c.runs c.few rest),
       );
   aborts = λ i pick k p e d type destructor kept j st w h says none named no_one many.
       let raising : State = checked_state 10 e (pos 0) st in

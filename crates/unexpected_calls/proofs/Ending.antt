@@ -12,6 +12,7 @@ use Rattle.machine_stubs.specs.Calls.{CallsAreMade}
 use Rattle.machine_stubs.specs.Terminate.{TerminateRuns}
 use Rattle.machine_simulation.specs.Plan.{Plan, slot_kinds}
 use Rattle.machine_simulation.specs.Matches.{Matches}
+use Rattle.machine_simulation.specs.Entering.{entry_turns}
 use Rattle.machine_simulation.specs.Objects.{Shows}
 use Rattle.machine_simulation.proofs.Given.{same_beside}
 use Rattle.machine_exceptions.specs.Leaves.{StepsTo}
@@ -25,21 +26,21 @@ use Rattle.stack_bounds.specs.Overflow.{FunctionsOverflow}
 use Rattle.unexpected_calls.specs.Terminates.{BothAbort}
 use Rattle.unexpected_calls.specs.Overflow.{TerminateLacksRoom}
 use Rattle.unexpected_calls.proofs.Steps.{steps_on, exec_on}
-use Rattle.unexpected_calls.proofs.Sent.{Asks, asks_aborts, asks_again, asks_begins, asks_overflows, then_reaches, then_ends}
+use Rattle.unexpected_calls.proofs.Sent.{Asks, asks_aborts, asks_again, asks_begins, asks_overflows, reaches_most, then_reaches, then_ends}
 use Rattle.unexpected_calls.proofs.Without.{linear_ends}
 
 module _ (made : CallsAreMade) (runs : TerminateRuns) (image : Image) (p : Plan) (n count turns most : ℕ) (caller : Activation) (others : List Activation) (st waiting : State) (h : Option ℕ) (w at : abi.World) (back : ℕ) (items : List Item)
     (steps : StepsTo (code_of p.unit) count st waiting) (ends : step (code_of p.unit) waiting ≡ terminated h (waiting.top ∷ waiting.frames) waiting.world) (shown : waiting.world.items ≡ st.world.items ++ items) (front : Turns image turns w at items) (few : turns ≤ most)
     (c : Asks image p n caller others waiting h at back []) where
   pub then_handler : (m : ℕ) → waiting.world.ending ≡ false → h ≡ Some m → p.hidden ≡ 0 → HandlerFits p m waiting →
-      StepsTo (code_of p.unit) (count + 2) st (in_handler p m waiting) × Shows st (in_handler p m waiting) items × Reaches image (most + 11) w items (λ u. Matches (plan_in_handler p m waiting) (in_handler p m waiting) u)
+      StepsTo (code_of p.unit) (count + 2) st (in_handler p m waiting) × Shows st (in_handler p m waiting) items × Reaches image (most + 7 + entry_turns p m) w items (λ u. Matches (plan_in_handler p m waiting) (in_handler p m waiting) u)
   then_handler m quiet some hidden fits =
       let two = handler_in_two p m waiting waiting h [] ends quiet some (sym (append-nil waiting.world.items)) in
       let P : abi.World → Type 0 = λ u. Matches (plan_in_handler p m waiting) (in_handler p m waiting) u in
       let rest = asks_begins image p n caller others waiting h at back [] c made runs m quiet some hidden fits in (
         steps_on (code_of p.unit) count 2 st waiting (in_handler p m waiting) steps two.0,
         (same_beside (slot_kinds p m) waiting.world.calls 0 [] (ending_world waiting.world)).items ∙ shown,
-        subst (λ is. Reaches image (most + 11) w is P) (append-nil items) (then_reaches image turns 11 w at items [] P most front few rest),
+        subst (λ is. Reaches image (most + 7 + entry_turns p m) w is P) (append-nil items) (reaches_most image (most + (7 + entry_turns p m)) (most + 7 + entry_turns p m) w (items ++ []) P (omega arith) (then_reaches image turns (7 + entry_turns p m) w at items [] P most front few rest)),
       )
 
   pub then_abort : (pick : ℕ → ℕ) (k : ℕ) → NoneIsCalled waiting.world h → most + 8 ≤ k → BothAbort image pick k p (count + 3) st w items

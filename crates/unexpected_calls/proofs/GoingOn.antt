@@ -1,5 +1,5 @@
 -- What call_unexpected lets out goes on.
-use Rattle.std.proofs.Common.{◌≡◌, ◌∙◌, refl, sym, ap, subst, arith, ℕ, ◌+◌, ◌≤◌, ℤ, List, [], ◌∷◌, Some, None, inl, inr}
+use Rattle.std.proofs.Common.{◌≡◌, ◌∙◌, refl, sym, ap, subst, arith, ℕ, ◌+◌, ◌≤◌, ℤ, List, [], Some, None, inl, inr}
 use Rattle.rv64_isa.specs.State as hart
 use Rattle.rv64_isa.specs.State.{Part}
 use Rattle.rv64_isa.specs.Step.{x}
@@ -23,15 +23,16 @@ use Rattle.machine_simulation.proofs.Matching.{runtime_stays}
 use Rattle.machine_raises.specs.Stacks.{IsRunning}
 use Rattle.machine_raises.specs.Throws.{AimedAt}
 use Rattle.runtime_invariant.specs.Memory.{RunsKeepMemory}
-use Rattle.stub_landings.specs.Rests.{StubMemory, LeavesOn}
+use Rattle.stub_landings.specs.Rests.{StubMemory, LeavesOn, StubRegisters}
 use Rattle.stub_landings.specs.OwnCalls.{AtOwnCall, GoesOnInOwn}
 use Rattle.stub_landings.specs.OwnRaises.{OwnResumeAsked, OwnResumesLand, OwnForcedLands}
 use Rattle.stub_landings.proofs.Own.{unexpected_resumes}
 use Rattle.unexpected_calls.specs.Leaves.{CalledByCompiled}
 use Rattle.unexpected_calls.specs.Goes.{UnexpectedGoesOn}
-use Rattle.unexpected_calls.proofs.OverCall.{OverCall, over_stub}
+use Rattle.unexpected_calls.proofs.OverCall.{over_stub, over_registers, over_at}
 use Rattle.unexpected_calls.proofs.Leaving.{rests_over}
 use Rattle.unexpected_calls.proofs.Thrown.{running_then, running_behind, without_own}
+use Rattle.machine_pieces.specs.Keeping.{saved_of}
 
 -- ---- the ECALL
 
@@ -56,7 +57,7 @@ at_resume ends keeps i p a st w h c running there =
     let o = rests_over p 57 st w c h.rests in
     let come = ends.resumes image p.unit p.base a w o.stands there in
     let r = come.holds in
-    let over = subst (λ ps. OverCall p c.number c.caller c.others v ps low back) (sym r.holds.0) o.over in
+    let over = over_at p c.number c.caller c.others v w.hart.memory low back (saved_of w.hart) r.behind r.holds.0 r.pointer r.variables o.over in
     record {
       turns = come.turns;
       few = come.few;
@@ -74,7 +75,9 @@ at_resume ends keeps i p a st w h c running there =
           registers = r.stands.registers;
           goes_on = subst (λ k. GoesOnInOwn p call_unexpected k r.behind.pc) (sym h.there) (unexpected_resumes p r.behind.pc r.stands.pc);
           memory = subst (λ gs. StubMemory p call_unexpected gs v r.behind.memory (x r.behind sp) back) (sym c.frames)
-              (subst (λ b. StubMemory p call_unexpected (c.caller ∷ c.others) v r.behind.memory b back) (sym r.pointer) (over_stub p c.number c.caller c.others v r.behind.memory low back c.compiled over));
+              (over_stub p c.number c.caller c.others v r.behind.memory (x r.behind sp) back (saved_of r.behind) c.compiled over);
+          kept = subst (λ gs. StubRegisters p call_unexpected gs v r.behind.memory (x r.behind sp) (saved_of r.behind)) (sym c.frames)
+              (over_registers p c.number c.caller c.others v r.behind.memory (x r.behind sp) back (saved_of r.behind) c.compiled over);
         };
         runtime = runtime_stays p st.frames v w come.after r.kept.runtime (without_own p st w h.rests.runs h.rests.runtime);
       };

@@ -24,22 +24,24 @@ use Rattle.machine_simulation.specs.Matches.{RuntimeMatches}
 use Rattle.machine_simulation.proofs.Matching.{runtime_stays}
 use Rattle.machine_exceptions.proofs.EndCatching.{room_below}
 use Rattle.machine_raises.specs.Pads.{PadGets}
-use Rattle.stub_landings.specs.Rests.{StubMemory, StubRests, ChecksThrown, LeavesBoth, LeavesOn}
+use Rattle.stub_landings.specs.Rests.{StubMemory, StubRests, ChecksThrown, LeavesBoth, LeavesOn, StubRegisters}
 use Rattle.unexpected_calls.specs.Leaves.{CalledByCompiled, leaving_at, in_end_catch, AtEndCatch, CallsEndCatch, UnexpectedLeaves}
-use Rattle.unexpected_calls.proofs.OverCall.{OverCall, over_call, over_stub, over_beside}
+use Rattle.unexpected_calls.proofs.OverCall.{OverCall, over_call, over_stub, over_beside, over_registers, over_at}
+use Rattle.machine_pieces.specs.Keeping.{saved_of}
 
 -- ---- a hart that rests in call_unexpected
 
 -- it stands there, above a compiled call
 pub record Over (p : Plan) (k back : ℕ) (st : State) (w : abi.World) (c : CalledByCompiled st) : Type 0 where
   pub stands : StubStands p.unit p.base call_unexpected k (x w.hart sp) 80 w.hart
-  pub over : OverCall p c.number c.caller c.others st.world w.hart.memory (x w.hart sp) back
+  pub over : OverCall p c.number c.caller c.others st.world w.hart.memory (x w.hart sp) back (saved_of w.hart)
 
 pub rests_over : (p : Plan) (k : ℕ) (st : State) (w : abi.World) (c : CalledByCompiled st) → (h : StubRests p call_unexpected k st w) → Over p k h.back st w c
 rests_over p k st w c h =
     let s = w.hart in
     let m = h.memory in
-    let room = room_below s.memory (x s sp + 80) 80 m.may (omega (arith, m.stands.above)) (omega (arith, m.stands.below)) (omega (arith, m.stands.saved.aligned)) refl in
+    let floor = m.stands.above in
+    let room = room_below s.memory (x s sp + 80) 80 m.may (omega (arith, floor)) (omega (arith, m.stands.below)) (omega (arith, m.stands.saved.aligned)) refl in
     record {
       stands = record {
         pc = h.pc;
@@ -47,7 +49,8 @@ rests_over p k st w c h =
         code = m.unit.stubs.call_unexpected;
         room = subst (λ a. Room a 80 s.memory) (omega arith) room;
       };
-      over = over_call p c.number c.caller c.others st.world s.memory (x s sp) h.back c.compiled (subst (λ gs. StubMemory p call_unexpected gs st.world s.memory (x s sp) h.back) c.frames m);
+      over = over_call p c.number c.caller c.others st.world s.memory (x s sp) h.back (saved_of s) c.compiled (subst (λ gs. StubMemory p call_unexpected gs st.world s.memory (x s sp) h.back) c.frames m)
+          (subst (λ gs. StubRegisters p call_unexpected gs st.world s.memory (x s sp) (saved_of s)) c.frames h.kept);
     }
 
 -- what a pad got, as it is kept
@@ -77,7 +80,7 @@ waiting_same p place st v w runs r = record {
 
 end_catch_begins : (image : Image) (p : Plan) (place k ret : ℕ) (st : State) (w : abi.World) (c : CalledByCompiled st) (r : StubRests p call_unexpected k st w) (u : abi.World) → (a : AtAddress (stub_word p.base end_catch 0) (x w.hart sp) (x w.hart sp) 80 w (λ t. x t ra ≡ ret) u) →
     ((place ≡ 15) × (ret ≡ stub_word p.base call_unexpected 55)) ⊎ ((place ≡ 16) × (ret ≡ stub_word p.base call_unexpected 57)) →
-    OverCall p c.number c.caller c.others st.world u.hart.memory (x w.hart sp) r.back → KeepsFlying p (st.top.frame.slots 4) st.world u.hart.memory (x w.hart sp + thrown_slot) → AtEndCatch p (leaving_at place st) st.frames (in_end_catch place st) u × SameRuntime w u
+    OverCall p c.number c.caller c.others st.world u.hart.memory (x w.hart sp) r.back (saved_of w.hart) → KeepsFlying p (st.top.frame.slots 4) st.world u.hart.memory (x w.hart sp + thrown_slot) → AtEndCatch p (leaving_at place st) st.frames (in_end_catch place st) u × SameRuntime w u
 end_catch_begins image p place k ret st w c r u a which over kept = (
   record {
     back = r.back;
@@ -87,12 +90,15 @@ end_catch_begins image p place k ret st w c r u a which over kept = (
     registers = a.registers;
     pc = a.there;
     memory = subst (λ gs. StubMemory p call_unexpected gs st.world u.hart.memory (x u.hart sp) r.back) (sym c.frames)
-        (subst (λ b. StubMemory p call_unexpected (c.caller ∷ c.others) st.world u.hart.memory b r.back) (sym a.pointer) (over_stub p c.number c.caller c.others st.world u.hart.memory (x w.hart sp) r.back c.compiled over));
+        (subst (λ b. StubMemory p call_unexpected (c.caller ∷ c.others) st.world u.hart.memory b r.back) (sym a.pointer) (over_stub p c.number c.caller c.others st.world u.hart.memory (x w.hart sp) r.back (saved_of w.hart) c.compiled over));
     waits = record {
       callee = refl;
       returns = returns which;
       thrown = subst (λ b. KeepsFlying p (st.top.frame.slots 4) st.world u.hart.memory (b + thrown_slot)) (sym a.pointer) kept;
     };
+    kept = subst (λ gs. StubRegisters p call_unexpected gs st.world u.hart.memory (x u.hart sp) (saved_of u.hart)) (sym c.frames)
+        (over_registers p c.number c.caller c.others st.world u.hart.memory (x u.hart sp) r.back (saved_of u.hart) c.compiled
+        (over_at p c.number c.caller c.others st.world u.hart.memory (x w.hart sp) r.back (saved_of w.hart) u.hart refl a.pointer a.variables over));
     runtime = runtime_stays p (leaving_at place st ∷ st.frames) st.world w u a.kept.runtime (waiting_same p place st st.world w r.runs r.runtime);
   },
   a.kept.runtime,
@@ -141,7 +147,7 @@ canceled checks image p st w h c zero =
     let none : x w.hart a1 % 2 ^ 32 ≡ 0 = ap (λ k. k % 2 ^ 32) selector in
     let come = checks.leaves_canceled image p.unit p.base (x w.hart a0) w h.rests.memory.unit.few o.stands refl g.small none in
     let a = come.holds in
-    let over = over_beside p c.number c.caller c.others st.world w.hart.memory come.after.hart.memory (x w.hart sp) h.rests.back (x w.hart sp + 32) 16 o.over (omega arith) (omega arith) a.holds.2 in
+    let over = over_beside p c.number c.caller c.others st.world w.hart.memory come.after.hart.memory (x w.hart sp) h.rests.back (x w.hart sp + 32) 16 (saved_of w.hart) o.over (omega arith) (omega arith) a.holds.2 in
     record {
       linear = (record { top = leaving_at 16 st; frames = st.frames; world = st.world }, filter_step p st h.rests.runs h.place zero, (in_end_catch 16 st, refl, refl));
       machine = record {
@@ -150,7 +156,7 @@ canceled checks image p st w h c zero =
         after = come.after;
         runs = come.runs;
         holds = end_catch_begins image p 16 13 (stub_word p.base call_unexpected 57) st w c h.rests come.after
-            (record { there = a.there; registers = a.registers; pointer = a.pointer; kept = a.kept; holds = a.holds.0 }) (inr (refl, refl)) over (g.kept come.after.hart.memory (x w.hart sp + thrown_slot) a.holds.1);
+            (record { there = a.there; registers = a.registers; pointer = a.pointer; variables = a.variables; kept = a.kept; holds = a.holds.0 }) (inr (refl, refl)) over (g.kept come.after.hart.memory (x w.hart sp + thrown_slot) a.holds.1);
       };
     }
 
@@ -160,7 +166,7 @@ both ends image p st w h c =
     let g = gets_kept p st.world (st.top.frame.slots 4) (x w.hart a0) h.gets in
     let come = ends.leaves_the_thrown image p.unit p.base (x w.hart a0) w h.rests.memory.unit.few o.stands refl g.small in
     let a = come.holds in
-    let over = over_beside p c.number c.caller c.others st.world w.hart.memory come.after.hart.memory (x w.hart sp) h.rests.back (x w.hart sp + 32) 16 o.over (omega arith) (omega arith) a.holds.2 in
+    let over = over_beside p c.number c.caller c.others st.world w.hart.memory come.after.hart.memory (x w.hart sp) h.rests.back (x w.hart sp + 32) 16 (saved_of w.hart) o.over (omega arith) (omega arith) a.holds.2 in
     record {
       linear = (in_end_catch 15 st, leave_both p st h.rests.runs h.place, refl);
       machine = record {
@@ -169,7 +175,7 @@ both ends image p st w h c =
         after = come.after;
         runs = come.runs;
         holds = end_catch_begins image p 15 51 (stub_word p.base call_unexpected 55) st w c h.rests come.after
-            (record { there = a.there; registers = a.registers; pointer = a.pointer; kept = a.kept; holds = a.holds.0 }) (inl (refl, refl)) over (g.kept come.after.hart.memory (x w.hart sp + thrown_slot) a.holds.1);
+            (record { there = a.there; registers = a.registers; pointer = a.pointer; variables = a.variables; kept = a.kept; holds = a.holds.0 }) (inl (refl, refl)) over (g.kept come.after.hart.memory (x w.hart sp + thrown_slot) a.holds.1);
       };
     }
 
@@ -187,8 +193,8 @@ second ends image p st w h c =
         after = come.after;
         runs = come.runs;
         holds = end_catch_begins image p 16 55 (stub_word p.base call_unexpected 57) st w c h.rests come.after
-            (record { there = a.there; registers = a.registers; pointer = a.pointer; kept = a.kept; holds = a.holds.0 }) (inr (refl, refl))
-            (subst (λ ps. OverCall p c.number c.caller c.others st.world ps (x w.hart sp) h.rests.back) (sym same) o.over)
+            (record { there = a.there; registers = a.registers; pointer = a.pointer; variables = a.variables; kept = a.kept; holds = a.holds.0 }) (inr (refl, refl))
+            (subst (λ ps. OverCall p c.number c.caller c.others st.world ps (x w.hart sp) h.rests.back (saved_of w.hart)) (sym same) o.over)
             (subst (λ ps. KeepsFlying p (st.top.frame.slots 4) st.world ps (x w.hart sp + thrown_slot)) (sym same) h.thrown);
       };
     }

@@ -54,16 +54,17 @@ overflows made begins over image pick k p n o s e z type d kept m st w h at has 
     let come = begins.calls_the_handler image p.unit p.base first (p.tables n) w3 en.stands (en.handler ∙ is.0) (λ zero. absurd (omega (arith, zero))) (omega (arith, even)) (omega (arith, code.word.below)) en.table at.near in
     let w4 : abi.World = come.after in
     let ad = come.holds in
-    let high : 0x7000_1000 ≤ low + 80 = en.matches.top.above in
+    let high : 0x7000_1000 ≤ low + 80 = en.high in
     let held = beside_matches p n st.top.frame st.frames ve w3.hart.memory w4.hart.memory (low + 80) h.back low 80 en.matches (record { low = omega (arith, high); high = omega arith }) ad.kept.beside in
     let frame_is : FrameIs (function p m) = held.unit.frames m known in
     let finds : FindsNoRoom p m w4 = record {
       known = known;
+      looks = lacks.looks;
       registers = ad.registers;
       pc = ad.there;
       aligned = omega (arith, ad.pointer, en.matches.top.saved.aligned);
       above = omega (arith, ad.pointer, high, frame_is.small);
-      short = omega (arith, ad.pointer, en.end, lacks);
+      short = omega (arith, ad.pointer, en.end, lacks.lacks);
       below = omega (arith, ad.pointer, en.matches.top.below);
       unit = held.unit;
       may = held.may;

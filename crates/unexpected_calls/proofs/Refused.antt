@@ -50,6 +50,7 @@ use Rattle.unexpected_calls.proofs.Leaving.{rests_over, selector_held}
 use Rattle.unexpected_calls.proofs.Thrown.{gets_flying, without_own, thrown_checked}
 use Rattle.unexpected_calls.proofs.CheckSteps.{goes_on, number_is, steps_to_bad}
 use Rattle.unexpected_calls.proofs.BadMade.{AtMake, allocate_is, at_make}
+use Rattle.machine_pieces.specs.Keeping.{AreSmall}
 
 -- ---- a foreign exception while another is handled
 
@@ -85,7 +86,8 @@ at_enter checks image p e d st w h named =
     let come = checks.enters image p.unit p.base (x w.hart a0) w o.stands refl gets.1 (λ zero. absurd (omega (arith, zero, selector))) in
     let r = come.holds in
     let run = runtime_stays p st.frames v w come.after r.kept.runtime (without_own p st w h.rests.rests.runs h.rests.rests.runtime) in
-    let held = beside_matches p c.number c.caller.frame c.others v w.hart.memory r.behind.memory (low + 80) o.over.outer low 80 o.over.matches (record { low = o.over.stands.above; high = omega arith }) r.kept.beside in
+    let floor = o.over.stands.above in
+    let held = beside_matches p c.number c.caller.frame c.others v w.hart.memory r.behind.memory (low + 80) o.over.outer low 80 o.over.matches (record { low = omega (arith, floor); high = omega arith }) r.kept.beside in
     record {
       caller = c.caller;
       others = c.others;
@@ -108,6 +110,8 @@ at_enter checks image p e d st w h named =
         unwinding = refl;
         shown = refl;
         memory = subst (λ a. MemoryMatches p c.number c.caller.frame c.others v r.behind.memory (a + 80) o.over.outer) (sym r.pointer) held;
+        high = omega (arith, r.pointer, floor);
+        small = subst AreSmall (sym r.variables) o.over.registers.small;
         end = omega (arith, r.pointer, stub_end p st.frames v w.hart.memory low h.rests.rests.back h.rests.rests.memory);
         runtime = record { input = run.input; replies = run.replies; last_number = run.last_number; terminating = run.terminating; exceptions = run.exceptions; plan = run.plan };
         named = named;
@@ -160,6 +164,8 @@ full_asks i p e d type destructor kept j st w h full named c =
       unwinding = refl;
       shown = refl;
       memory = c.over.matches;
+      high = c.over.stands.above;
+      small = c.over.registers.small;
       end = omega (arith, c.pointer, stub_end p st.frames st.world w.hart.memory (x w.hart sp) h.rests.rests.back h.rests.rests.memory);
       runtime = record { input = r.input; replies = r.replies; last_number = r.last_number; terminating = r.terminating; exceptions = r.exceptions; plan = r.plan };
       named = named;

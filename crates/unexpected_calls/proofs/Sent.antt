@@ -1,11 +1,11 @@
 -- Behind a call of call_unexpected that terminates for an exception: the terminate handler kept with it begins, or the run aborts.
-use Rattle.std.proofs.Common.{◌≡◌, ◌∙◌, refl, sym, ap, subst, arith, ℕ, ◌+◌, ◌-◌, ◌^◌, ◌<◌, ◌≤◌, Bool, true, false, List, [], ◌∷◌, ◌++◌, append-nil, length, Option, Some, None, inr}
-use Rattle.std.specs.Prelude.{slice_get, if◌then◌else◌}
+use Rattle.std.proofs.Common.{◌≡◌, ◌∙◌, refl, sym, ap, subst, arith, ℕ, ◌+◌, ◌-◌, ◌<◌, ◌≤◌, Bool, true, false, List, [], ◌∷◌, ◌++◌, append-nil, length, Option, Some, None}
+use Rattle.std.specs.Prelude.{if◌then◌else◌}
 use Rattle.meaning_forms.specs.Class.{contains}
 use Rattle.meaning_forms.specs.World.{Installed}
 use Rattle.run_items.specs.declared.item.Item.{Item}
 use Rattle.rv64_isa.specs.declared.step.Step.TheVariants.{Ecall}
-use Rattle.rv64_isa.specs.State.{State, Part}
+use Rattle.rv64_isa.specs.State.{State}
 use Rattle.rv64_isa.specs.Step.{step_of, x}
 use Rattle.cxa_runtime.specs.declared.effect.End as machine
 use Rattle.cxa_runtime.specs.declared.effect.End.TheVariants.{Aborted, Stack}
@@ -18,13 +18,11 @@ use Rattle.cxa_runtime.specs.Terminate.{at_stub, terminates}
 use Rattle.cxa_runtime.specs.Unexpected.{terminate_for}
 use Rattle.cxa_runtime.specs.Call.{call_effect, numbered}
 use Rattle.cxa_runtime.specs.Run.{Ran, run}
-use Rattle.region_forms.specs.World.{of_exception, Word, World, native}
+use Rattle.region_forms.specs.World.{of_exception, World, native}
 use Rattle.linear_forms.specs.Stub.{terminating}
-use Rattle.linear_forms.specs.Activation.{Activation, State as LinearState, depth_of}
+use Rattle.linear_forms.specs.Activation.{Activation, State as LinearState}
 use Rattle.machine_forms.specs.Registers.{sp, a0, a7}
-use Rattle.machine_forms.specs.Routine.{op_word}
 use Rattle.machine_pieces.specs.Standing.{address}
-use Rattle.machine_pieces.specs.Frames.{AddressAt}
 use Rattle.machine_pieces.specs.Turning.{with_items, Turns, Reaches}
 use Rattle.machine_pieces.proofs.Registers.{set_length, read_same, read_other}
 use Rattle.machine_pieces.proofs.Turning.{no_turns, turns_then}
@@ -32,23 +30,16 @@ use Rattle.machine_stubs.specs.Calls.{asked, CallsAreMade}
 use Rattle.machine_stubs.specs.Stretches.{StubAt, Stands, stub_word, Room, AtAddress}
 use Rattle.machine_stubs.specs.Terminate.{TerminateRuns}
 use Rattle.machine_stubs.specs.Terminates.{MayTerminate, sent}
-use Rattle.machine_simulation.specs.Plan.{Plan, function, shape, routine, first_word, setting}
+use Rattle.machine_simulation.specs.Plan.{Plan, function, first_word, setting}
 use Rattle.machine_simulation.specs.Calls.{open_bytes, stack_end}
 use Rattle.machine_simulation.specs.Exceptions.{addresses_of, exceptions_in, kept_by, destroyed, live_in, IsFunction}
 use Rattle.machine_simulation.specs.Matches.{FrameIs, RuntimeMatches, MemoryMatches, Matches}
-use Rattle.machine_simulation.specs.Entering.{opened, frame_for}
+use Rattle.machine_simulation.specs.Entering.{entry_turns}
 use Rattle.machine_simulation.proofs.Words.{even_base}
-use Rattle.machine_simulation.proofs.Matching.{runtime_stays}
-use Rattle.machine_simulation.proofs.Holding.{same_number}
-use Rattle.machine_simulation.proofs.Lines.{matches_alike}
 use Rattle.machine_simulation.proofs.Freeing.{beside_matches}
-use Rattle.machine_simulation.proofs.Beneath.{Begins, beneath_call}
-use Rattle.machine_simulation.proofs.Opened.{opened_matches}
-use Rattle.machine_simulation.proofs.Calling.{runtime_opened}
-use Rattle.machine_exceptions.specs.Terminates.{waiting_terminate, ending_world, in_handler}
+use Rattle.machine_exceptions.specs.Terminates.{ending_world, in_handler}
 use Rattle.machine_exceptions.proofs.EndCatching.{room_below}
 use Rattle.machine_exceptions.proofs.Finding.{live_header}
-use Rattle.machine_exceptions.proofs.Destroying.{beneath_lower}
 use Rattle.machine_exceptions.specs.Picks.{TurnsFor}
 use Rattle.machine_exceptions.proofs.Picking.{turns_for}
 use Rattle.raise_ends.specs.Ends.{RunEnds, NoneIsCalled, HandlerFits, plan_in_handler}
@@ -58,12 +49,8 @@ use Rattle.stack_bounds.specs.Overflow.{FindsNoRoom, FunctionsOverflow}
 use Rattle.unexpected_calls.specs.Terminates.{NamesTerminate}
 use Rattle.unexpected_calls.specs.Overflow.{TerminateLacksRoom}
 use Rattle.unexpected_calls.proofs.Entering.{native_found}
-use Rattle.unexpected_calls.proofs.Above.{function_entered}
-
--- a handler is passed nothing
-none_given : (j : ℕ) (given : List Word) (word : Word) → given ≡ [] → slice_get given j ≡ Some word → ⊥
-none_given j [] word is e = cc e
-none_given j (y ∷ given) word is e = cc is
+use Rattle.machine_pieces.specs.Keeping.{saved_of, AreSmall}
+use Rattle.raise_ends.proofs.Sent.{handler_sent, SentFrom}
 
 -- ---- a runtime call that terminates
 
@@ -82,6 +69,8 @@ pub record Asks (image : Image) (p : Plan) (n : ℕ) (caller : Activation) (othe
   pub unwinding : to.unwinding ≡ at.unwinding
   pub shown : to.shown ≡ items
   pub memory : MemoryMatches p n caller.frame others waiting.world behind.memory (x behind sp + 80) back
+  pub high : 0x7000_1000 ≤ x behind sp + 80
+  pub small : AreSmall (saved_of behind)
   pub end : x behind sp + open_bytes p (waiting.top ∷ waiting.frames) ≡ stack_end
   pub runtime : RuntimeMatches p (waiting.top ∷ waiting.frames) waiting.world to
   pub named : NamesTerminate image p
@@ -93,17 +82,14 @@ module _ (image : Image) (p : Plan) (n : ℕ) (caller : Activation) (others : Li
   abbrev v : World
   v = waiting.world
 
-  high : 0x7000_1000 ≤ x c.behind sp + 80
-  high = c.memory.top.above
-
   may : MayTerminate p.unit p.base image c.to
   may = record {
     named = c.named;
     registers = ap (λ (s : State). length s.regs) c.same ∙ c.registers;
     code = subst (λ (s : State). StubAt p.unit p.base terminating s.memory) (sym c.same) c.memory.unit.stubs.terminate;
-    deep = omega (arith, ap (λ (s : State). x s sp) c.same, high);
+    deep = omega (arith, ap (λ (s : State). x s sp) c.same, c.high);
     room = subst (λ (s : State). Room (x s sp - 32) 32 s.memory) (sym c.same)
-        (room_below c.behind.memory (x c.behind sp) 32 c.memory.may (omega (arith, high)) (omega (arith, c.memory.top.below)) (omega (arith, c.memory.top.saved.aligned)) refl);
+        (room_below c.behind.memory (x c.behind sp) 32 c.memory.may (omega (arith, c.high)) (omega (arith, c.memory.top.below)) (omega (arith, c.memory.top.saved.aligned)) refl);
   }
 
   -- ---- the run aborts
@@ -156,66 +142,24 @@ module _ (image : Image) (p : Plan) (n : ℕ) (caller : Activation) (others : Li
     held : MemoryMatches p n caller.frame others v begins.hart.memory (x c.behind sp + 80) back
     held = subst (λ (s : State). MemoryMatches p n caller.frame others v s.memory (x c.behind sp + 80) back) (sym c.same) c.memory
 
-    handler_begins : HandlerFits p m waiting → Reaches image 10 begins [] (λ u. Matches (plan_in_handler p m waiting) (in_handler p m waiting) u)
-    handler_begins fits =
-        let known : m < length p.unit.functions = known_as.1 in
-        let active : List Activation = waiting_terminate m ∷ below in
-        let depth : ℕ = depth_of active + 1 in
-        let ret : ℕ = stub_word p.base terminating 6 in
-        let code = (held.unit.functions m known).0 in
-        let even = even_base p begins.hart.memory held.unit in
-        let come = runs.calls_the_handler image p.unit p.base first begins (omega (arith, pointer, high)) stands (read_same c.to.hart.regs 10 first (λ z. absurd (omega (arith, z))) (omega (arith, long))) (λ zero. absurd (omega (arith, zero)))
-        (omega (arith, even)) (omega (arith, code.word.below)) in
-        let v2 : abi.World = come.after in
-        let ad = subst (λ y. AtAddress first (y - 32) (y - 32) 32 begins (λ s. (x s 1 ≡ ret) × (x s 10 ≡ first)) v2) pointer come.holds in
-        let stack : ℕ = x c.behind sp + 80 in
-        let mid : ℕ = x v2.hart sp in
-        let mid_is : mid + 112 ≡ stack = omega (arith, ad.pointer, high) in
-        let held2 = beside_matches p n caller.frame others v begins.hart.memory v2.hart.memory stack back (x c.behind sp - 32) 32 held (record { low = omega (arith, high); high = omega (arith, high) }) ad.kept.beside in
-        let held3 = matches_alike p n caller.frame others v ve v2.hart.memory stack back refl refl (same_number v) held2 in
-        let small : ret < 2 ^ 64 = omega (arith, held.unit.stubs.call_unexpected.0.word.below) in
-        let deep : 0x7000_1000 + (shape p m).size ≤ mid = omega (arith, mid_is, c.end, fits) in
-        let entered = function_entered image p n m 112 caller.frame others ve back v2 known ad.there ad.registers (omega (arith, ad.holds.0, small)) (subst (λ a. MemoryMatches p n caller.frame others ve v2.hart.memory a back) (sym mid_is) held3) refl deep in
-        let v3 : abi.World = entered.after in
-        let memory : List Part = v3.hart.memory in
-        let low : ℕ = mid - (shape p m).size in
-        let low_is : low ≡ frame_for p m active = omega (arith, mid_is, c.end, hidden) in
-        let under = beneath_lower p ve memory (mid + 112) mid (omega arith) (beneath_call p n caller.frame others ve memory (mid + 112) back entered.matches) in
-        let new : Begins p n m ve memory mid low ret [] = record {
-          below = under;
-          known = known;
-          frame = omega (arith, deep);
-          room = omega (arith, deep);
-          passed = tt;
-          may = λ j word b got found. absurd (none_given j [] word refl got);
-          few = omega arith;
-          fits = tt;
-          saved = subst (AddressAt memory (low + 8)) ad.holds.0 entered.returns;
-        } in
-        let all = opened_matches p n m ve memory mid low ret [] new depth active
-        (λ ints. inr (inr (record { callee = refl; place = refl; returns = refl; above = omega (arith, deep) }, omega (arith, mid_is, c.end, hidden)))) in
-        let r = c.runtime in
-        let runtime1 : RuntimeMatches p active ve begins = record { input = r.input; replies = r.replies; last_number = r.last_number; terminating = refl; exceptions = r.exceptions; plan = r.plan } in
-        let runtime2 = runtime_stays p active ve v2 v3 entered.runtime (runtime_stays p active ve begins v2 ad.kept.runtime runtime1) in
-        let to : LinearState = in_handler p m waiting in
-        let six : op_word (routine p m) 0 ≡ 6 = refl in
-        subst (λ b. Reaches image 10 begins [] (λ u. Matches (opened p m v.calls b) to u)) low_is (record {
-          turns = come.turns + 4;
-          few = omega (arith, come.few);
-          after = v3;
-          runs = turns_then image come.turns 4 begins v2 v3 [] [] come.runs entered.runs;
-          holds = record {
-            number = m;
-            back = ret;
-            runs = refl;
-            registers = entered.registers;
-            pc = entered.pc ∙ omega (arith, six);
-            memory = subst (λ b. MemoryMatches (opened p m v.calls low) m to.top.frame to.frames to.world memory b ret) (sym entered.stack) all;
-            runtime = runtime_opened p m low active [] depth ve v3 runtime2;
-          };
-        })
+    -- the world in which terminate is called, above the compiled call
+    from : SentFrom image p n caller.frame others below v c.to (x c.behind sp + 80) back p.hidden
+    from = record {
+      may = may;
+      memory = subst (λ (s : State). MemoryMatches p n caller.frame others v s.memory (x c.behind sp + 80) back) (sym c.same) c.memory;
+      above = omega (arith, ap (λ (s : State). x s sp) c.same);
+      even = omega (arith, ap (λ (s : State). x s sp) c.same, c.memory.top.saved.aligned);
+      small = subst (λ (s : State). AreSmall (saved_of s)) (sym c.same) c.small;
+      runtime = c.runtime;
+      end = omega (arith, ap (λ (s : State). x s sp) c.same, c.end, hidden);
+    }
 
-    pub asks_begins : HandlerFits p m waiting → Reaches image 11 at items (λ u. Matches (plan_in_handler p m waiting) (in_handler p m waiting) u)
+    handler_begins : HandlerFits p m waiting → Reaches image (6 + entry_turns p m) begins [] (λ u. Matches (plan_in_handler p m waiting) (in_handler p m waiting) u)
+    handler_begins fits =
+        let reached = handler_sent runs image p n m caller.frame others waiting c.to (x c.behind sp + 80) back p.hidden from known_as.1 fits in
+        record { turns = reached.turns; few = reached.few; after = reached.after; runs = reached.runs; holds = reached.holds.0 }
+
+    pub asks_begins : HandlerFits p m waiting → Reaches image (7 + entry_turns p m) at items (λ u. Matches (plan_in_handler p m waiting) (in_handler p m waiting) u)
     asks_begins fits =
         let rest = handler_begins fits in
         let all = turns_then image 1 rest.turns at begins rest.after items [] one rest.runs in
@@ -234,21 +178,22 @@ module _ (image : Image) (p : Plan) (n : ℕ) (caller : Activation) (others : Li
         let ret : ℕ = stub_word p.base terminating 6 in
         let code = (held.unit.functions m known).0 in
         let even = even_base p begins.hart.memory held.unit in
-        let come = runs.calls_the_handler image p.unit p.base first begins (omega (arith, pointer, high)) stands (read_same c.to.hart.regs 10 first (λ z. absurd (omega (arith, z))) (omega (arith, long))) (λ zero. absurd (omega (arith, zero)))
+        let come = runs.calls_the_handler image p.unit p.base first begins (omega (arith, pointer, c.high)) stands (read_same c.to.hart.regs 10 first (λ z. absurd (omega (arith, z))) (omega (arith, long))) (λ zero. absurd (omega (arith, zero)))
         (omega (arith, even)) (omega (arith, code.word.below)) in
         let v2 : abi.World = come.after in
         let ad = subst (λ y. AtAddress first (y - 32) (y - 32) 32 begins (λ s. (x s 1 ≡ ret) × (x s 10 ≡ first)) v2) pointer come.holds in
         let stack : ℕ = x c.behind sp + 80 in
-        let mid_is : x v2.hart sp + 112 ≡ stack = omega (arith, ad.pointer, high) in
-        let held2 = beside_matches p n caller.frame others v begins.hart.memory v2.hart.memory stack back (x c.behind sp - 32) 32 held (record { low = omega (arith, high); high = omega (arith, high) }) ad.kept.beside in
+        let mid_is : x v2.hart sp + 112 ≡ stack = omega (arith, ad.pointer, c.high) in
+        let held2 = beside_matches p n caller.frame others v begins.hart.memory v2.hart.memory stack back (x c.behind sp - 32) 32 held (record { low = omega (arith, c.high); high = omega (arith, c.high) }) ad.kept.beside in
         let frame_is : FrameIs (function p m) = held2.unit.frames m known in
         let finds : FindsNoRoom p m v2 = record {
           known = known;
+          looks = lacks.looks;
           registers = ad.registers;
           pc = ad.there;
           aligned = omega (arith, mid_is, c.memory.top.saved.aligned);
-          above = omega (arith, mid_is, high, frame_is.small);
-          short = omega (arith, mid_is, c.end, lacks, hidden);
+          above = omega (arith, mid_is, c.high, frame_is.small);
+          short = omega (arith, mid_is, c.end, lacks.lacks, hidden);
           below = omega (arith, mid_is, c.memory.top.below);
           unit = held2.unit;
           may = held2.may;
@@ -262,6 +207,10 @@ module _ (image : Image) (p : Plan) (n : ℕ) (caller : Activation) (others : Li
         )
 
 -- ---- behind other turns
+
+-- in turns of which no more are counted
+pub reaches_most : (image : Image) (a b : ℕ) (w : abi.World) (items : List Item) (P : abi.World → Type 0) → a ≤ b → Reaches image a w items P → Reaches image b w items P
+reaches_most image a b w items P le r = record { turns = r.turns; few = omega (arith, r.few, le); after = r.after; runs = r.runs; holds = r.holds }
 
 pub then_reaches : (image : Image) (n most : ℕ) (w at : abi.World) (items more : List Item) (P : abi.World → Type 0) (few : ℕ) → Turns image n w at items → n ≤ few → Reaches image most at more P → Reaches image (few + most) w (items ++ more) P
 then_reaches image n most w at items more P few runs small r = record {
@@ -296,6 +245,8 @@ pub record AsksFor (image : Image) (p : Plan) (n e : ℕ) (kept : Installed) (ca
   pub registers : length behind.regs ≡ 32
   pub given : x behind a0 ≡ p.at (of_exception e)
   pub memory : MemoryMatches p n caller.frame others waiting.world behind.memory (x behind sp + 80) back
+  pub high : 0x7000_1000 ≤ x behind sp + 80
+  pub small : AreSmall (saved_of behind)
   pub end : x behind sp + open_bytes p (waiting.top ∷ waiting.frames) ≡ stack_end
   pub runtime : RuntimeMatches p (waiting.top ∷ waiting.frames) waiting.world at
   pub type : ℕ
@@ -328,17 +279,20 @@ for_asks image p n e kept caller others waiting w back most items c =
       unwinding = refl;
       shown = refl;
       memory = c.memory;
+      high = c.high;
+      small = c.small;
       end = c.end;
       runtime = record { input = r.input; replies = r.replies; last_number = r.last_number; terminating = r.terminating; exceptions = r.exceptions; plan = r.plan };
       named = c.named;
     }
 
 pub for_begins : (image : Image) (p : Plan) (n e : ℕ) (kept : Installed) (caller : Activation) (others : List Activation) (waiting : LinearState) (w : abi.World) (back most : ℕ) (items : List Item) → (c : AsksFor image p n e kept caller others waiting w back most items) →
-    CallsAreMade → TerminateRuns → (m : ℕ) → waiting.world.ending ≡ false → kept.terminate_handler ≡ Some m → p.hidden ≡ 0 → HandlerFits p m waiting → Reaches image (most + 11) w items (λ u. Matches (plan_in_handler p m waiting) (in_handler p m waiting) u)
+    CallsAreMade → TerminateRuns → (m : ℕ) → waiting.world.ending ≡ false → kept.terminate_handler ≡ Some m → p.hidden ≡ 0 → HandlerFits p m waiting → Reaches image (most + 7 + entry_turns p m) w items (λ u. Matches (plan_in_handler p m waiting) (in_handler p m waiting) u)
 for_begins image p n e kept caller others waiting w back most items c made runs m quiet some hidden fits =
     let P : abi.World → Type 0 = λ u. Matches (plan_in_handler p m waiting) (in_handler p m waiting) u in
     let rest = asks_begins image p n caller others waiting kept.terminate_handler c.at back [] (for_asks image p n e kept caller others waiting w back most items c) made runs m quiet some hidden fits in
-    subst (λ is. Reaches image (most + 11) w is P) (append-nil items) (then_reaches image c.turns 11 w c.at items [] P most c.runs c.few rest)
+    subst (λ is. Reaches image (most + 7 + entry_turns p m) w is P) (append-nil items)
+    (reaches_most image (most + (7 + entry_turns p m)) (most + 7 + entry_turns p m) w (items ++ []) P (omega arith) (then_reaches image c.turns (7 + entry_turns p m) w c.at items [] P most c.runs c.few rest))
 
 pub for_aborts : (image : Image) (p : Plan) (n e : ℕ) (kept : Installed) (caller : Activation) (others : List Activation) (waiting : LinearState) (w : abi.World) (back most : ℕ) (items : List Item) → (c : AsksFor image p n e kept caller others waiting w back most items) →
     CallsAreMade → TerminateRuns → (pick : ℕ → ℕ) (k : ℕ) → NoneIsCalled waiting.world kept.terminate_handler → most + 8 ≤ k → RunEnds image pick k w items Aborted

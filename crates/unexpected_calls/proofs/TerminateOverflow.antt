@@ -7,7 +7,7 @@ use Rattle.cxa_runtime.specs.declared.effect.End.TheVariants.{Stack}
 use Rattle.cxa_runtime.specs.World as abi
 use Rattle.cxa_runtime.specs.Raising.{Image}
 use Rattle.eh_run.specs.Program.{program_of}
-use Rattle.linear_forms.specs.Linear.{unexpected}
+use Rattle.linear_forms.specs.Linear.{unexpected, return}
 use Rattle.linear_forms.specs.Activation.{State}
 use Rattle.linear_forms.specs.UnitRun.{code_of}
 use Rattle.machine_forms.specs.Registers.{sp}
@@ -71,9 +71,9 @@ terminate_handlers_overflow made runs begins checks answers keeps lists stands a
       let went = returns_value p n st middle waiting (a ∷ fs) r at.at.runs at.at.there at.at.step at.frames in
       let asks = asks_behind begins image p n c e r type d kept waiting a fs st middle w h.back stood at calls.named in
       let q = asks.1 in
-      no_room image pick k p m 3 st to w [] (then_overflow made runs over image pick k (closed p a.frame.call) c m 1 q.turns 6 a fs st to to kept.terminate_handler w q.at asks.0 [] []
+      no_room image pick k p m 3 st to w [] (then_overflow made runs over image pick k (closed p a.frame.call) c m 1 q.turns (length (linear_code (shape p n) (return r)) + 2) a fs st to to kept.terminate_handler w q.at asks.0 [] []
       (to, back_step p n r waiting a fs st went at.stub at.place, refl) (terminates_behind p n c e r type d kept waiting a fs st middle at) (sym (append-nil st.world.items)) (sym (append-nil st.world.items))
-      (turns_for image pick q.turns w q.at [] q.runs) q.few (for_asks image (closed p a.frame.call) c e kept a fs to w asks.0 6 [] q) calls.quiet calls.some calls.hidden calls.lacks many);
+      (turns_for image pick q.turns w q.at [] q.runs) q.few (for_asks image (closed p a.frame.call) c e kept a fs to w asks.0 (length (linear_code (shape p n) (return r)) + 2) [] q) calls.quiet calls.some calls.hidden (record { looks = calls.lacks.looks; lacks = calls.lacks.lacks }) (omega (arith, many)));
   unlisted = λ i pick k p e d type destructor kept j m type0 destructor0 kept0 st w h says lives calls many.
       let image = (program_of i).image in
       let waiting : State = checked_state 9 e (pos 2) st in
@@ -105,7 +105,7 @@ terminate_handlers_overflow made runs begins checks answers keeps lists stands a
       let asks = bad_one.doom_asks i pick p e slot (x w.hart sp) st w h.called t all.2.dooms_it calls.named calls.quiet in
       no_room image pick k p m 9 st waiting w (Enter e ∷ Make made_one ∷ Enter made_one ∷ []) (then_overflow made runs over image pick k (with_object p made_one slot) h.called.number m 7 t.turns 30 h.called.caller h.called.others st raising waiting
       st.world.installed.terminate_handler w t.at asks.0 (Enter e ∷ Make made_one ∷ []) (Enter made_one ∷ []) (steps_to_throw i p e d type destructor kept j st w h says free) (bad_one.doomed_step p e st all.2.live none false calls.quiet)
-      (append_assoc st.world.items (Enter e ∷ []) (Make made_one ∷ [])) refl t.runs t.few asks.1 calls.quiet calls.some calls.hidden calls.lacks many);
+      (append_assoc st.world.items (Enter e ∷ []) (Make made_one ∷ [])) refl t.runs t.few asks.1 calls.quiet calls.some calls.hidden (record { looks = calls.lacks.looks; lacks = calls.lacks.lacks }) many);
   foreign = λ image pick k p e d m st w h calls many.
       let c = at_enter checks image p e d st w h calls.named in
       let waiting : State = entering_state st in

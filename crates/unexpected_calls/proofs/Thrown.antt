@@ -57,7 +57,9 @@ use Rattle.machine_raises.specs.Resumes.{TypeIsThere}
 use Rattle.unexpected_calls.specs.Thrown.{ThrownOut, list_says}
 use Rattle.unexpected_calls.proofs.Entering.{native_found, enters}
 use Rattle.unexpected_calls.proofs.Leaving.{rests_over, selector_held}
-use Rattle.unexpected_calls.proofs.OverCall.{OverCall, over_beside, over_alike, int_beside, address_beside}
+use Rattle.unexpected_calls.proofs.OverCall.{OverCall, over_beside, over_alike, int_beside, address_beside, over_at}
+use Rattle.machine_pieces.specs.Keeping.{saved_of}
+use Rattle.machine_exceptions.proofs.Ecalls.{given_in_first}
 
 begin_is : (image : Image) (wish : ℕ) (t : abi.World) → call_effect 6 image wish t ≡ begin image.places t
 unfolding call_effect numbered
@@ -97,7 +99,7 @@ record EnteredOut (i : CleanImage) (p : Plan) (e number back owner : ℕ) (selec
   after : abi.World
   runs : Turns (program_of i).image turns w after (Enter e ∷ [])
   stands : StubStands p.unit p.base call_unexpected 22 (x after.hart sp) 80 after.hart
-  over : OverCall p number caller others (entered e st.world) after.hart.memory (x after.hart sp) back
+  over : OverCall p number caller others (entered e st.world) after.hart.memory (x after.hart sp) back (saved_of after.hart)
   table : AddressAt after.hart.memory (x after.hart sp + 56) (p.tables owner)
   list : IntAt after.hart.memory (x after.hart sp + 64) selector
   thrown : AddressAt after.hart.memory (x after.hart sp + 40) (p.at (of_exception e))
@@ -156,7 +158,7 @@ thrown_entered made checks keeps i p e d type destructor kept j st w h =
     let s2 : Hart = w2.hart in
     let pointer2 : x s2 sp ≡ low = read_other s1.regs 10 2 (object_of hdr.slot) (λ q. absurd (omega (arith, q))) ∙ r1.pointer in
     let at2 : (k : ℕ) → low + k ≡ x s2 sp + k = λ k. ap (λ a. a + k) (sym pointer2) in
-    let over1 = over_alike p c.number c.caller c.others v ve s1.memory low back refl refl (same_number v) (over_beside p c.number c.caller c.others v w.hart.memory s1.memory low back (low + 32) 16 o.over (omega arith) (omega arith) r1.holds.2) in
+    let over1 = over_alike p c.number c.caller c.others v ve s1.memory low back (saved_of w.hart) refl refl (same_number v) (over_beside p c.number c.caller c.others v w.hart.memory s1.memory low back (low + 32) 16 (saved_of w.hart) o.over (omega arith) (omega arith) r1.holds.2) in
     let out : (a n : ℕ) → low + 48 ≤ a → Apart (low + 32) 16 a n = λ a n up i1 j1 hi hj same. omega (arith, up, hi, same) in
     let k = h.rests.kept in
     let table : AddressAt s2.memory (x s2 sp + 56) (p.tables k.owner)
@@ -181,7 +183,7 @@ thrown_entered made checks keeps i p e d type destructor kept j st w h =
       after = w2;
       runs = subst (λ n. Turns image (first.turns + 1) w w2 (Enter n ∷ [])) hdr.has.number runs2;
       stands = stands2;
-      over = subst (λ a. OverCall p c.number c.caller c.others ve s1.memory a back) (sym pointer2) over1;
+      over = over_at p c.number c.caller c.others ve s1.memory low back (saved_of w.hart) s2 refl pointer2 (given_in_first s1 s2 (object_of hdr.slot) refl ∙ r1.variables) over1;
       table = table;
       list = list;
       thrown = thrown;
@@ -201,7 +203,7 @@ pub record Checked (i : CleanImage) (p : Plan) (e number back answer : ℕ) (cal
   pub runs : Turns (program_of i).image turns w after (Enter e ∷ [])
   pub stands : StubStands p.unit p.base call_unexpected 27 (x after.hart sp) 80 after.hart
   pub given : x after.hart a0 ≡ answer
-  pub over : OverCall p number caller others (entered e st.world) after.hart.memory (x after.hart sp) back
+  pub over : OverCall p number caller others (entered e st.world) after.hart.memory (x after.hart sp) back (saved_of after.hart)
   pub stopped : KeepsException p (st.top.frame.slots 0) (entered e st.world) after.hart.memory (x after.hart sp + stopped_slot)
   pub pointer : x after.hart sp ≡ x w.hart sp
   pub running : IsRunning p i after.hart
@@ -280,7 +282,7 @@ list_checked made checks keeps lists i p e type destructor kept j answer number 
         room = subst (λ a. Room a 80 s3.memory) (sym pointer4) r3.stands.room;
       };
       given = read_same s3.regs 10 answer (λ q. absurd (omega (arith, q))) (omega (arith, r3.stands.registers));
-      over = subst (λ a. OverCall p number caller others ve s3.memory a back) (sym pointer4) (subst (λ ps. OverCall p number caller others ve ps low back) (sym memory) en.over);
+      over = over_at p number caller others ve w2.hart.memory low back (saved_of w2.hart) w4.hart memory pointer4 (given_in_first s3 w4.hart answer refl ∙ r3.variables) en.over;
       stopped = record {
         number = stopped.number;
         is = stopped.is;

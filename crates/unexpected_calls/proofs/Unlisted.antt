@@ -40,6 +40,8 @@ use Rattle.unexpected_calls.proofs.StackEnd.{stub_end}
 use Rattle.unexpected_calls.proofs.Without.{linear_ends}
 use Rattle.unexpected_calls.proofs.Thrown.{thrown_checked}
 use Rattle.unexpected_calls.proofs.CheckSteps.{steps_to_unlisted}
+use Rattle.machine_pieces.specs.Keeping.{AreSmall}
+use Rattle.machine_simulation.specs.Entering.{entry_turns}
 
 -- ---- the step
 
@@ -66,7 +68,8 @@ asks_unlisted made checks answers keeps lists i p e d type destructor kept j typ
     let come = answers.terminates_unlisted image p.unit p.base (p.at (of_exception chk.stopped.number)) chk.after chk.stands chk.given chk.stopped.there in
     let r = come.holds in
     let over = chk.over in
-    let held = beside_matches p c.number c.caller.frame c.others v chk.after.hart.memory r.behind.memory (low + 80) over.outer low 80 over.matches (record { low = over.stands.above; high = omega arith }) r.kept.beside in
+    let floor = over.stands.above in
+    let held = beside_matches p c.number c.caller.frame c.others v chk.after.hart.memory r.behind.memory (low + 80) over.outer low 80 over.matches (record { low = omega (arith, floor); high = omega arith }) r.kept.beside in
     let run = runtime_stays p st.frames v chk.after come.after r.kept.runtime chk.runtime in (
       over.outer,
       record {
@@ -80,6 +83,8 @@ asks_unlisted made checks answers keeps lists i p e d type destructor kept j typ
         registers = r.stands.registers;
         given = r.holds ∙ ap (λ k. p.at (of_exception k)) same_stopped;
         memory = subst (λ a. MemoryMatches p c.number c.caller.frame c.others v r.behind.memory (a + 80) over.outer) (sym r.pointer) held;
+        high = omega (arith, r.pointer, floor);
+        small = subst AreSmall (sym r.variables) over.registers.small;
         end = omega (arith, r.pointer, chk.pointer, stub_end p st.frames st.world w.hart.memory (x w.hart sp) h.rests.rests.back h.rests.rests.memory);
         runtime = record { input = run.input; replies = run.replies; last_number = run.last_number; terminating = run.terminating; exceptions = run.exceptions; plan = run.plan };
         type = type0;
@@ -95,7 +100,7 @@ asks_unlisted made checks answers keeps lists i p e d type destructor kept j typ
 calls_unlisted : CallsAreMade → TerminateRuns → UnexpectedChecks → UnexpectedAnswers → RunsKeepMemory → ListsAnswer → (i : CleanImage) (p : Plan) (e d type : ℕ) (destructor : Option ℕ) (kept : Installed) (j m type0 : ℕ) (destructor0 : Option ℕ) (kept0 : Installed) (st : State) (w : abi.World) →
     (h : ThrownOut i p e d type destructor kept j st w) → list_says p h.rests.kept.owner j type ≡ pos 2 → StoppedLives st h.rests.kept.stopped.number type0 destructor0 kept0 → NamesTerminate (program_of i).image p → st.world.ending ≡ false → kept0.terminate_handler ≡ Some m →
     p.hidden ≡ 0 → let waiting = checked_state 9 e (pos 2) st in HandlerFits p m waiting → let next = in_handler p m waiting in let items = Enter e ∷ [] in
-    StepsTo (code_of p.unit) 7 st next × Shows st next items × Reaches (program_of i).image 33 w items (λ u. Matches (plan_in_handler p m waiting) next u)
+    StepsTo (code_of p.unit) 7 st next × Shows st next items × Reaches (program_of i).image (29 + entry_turns p m) w items (λ u. Matches (plan_in_handler p m waiting) next u)
 calls_unlisted made runs checks answers keeps lists i p e d type destructor kept j m type0 destructor0 kept0 st w h says lives named quiet some hidden fits =
     let waiting : State = checked_state 9 e (pos 2) st in
     let number : exception_in_slot st.top.frame 0 ≡ h.rests.kept.stopped.number = ap exception_of h.rests.kept.stopped.is in

@@ -42,6 +42,8 @@ use Rattle.unexpected_calls.specs.Terminates.{BothAbort, NamesTerminate}
 use Rattle.unexpected_calls.proofs.Begins.{enters_stopped, stopped_entered}
 use Rattle.unexpected_calls.proofs.Sent.{AsksFor, for_aborts, for_begins}
 use Rattle.unexpected_calls.proofs.Steps.{steps_on, exec_on}
+use Rattle.machine_pieces.specs.Keeping.{AreSmall}
+use Rattle.machine_simulation.specs.Entering.{entry_turns}
 
 -- ---- the machine for linear code
 
@@ -90,7 +92,7 @@ asks_without made begins image p n o s e z type d kept st w h at none named =
     let is : IsFunction (addresses_of p) None en.header.handlers.1 = subst (λ k. IsFunction (addresses_of p) k en.header.handlers.1) none en.handlers.1 in
     let come = begins.terminates_without image p.unit p.base (p.at (of_exception e)) w3 en.stands (en.handler ∙ is) en.stopped in
     let r = come.holds in
-    let high : 0x7000_1000 ≤ low + 80 = en.matches.top.above in
+    let high : 0x7000_1000 ≤ low + 80 = en.high in
     let held = beside_matches p n st.top.frame st.frames v w3.hart.memory r.behind.memory (low + 80) h.back low 80 en.matches (record { low = omega (arith, high); high = omega arith }) r.kept.beside in
     let out : destroyed below ≡ destroyed st.frames = ap (λ ds. ds ++ destroyed st.frames) (destroyed_nothing p n st.top at.at.runs) in
     let r4 = runtime_stays p st.frames v w3 come.after r.kept.runtime en.runtime in
@@ -105,6 +107,8 @@ asks_without made begins image p n o s e z type d kept st w h at none named =
       registers = r.stands.registers;
       given = r.holds;
       memory = subst (λ a. MemoryMatches p n st.top.frame st.frames v r.behind.memory (a + 80) h.back) (sym r.pointer) held;
+      high = omega (arith, r.pointer, high);
+      small = subst AreSmall (sym r.variables) en.registers.small;
       end = omega (arith, r.pointer, en.end);
       runtime = record {
         input = r4.input;
@@ -126,7 +130,7 @@ asks_without made begins image p n o s e z type d kept st w h at none named =
 pub calls_without : CallsAreMade → TerminateRuns → UnexpectedBegins → (image : Image) (p : Plan) (n o s e : ℕ) (z : ℤ) (type : ℕ) (d : Option ℕ) (kept : Installed) (m : ℕ) (st : LinearState) (w : abi.World) → Matches p st w →
     AtStopped p n o s e z type d kept st w → kept.unexpected_handler ≡ None → NamesTerminate image p → st.world.ending ≡ false → kept.terminate_handler ≡ Some m → p.hidden ≡ 0 → let waiting = in_stopped n o s e 2 None st in HandlerFits p m waiting →
     let next = in_handler p m waiting in let items = Enter e ∷ [] in
-    StepsTo (code_of p.unit) 5 st next × Shows st next items × Reaches image (length (linear_code (shape p n) (unexpected o s)) + 22) w items (λ u. Matches (plan_in_handler p m waiting) next u)
+    StepsTo (code_of p.unit) 5 st next × Shows st next items × Reaches image (length (linear_code (shape p n) (unexpected o s)) + 18 + entry_turns p m) w items (λ u. Matches (plan_in_handler p m waiting) next u)
 calls_without made runs begins image p n o s e z type d kept m st w h at none named quiet some hidden fits =
     let waiting : LinearState = in_stopped n o s e 2 None st in
     let two = handler_in_two p m waiting waiting kept.terminate_handler [] (terminates_there p n o s e z type d kept st w at) quiet some (sym (append-nil waiting.world.items)) in

@@ -24,6 +24,7 @@ use Rattle.unexpected_calls.specs.Terminates.{BothAbort, NamesTerminate}
 use Rattle.unexpected_calls.specs.Thrown.{ThrownOut, list_says}
 use Rattle.unexpected_calls.specs.Doomed.{NothingStops}
 use Rattle.unexpected_calls.specs.Bad.{bad_state}
+use Rattle.machine_simulation.specs.Entering.{entry_turns}
 
 -- at most so many turns lead from a world to one of which this holds, for the slots that are picked
 pub record ReachesFor (image : Image) (pick : ℕ → ℕ) (most : ℕ) (w : abi.World) (items : List Item) (P : abi.World → Type 0) : Type 0 where
@@ -46,7 +47,7 @@ pub record BadIsDoomed : Type 0 where
   pub calls_the_handler : (i : CleanImage) (pick : ℕ → ℕ) (p : Plan) (e d type : ℕ) (destructor : Option ℕ) (kept : Installed) (j m : ℕ) (st : State) (w : abi.World) → (h : ThrownOut i p e d type destructor kept j st w) → list_says p h.rests.kept.owner j type ≡ pos 1 →
       is_full st.world ≡ false → ChainEnds p.unit.types bad_row → NothingStops p bad_row (bad_state e st) → NamesTerminate (program_of i).image p → st.world.ending ≡ false → st.world.installed.terminate_handler ≡ Some m → p.hidden ≡ 0 →
       let waiting = bad_doomed e st in HandlerFits p m waiting → let bad = st.world.last_number + 1 in let next = in_handler p m waiting in let items = Enter e ∷ Make bad ∷ Enter bad ∷ [] in
-      StepsTo (code_of p.unit) 9 st next × Shows st next items × (slot : ℕ) × (slot < slots) × ReachesFor (program_of i).image pick 41 w items (λ u. Matches (plan_in_handler (with_object p bad slot) m waiting) next u)
+      StepsTo (code_of p.unit) 9 st next × Shows st next items × (slot : ℕ) × (slot < slots) × ReachesFor (program_of i).image pick (37 + entry_turns p m) w items (λ u. Matches (plan_in_handler (with_object p bad slot) m waiting) next u)
   pub aborts : (i : CleanImage) (pick : ℕ → ℕ) (k : ℕ) (p : Plan) (e d type : ℕ) (destructor : Option ℕ) (kept : Installed) (j : ℕ) (st : State) (w : abi.World) → (h : ThrownOut i p e d type destructor kept j st w) → list_says p h.rests.kept.owner j type ≡ pos 1 →
       is_full st.world ≡ false → ChainEnds p.unit.types bad_row → NothingStops p bad_row (bad_state e st) → NamesTerminate (program_of i).image p → NoneIsCalled st.world st.world.installed.terminate_handler → 38 ≤ k →
       let bad = st.world.last_number + 1 in BothAbort (program_of i).image pick k p 10 st w (Enter e ∷ Make bad ∷ unless_ending st.world (Enter bad ∷ []))

@@ -1,5 +1,5 @@
 -- A specification stops an exception, and the unexpected handler kept with it begins.
-use Rattle.std.specs.Prelude.{◌≡◌, ℕ, ◌+◌, ◌^◌, ◌<◌, ◌≤◌, true, ℤ, List, [], ◌∷◌, length, Option, Some}
+use Rattle.std.specs.Prelude.{◌≡◌, ℕ, ◌+◌, ◌^◌, ◌<◌, true, ℤ, [], ◌∷◌, length, Option, Some}
 use Rattle.meaning_forms.specs.World.{Installed}
 use Rattle.run_items.specs.declared.item.Item.TheVariants.{Enter}
 use Rattle.cxa_runtime.specs.World as abi
@@ -14,10 +14,10 @@ use Rattle.linear_forms.specs.UnitRun.{code_of}
 use Rattle.machine_forms.specs.LinearCode.{linear_code}
 use Rattle.machine_pieces.specs.Turning.{Reaches}
 use Rattle.machine_simulation.specs.Plan.{Plan, shape, slot_kinds}
-use Rattle.machine_simulation.specs.Calls.{open_bytes}
 use Rattle.machine_simulation.specs.Exceptions.{live_in, HasHeader}
 use Rattle.machine_simulation.specs.Matches.{Matches}
-use Rattle.machine_simulation.specs.Entering.{opened, frame_for}
+use Rattle.machine_simulation.specs.Entering.{opened, frame_for, entry_turns}
+use Rattle.machine_exceptions.specs.Terminates.{HandlerFits}
 use Rattle.machine_simulation.specs.Objects.{Shows}
 use Rattle.machine_exceptions.specs.Enters.{MayEnter}
 use Rattle.machine_exceptions.specs.Leaves.{StepsTo}
@@ -57,14 +57,10 @@ in_unexpected_handler p n o s e m st =
     let v = entered e st.world in
     record { top = record { function = compiled m; place = 0; frame = new_frame (slot_kinds p m) [] v }; frames = active; world = new_world (slot_kinds p m) [] (depth_of active + 1) v }
 
--- the stack has room for the frames of call_unexpected and of the handler
-abbrev pub HandlerHasRoom : Plan → ℕ → List Activation → Type 0
-HandlerHasRoom p m active = open_bytes p active + (shape p m).size + 0x1000 ≤ 0x100_0000
-
 -- Three steps lead from the operation to the first one of the unexpected handler that is kept with the exception, and are matched. They show that
 -- the exception is entered.
 abbrev pub UnexpectedHandlersBegin : Type 0
 UnexpectedHandlersBegin = (image : Image) (p : Plan) (n o s e : ℕ) (z : ℤ) (type : ℕ) (d : Option ℕ) (kept : Installed) (m : ℕ) (st : State) (w : abi.World) → Matches p st w → AtStopped p n o s e z type d kept st w → kept.unexpected_handler ≡ Some m →
-    let active = waiting_unexpected n o s m st ∷ st.top ∷ st.frames in HandlerHasRoom p m active →
+    let active = waiting_unexpected n o s m st ∷ st.top ∷ st.frames in HandlerFits p m active →
     let next = in_unexpected_handler p n o s e m st in let items = Enter e ∷ [] in
-    StepsTo (code_of p.unit) 3 st next × Shows st next items × Reaches image (length (linear_code (shape p n) (unexpected o s)) + 14) w items (λ u. Matches (opened p m st.world.calls (frame_for p m active)) next u)
+    StepsTo (code_of p.unit) 3 st next × Shows st next items × Reaches image (length (linear_code (shape p n) (unexpected o s)) + 10 + entry_turns p m) w items (λ u. Matches (opened p m st.world.calls (frame_for p m active)) next u)

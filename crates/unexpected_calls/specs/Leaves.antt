@@ -14,7 +14,8 @@ use Rattle.machine_simulation.specs.Plan.{Plan}
 use Rattle.machine_simulation.specs.StubCalls.{LeavingWaits}
 use Rattle.machine_simulation.specs.Matches.{RuntimeMatches}
 use Rattle.machine_exceptions.specs.Leaves.{StepsTo}
-use Rattle.stub_landings.specs.Rests.{StubMemory, ChecksThrown, LeavesBoth, LeavesOn}
+use Rattle.stub_landings.specs.Rests.{StubMemory, ChecksThrown, LeavesBoth, LeavesOn, StubRegisters}
+use Rattle.machine_pieces.specs.Keeping.{saved_of}
 
 -- call_unexpected was called by a compiled function
 pub record CalledByCompiled (st : State) : Type 0 where
@@ -46,6 +47,7 @@ pub record AtEndCatch (p : Plan) (waiting : Activation) (fs : List Activation) (
   pub pc : w.hart.pc ≡ stub_word p.base end_catch 0
   pub memory : StubMemory p call_unexpected fs st.world w.hart.memory (x w.hart sp) back
   pub waits : LeavingWaits p waiting st.world w.hart.memory (x w.hart sp) (x w.hart ra)
+  pub kept : StubRegisters p call_unexpected fs st.world w.hart.memory (x w.hart sp) (saved_of w.hart)
   pub runtime : RuntimeMatches p st.frames st.world w
 
 -- so many steps lead there, and so many turns at most; the runtime keeps what it kept

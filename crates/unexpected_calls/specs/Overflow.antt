@@ -1,5 +1,5 @@
 -- The unexpected handler finds no room for its frame.
-use Rattle.std.specs.Prelude.{◌≡◌, ℕ, ◌+◌, ◌<◌, ◌≤◌, ℤ, List, [], ◌∷◌, length, Option, Some}
+use Rattle.std.specs.Prelude.{◌≡◌, ℕ, ◌+◌, ◌<◌, ◌≤◌, ℤ, List, [], ◌∷◌, length, Option, Some, false}
 use Rattle.meaning_forms.specs.World.{Installed}
 use Rattle.run_items.specs.declared.item.Item.TheVariants.{Enter}
 use Rattle.cxa_runtime.specs.declared.effect.End.TheVariants.{Stack}
@@ -18,9 +18,10 @@ use Rattle.machine_exceptions.specs.Terminates.{waiting_terminate}
 use Rattle.raise_ends.specs.Ends.{RunEnds}
 use Rattle.unexpected_calls.specs.Begins.{AtStopped, waiting_unexpected, in_unexpected_handler}
 
--- the stack has no room for a handler below these calls
-abbrev pub HandlerLacksRoom : Plan → ℕ → List Activation → Type 0
-HandlerLacksRoom p m active = 0x100_0000 < open_bytes p active + (shape p m).size + 0x1000
+-- the stack has no room for a handler below these calls, which looks for it, since it calls something
+pub record HandlerLacksRoom (p : Plan) (m : ℕ) (active : List Activation) : Type 0 where
+  pub looks : (shape p m).leaf ≡ false
+  pub lacks : 0x100_0000 < open_bytes p active + (shape p m).size + 0x1000
 
 -- nor for terminate and its handler
 abbrev pub TerminateLacksRoom : Plan → ℕ → State → Type 0

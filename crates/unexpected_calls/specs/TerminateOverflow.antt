@@ -10,7 +10,7 @@ use Rattle.cxa_runtime.specs.Raising.{Image}
 use Rattle.eh_run.specs.Program.{program_of}
 use Rattle.region_forms.specs.Ending.{bad_row}
 use Rattle.region_forms.specs.Effect.{is_full}
-use Rattle.linear_forms.specs.Linear.{unexpected}
+use Rattle.linear_forms.specs.Linear.{unexpected, return}
 use Rattle.linear_forms.specs.Activation.{Activation, State}
 use Rattle.linear_forms.specs.UnitRun.{code_of}
 use Rattle.machine_forms.specs.LinearCode.{linear_code}
@@ -50,7 +50,7 @@ pub record TerminateHandlersOverflow : Type 0 where
   pub without : (image : Image) (pick : ℕ → ℕ) (k : ℕ) (p : Plan) (n o s e : ℕ) (z : ℤ) (type : ℕ) (d : Option ℕ) (kept : Installed) (m : ℕ) (st : State) (w : abi.World) → Matches p st w → AtStopped p n o s e z type d kept st w → kept.unexpected_handler ≡ None →
       let waiting = in_stopped n o s e 2 None st in Calls image p m kept.terminate_handler st waiting → length (linear_code (shape p n) (unexpected o s)) + 24 ≤ k → NoRoom image pick k p m 5 st waiting w (Enter e ∷ [])
   pub behind : (image : Image) (pick : ℕ → ℕ) (k : ℕ) (p : Plan) (n c e : ℕ) (r : Option ℕ) (type : ℕ) (d : Option ℕ) (kept : Installed) (m : ℕ) (waiting a : Activation) (fs : List Activation) (st middle : State) (w : abi.World) → Matches p st w →
-      HandlerReturns p n c e r type d kept waiting a fs st middle → let back = came_back waiting a fs st in Calls image p m kept.terminate_handler st back → 19 ≤ k → NoRoom image pick k p m 3 st back w []
+      HandlerReturns p n c e r type d kept waiting a fs st middle → let back = came_back waiting a fs st in Calls image p m kept.terminate_handler st back → length (linear_code (shape p n) (return r)) + 15 ≤ k → NoRoom image pick k p m 3 st back w []
   pub unlisted : (i : CleanImage) (pick : ℕ → ℕ) (k : ℕ) (p : Plan) (e d type : ℕ) (destructor : Option ℕ) (kept : Installed) (j m type0 : ℕ) (destructor0 : Option ℕ) (kept0 : Installed) (st : State) (w : abi.World) → (h : ThrownOut i p e d type destructor kept j st w) →
       list_says p h.rests.kept.owner j type ≡ pos 2 → StoppedLives st h.rests.kept.stopped.number type0 destructor0 kept0 → let waiting = checked_state 9 e (pos 2) st in Calls (program_of i).image p m kept0.terminate_handler st waiting → 35 ≤ k →
       NoRoom (program_of i).image pick k p m 7 st waiting w (Enter e ∷ [])

@@ -27,6 +27,7 @@ use Rattle.machine_exceptions.specs.Leaves.{StepsTo}
 use Rattle.machine_exceptions.specs.Terminates.{in_handler}
 use Rattle.raise_ends.specs.Ends.{RunEnds, NoneIsCalled, HandlerFits, plan_in_handler}
 use Rattle.unexpected_calls.specs.Begins.{AtStopped, in_stopped}
+use Rattle.machine_simulation.specs.Entering.{entry_turns}
 
 -- both machines abort, that for linear code within so many steps, and show these items
 pub record BothAbort (image : Image) (pick : ℕ → ℕ) (k : ℕ) (p : Plan) (steps : ℕ) (st : State) (w : abi.World) (items : List Item) : Type 0 where
@@ -61,11 +62,11 @@ came_back waiting a fs st = record { top = record { function = waiting.function;
 pub record UnexpectedTerminates : Type 0 where
   pub calls_without : (image : Image) (p : Plan) (n o s e : ℕ) (z : ℤ) (type : ℕ) (d : Option ℕ) (kept : Installed) (m : ℕ) (st : State) (w : abi.World) → Matches p st w → AtStopped p n o s e z type d kept st w → kept.unexpected_handler ≡ None →
       NamesTerminate image p → st.world.ending ≡ false → kept.terminate_handler ≡ Some m → p.hidden ≡ 0 → let waiting = in_stopped n o s e 2 None st in HandlerFits p m waiting → let next = in_handler p m waiting in let items = Enter e ∷ [] in
-      StepsTo (code_of p.unit) 5 st next × Shows st next items × Reaches image (length (linear_code (shape p n) (unexpected o s)) + 22) w items (λ u. Matches (plan_in_handler p m waiting) next u)
+      StepsTo (code_of p.unit) 5 st next × Shows st next items × Reaches image (length (linear_code (shape p n) (unexpected o s)) + 18 + entry_turns p m) w items (λ u. Matches (plan_in_handler p m waiting) next u)
   pub aborts_without : (image : Image) (pick : ℕ → ℕ) (k : ℕ) (p : Plan) (n o s e : ℕ) (z : ℤ) (type : ℕ) (d : Option ℕ) (kept : Installed) (st : State) (w : abi.World) → Matches p st w → AtStopped p n o s e z type d kept st w →
       kept.unexpected_handler ≡ None → NamesTerminate image p → NoneIsCalled st.world kept.terminate_handler → length (linear_code (shape p n) (unexpected o s)) + 19 ≤ k → BothAbort image pick k p 6 st w (Enter e ∷ [])
   pub calls_behind : (image : Image) (p : Plan) (n c e : ℕ) (r : Option ℕ) (type : ℕ) (d : Option ℕ) (kept : Installed) (m : ℕ) (waiting a : Activation) (fs : List Activation) (st middle : State) (w : abi.World) → Matches p st w →
       HandlerReturns p n c e r type d kept waiting a fs st middle → NamesTerminate image p → st.world.ending ≡ false → kept.terminate_handler ≡ Some m → p.hidden ≡ 0 → let back = came_back waiting a fs st in HandlerFits p m back →
-      let next = in_handler p m back in StepsTo (code_of p.unit) 3 st next × Shows st next [] × Reaches image 17 w [] (λ u. Matches (plan_in_handler (closed p a.frame.call) m back) next u)
+      let next = in_handler p m back in StepsTo (code_of p.unit) 3 st next × Shows st next [] × Reaches image (length (linear_code (shape p n) (return r)) + 9 + entry_turns p m) w [] (λ u. Matches (plan_in_handler (closed p a.frame.call) m back) next u)
   pub aborts_behind : (image : Image) (pick : ℕ → ℕ) (k : ℕ) (p : Plan) (n c e : ℕ) (r : Option ℕ) (type : ℕ) (d : Option ℕ) (kept : Installed) (waiting a : Activation) (fs : List Activation) (st middle : State) (w : abi.World) → Matches p st w →
-      HandlerReturns p n c e r type d kept waiting a fs st middle → NamesTerminate image p → NoneIsCalled st.world kept.terminate_handler → 14 ≤ k → BothAbort image pick k p 4 st w []
+      HandlerReturns p n c e r type d kept waiting a fs st middle → NamesTerminate image p → NoneIsCalled st.world kept.terminate_handler → length (linear_code (shape p n) (return r)) + 10 ≤ k → BothAbort image pick k p 4 st w []

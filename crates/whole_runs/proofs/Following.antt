@@ -149,6 +149,7 @@ module _ (image : Image) (pick : ℕ → ℕ) (code : Code) (most : ℕ) where
           turns = g.turns;
           paid = g.paid;
           few = g.few;
+          soon = g.soon;
           after = g.after;
           made = g.made;
           stands = rest (before + g.turns) g.next g.after g.stands;

@@ -27,6 +27,7 @@ use Rattle.cost_words.specs.Spends.{spends}
 use Rattle.whole_runs.specs.Turns.{Invariant, Made}
 use Rattle.whole_runs.specs.Steps.{end_of, GoesOn, Ends, Overflows}
 use Rattle.whole_runs.proofs.Counts.{at_most}
+use Rattle.whole_runs.proofs.Spending.{first_among}
 use Rattle.whole_runs.proofs.Staying.{once_stays}
 use Rattle.whole_runs.proofs.Single.{made_by_turns, goes_on_one}
 
@@ -78,10 +79,10 @@ module _ (image : Image) (pick : ℕ → ℕ) (p : Plan) (st : State) (w : abi.W
         goes_on_one image pick (code_of p.unit) st w S before next items m.turns m.after at.step shows (takes_turn n o most m.turns at.runs at.there words m.some) (omega (arith, few, m.few))
         (made_by_turns image pick m.turns w m.after items m.runs) (stands m.turns m.after m.runs m.holds)
 
-    -- several steps, of which at most one pays, and turns that are some if it does
-    pub steps_go_on_made : (steps : ℕ) (next : State) (items : List Item) (turns : ℕ) (u : abi.World) → 0 < steps → StepsTo (code_of p.unit) steps st next → paying (code_of p.unit) steps st ≤ 1 → Shows st next items
-        → paying (code_of p.unit) steps st ≤ turns → turns ≤ spends (code_of p.unit) 1 st → Made image pick turns w u items → S (before + turns) next u → GoesOn image pick (code_of p.unit) S before st w
-    steps_go_on_made steps next items turns u some leads once shows paid few made stands = record {
+    -- several steps, of which at most one pays, and turns that are some if it does; all the steps pay for the turns, and the first of them for all but a few
+    pub steps_go_on_soon : (steps : ℕ) (next : State) (items : List Item) (turns : ℕ) (u : abi.World) → 0 < steps → StepsTo (code_of p.unit) steps st next → paying (code_of p.unit) steps st ≤ 1 → Shows st next items
+        → paying (code_of p.unit) steps st ≤ turns → turns ≤ spends (code_of p.unit) steps st → turns ≤ spends (code_of p.unit) 1 st + 64 → Made image pick turns w u items → S (before + turns) next u → GoesOn image pick (code_of p.unit) S before st w
+    steps_go_on_soon steps next items turns u some leads once shows paid few soon made stands = record {
       steps = steps;
       some = some;
       next = next;
@@ -92,10 +93,25 @@ module _ (image : Image) (pick : ℕ → ℕ) (p : Plan) (st : State) (w : abi.W
       turns = turns;
       paid = paid;
       few = few;
+      soon = soon;
       after = u;
       made = made;
       stands = stands;
     }
+
+    -- the first of them pays for all
+    pub steps_go_on_made : (steps : ℕ) (next : State) (items : List Item) (turns : ℕ) (u : abi.World) → 0 < steps → StepsTo (code_of p.unit) steps st next → paying (code_of p.unit) steps st ≤ 1 → Shows st next items
+        → paying (code_of p.unit) steps st ≤ turns → turns ≤ spends (code_of p.unit) 1 st → Made image pick turns w u items → S (before + turns) next u → GoesOn image pick (code_of p.unit) S before st w
+    steps_go_on_made steps next items turns u some leads once shows paid few made stands =
+        let first = first_among (code_of p.unit) steps st some in
+        steps_go_on_soon steps next items turns u some leads once shows paid (omega (arith, few, first)) (omega (arith, few)) made stands
+
+    pub reaches_goes_on_soon : (steps : ℕ) (next : State) (items : List Item) (most : ℕ) (P : abi.World → Type 0) → 0 < steps → StepsTo (code_of p.unit) steps st next → paying (code_of p.unit) steps st ≤ 1 → most ≤ spends (code_of p.unit) steps st
+        → most ≤ spends (code_of p.unit) 1 st + 64 → Shows st next items → Reaches image most w items P → ((turns : ℕ) (u : abi.World) → Turns image turns w u items → P u → (paying (code_of p.unit) steps st ≤ turns) × S (before + turns) next u)
+        → GoesOn image pick (code_of p.unit) S before st w
+    reaches_goes_on_soon steps next items most P some leads once few soon shows m stands =
+        let h = stands m.turns m.after m.runs m.holds in
+        steps_go_on_soon steps next items m.turns m.after some leads once shows h.0 (omega (arith, few, m.few)) (omega (arith, soon, m.few)) (made_by_turns image pick m.turns w m.after items m.runs) h.1
 
     pub reaches_goes_on : (steps : ℕ) (next : State) (items : List Item) (most : ℕ) (P : abi.World → Type 0) → 0 < steps → StepsTo (code_of p.unit) steps st next → paying (code_of p.unit) steps st ≤ 1 → most ≤ spends (code_of p.unit) 1 st → Shows st next items
         → Reaches image most w items P → ((turns : ℕ) (u : abi.World) → Turns image turns w u items → P u → (paying (code_of p.unit) steps st ≤ turns) × S (before + turns) next u)

@@ -40,6 +40,7 @@ module _ (image : Image) (pick : ℕ → ℕ) (code : Code) (st : State) (w : ab
         turns = turns;
         paid = omega (arith, one, paid);
         few = few;
+        soon = omega (arith, few);
         after = after;
         made = made;
         stands = stands;

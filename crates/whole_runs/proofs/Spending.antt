@@ -86,6 +86,14 @@ module _ (code : Code) where
       ap (λ y. weight_of (op_weight (is_own st.top.function)) (fetch code st.top.function st.top.place) + after (entered code op_weight st) (weighed code op_weight 0) y) e in
       omega (arith, many, weights, le, turn)
 
+  -- so the last of some steps pays that beside what the first of them pays
+  pub last_turn_spends : (steps : ℕ) (st last next : State) → 0 < steps → Leads code steps st (goes_to last) → step code last ≡ goes_to next → 1 ≤ turned code last next → spends code 1 st + 64 ≤ spends code (steps + 1) st
+  last_turn_spends steps st last next some leads e turn =
+      let both = spends_both steps 1 st last leads in
+      let first = first_among steps st some in
+      let more = turn_spends last next 64 e (omega arith) turn in
+      omega (arith, both, first, more)
+
   -- and what the landing pad weighs that it enters
   pub pad_spends : (st next : State) (n : ℕ) → step code st ≡ goes_to next → n ≤ weight_of (op_weight (is_own st.top.function)) (fetch code st.top.function st.top.place) + entered code op_weight st next
       → n ≤ spends code 1 st

@@ -111,12 +111,11 @@ module _ (image : Image) (pick : ℕ → ℕ) (code : Code) where
         behind g later j e =
             let both = spends_both code g.steps j st g.next g.leads in
             let same : spends code n st ≡ spends code (g.steps + j) st = ap (λ i. spends code i st) e in
-            let first = first_among code g.steps st g.some in
             let left : ℕ = k - g.turns in
-            let total : k ≡ g.turns + left = omega (arith, both, same, first, enough, g.few) in
+            let total : k ≡ g.turns + left = omega (arith, both, same, enough, g.few) in
             let is : r ≡ with_items g.items (run image pick left g.after) = ap (λ i. run image pick i w) total ∙ g.made.run left in
             on o left is (later j left (before + g.turns) g.next g.after (omega (arith, lt, e, g.some)) (omega (arith, few, total)) g.stands (comes_behind g.steps j n st g.next v o e g.leads c)
-            (omega (arith, both, same, first, enough, g.few, total)) (late_behind g.steps g.turns k left st g.next g.leads g.paid total late))
+            (omega (arith, both, same, enough, g.few, total)) (late_behind g.steps g.turns k left st g.next g.leads g.paid total late))
           where
             on : (o : Option source.End) (left : ℕ) → r ≡ with_items g.items (run image pick left g.after) → Suffices g.next.world.items o v (run image pick left g.after) → Suffices st.world.items o v r
             on (Some why) left is h = λ out. h (sym (ap (λ (x : Ran). x.end) is) ∙ out)
@@ -137,7 +136,7 @@ module _ (image : Image) (pick : ℕ → ℕ) (code : Code) where
             go (suc m) some =
                 let first = first_among code n st (omega (arith, some)) in
                 let left : ℕ = k - g.turns in
-                let total : k ≡ g.turns + left = omega (arith, first, enough, g.few) in
+                let total : k ≡ g.turns + left = omega (arith, first, enough, g.soon) in
                 let ran : r ≡ with_items g.items (run image pick left g.after) = ap (λ i. run image pick i w) total ∙ g.made.run left in
                 let on : Leads code (suc d) last (goes_to g.next) = leads_rest code n (suc d) st last (goes_to g.next) leads (subst (λ i. Leads code i st (goes_to g.next)) e g.leads) in
                 let front : BeginsWith v.items g.next.world.items = subst (λ (u : World). BeginsWith u.items g.next.world.items) is (led_on code (suc d) last g.next on) in

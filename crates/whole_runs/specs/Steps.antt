@@ -26,8 +26,8 @@ abbrev pub StaysBehind : Image → (ℕ → ℕ) → Code → ℕ → State → 
 StaysBehind image pick code steps st w = (n k : ℕ) (last : State) → n < steps → Leads code n st (goes_to last) → pays_at code last ≡ true → k ≤ paying code n st →
     BeginsWith (st.world.items ++ (run image pick k w).items) last.world.items × ((run image pick k w).end ≡ ends.Budget)
 
--- Steps lead to a state in which the invariant holds again. Each that may pay for a turn has a turn of the ABI machine, which shows the same items. The first of
--- them pays for all these turns.
+-- Steps lead to a state in which the invariant holds again. Each that may pay for a turn has a turn of the ABI machine, which shows the same items. They pay for
+-- all these turns, and the first of them for all but a few.
 pub record GoesOn (image : Image) (pick : ℕ → ℕ) (code : Code) (S : Invariant) (before : ℕ) (st : State) (w : abi.World) : Type 0 where
   pub steps : ℕ
   pub some : 0 < steps
@@ -38,7 +38,8 @@ pub record GoesOn (image : Image) (pick : ℕ → ℕ) (code : Code) (S : Invari
   pub shows : next.world.items ≡ st.world.items ++ items
   pub turns : ℕ
   pub paid : paying code steps st ≤ turns
-  pub few : turns ≤ spends code 1 st
+  pub few : turns ≤ spends code steps st
+  pub soon : turns ≤ spends code 1 st + 64
   pub after : abi.World
   pub made : Made image pick turns w after items
   pub stands : S (before + turns) next after

@@ -9,7 +9,7 @@ pub returns : goal.returns
 returns c =
     let ops = c.as_slice.result.now in
     body_stands (record { code = c.put_operations.new.code; starts = c.in_ok-starts.starts; labels = c.in_ok-labels.labels }) (code_of c.args.function.now)
-    c.in_ok-frame.frame c.new-code.result c.put_prologue.new.code (map linear_of ops) (length c.as_slice-2.result.now) c.in_ok-frame.ensures c.new-code.ensures
-    c.in_ok-put_prologue.ensures (ap (map linear_of) c.as_slice.ensures.value) c.in_ok-starts.ensures.code c.in_ok-starts.ensures.starts c.in_ok-starts.ensures.end
+    c.args.frame.now c.new-code.result c.put_front.new.code (map linear_of ops) (length c.as_slice-2.result.now) c.requires c.new-code.ensures
+    c.in_ok-put_front.ensures (ap (map linear_of) c.as_slice.ensures.value) c.in_ok-starts.ensures.code c.in_ok-starts.ensures.starts c.in_ok-starts.ensures.end
     (ap length (c.as_slice-2.ensures.value ∙ sym c.as_slice.ensures.value) ∙ sym (length-map ops linear_of))
     (λ l. c.in_ok-labels.ensures l ∙ ap (λ os. label_place (map linear_of os) l 0) (c.as_slice-2.ensures.value ∙ sym c.as_slice.ensures.value))

@@ -1,4 +1,4 @@
-use Rattle.rv64_emit.proofs.Moves.{moves_fit}
+use Rattle.rv64_emit.proofs.MovesFit.{moves_fit}
 use Rattle.rv64_emit.proofs.laws.moves_fit.Goals as goal
 
 pub returns : goal.returns
