@@ -17,6 +17,7 @@ import tempfile
 from building import TOP, run
 
 EHC = TOP / "crates/eh_cli/out/eh_cli"
+NUMBERS = {"ra": 1, "s1": 9, **{f"s{n}": 16 + n for n in range(2, 12)}}
 TOOLS = ["readelf", "llvm-dwarfdump", "llvm-objdump", "gdb", "c++filt"]
 OWN = ["_start", "_ZN10__cxxabiv111__terminateEPFvvE", "__cxa_end_catch", "__cxa_call_unexpected"]
 
@@ -28,31 +29,37 @@ def quiet(command):
 
 
 def dumped(text):
-    """Extent -> rows (location, CFA, rule of ra), as `dump` has them."""
+    """Extent -> rows (location, CFA, register and rule of each that has one), as `dump` has them."""
     frames, rows = {}, None
     for line in text.splitlines():
         words = line.split()
         if words[0] == "frame":
             rows = frames[int(words[1], 16), int(words[2], 16)] = []
         elif words[0] == "row":
-            rules = [word[3:] for word in words[4:] if word.startswith("x1=")]
-            rows.append((int(words[1], 16), words[3].replace("x2", "sp"), rules[0] if rules else ""))
-    return frames
+            rows.append((int(words[1], 16), words[3].replace("x2", "sp"), tuple(word.split("=", 1) for word in words[4:])))
+    return {extent: [(at, cfa, tuple((int(name[1:]), rule) for name, rule in rules)) for at, cfa, rules in rows] for extent, rows in frames.items()}
 
 
 def by_readelf(text):
-    """The same, by readelf, which has u for a rule that is not there."""
-    frames, rows = {}, None
+    """The same, by readelf, which has u where dump has no rule."""
+    frames, rows, names = {}, None, []
     for line in text.splitlines():
         words = line.split()
         extent = re.search(r" FDE .* pc=([0-9a-f]+)\.\.([0-9a-f]+)", line)
         if extent:
-            rows = frames[int(extent[1], 16), int(extent[2], 16)] = []
+            rows, names = frames.setdefault((int(extent[1], 16), int(extent[2], 16)), []), []
         elif " CIE " in line:
-            rows = []
-        elif words and re.fullmatch("[0-9a-f]{16}", words[0]) and len(words) in (2, 3):
-            rows.append((int(words[0], 16), words[1], words[2] if len(words) == 3 else "u"))
+            rows, names = [], []
+        elif words[:2] == ["LOC", "CFA"]:
+            names = [NUMBERS[name] for name in words[2:]]
+        elif words and re.fullmatch("[0-9a-f]{16}", words[0]) and len(words) == 2 + len(names):
+            rows.append((int(words[0], 16), words[1], ruled(zip(names, words[2:]))))
     return frames
+
+
+def ruled(rules):
+    """Rules but those that say nothing, by register."""
+    return tuple(sorted((number, rule) for number, rule in rules if rule != "u"))
 
 
 def by_dwarfdump(text):
@@ -60,12 +67,12 @@ def by_dwarfdump(text):
     frames, rows = {}, []
     for line in text.splitlines():
         extent = re.search(r" FDE .* pc=([0-9a-f]+)\.\.\.([0-9a-f]+)", line)
-        row = re.fullmatch(r"\s+0x([0-9a-f]+): CFA=X2(\+\d+)?(?:: X1=(.*))?", line)
+        row = re.fullmatch(r"\s+0x([0-9a-f]+): CFA=X2(\+\d+)?(?:: (.*))?", line)
         if extent:
             rows = frames[int(extent[1], 16), int(extent[2], 16)] = []
         elif row:
-            rule = (row[3] or "").replace("undefined", "u").replace("[CFA", "c").strip("]")
-            rows.append((int(row[1], 16), "sp" + (row[2] or "+0"), rule))
+            rules = [one.replace("undefined", "u").replace("[CFA", "c").strip("]").split("=") for one in row[3].split(", ")] if row[3] else []
+            rows.append((int(row[1], 16), "sp" + (row[2] or "+0"), tuple((int(name[1:]), rule) for name, rule in rules)))
     return frames
 
 
@@ -163,7 +170,7 @@ def differences(image, dump):
     symbols, words = {}, {}
     if shutil.which("readelf"):
         text, complaints = quiet(["readelf", "--debug-dump=frames-interp", image])
-        ours = {extent: [(a, cfa, rule or "u") for a, cfa, rule in rows] for extent, rows in frames.items()}
+        ours = {extent: [(a, cfa, ruled(rules)) for a, cfa, rules in rows] for extent, rows in frames.items()}
         symbols, others = symbols_of(image)
         found += complaints + others + unlike("readelf", ours, by_readelf(text))
         found += [f"symbols: {name} is no frame's" for name, extent in symbols.items() if extent not in frames]
