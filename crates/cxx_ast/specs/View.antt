@@ -10,6 +10,7 @@ use Rattle.cxx_ast.specs.declared.declaration.Decl.TheVariants.{Class as ClassDe
 use Rattle.cxx_ast.specs.declared.program.Program.{Program as ProgramValue}
 use Rattle.cxx_ast.specs.declared.program.Checked.{Checked as CheckedValue}
 use Rattle.cxx_ast.specs.declared.expression.Expr.{Expr, Number, Path, Paren', Unary', Binary', Call', StdCall', Row_of-Expr, end_of-Expr, more_of-Expr}
+use Rattle.cxx_ast.specs.declared.statement.Handler.{Handler}
 use Rattle.cxx_ast.specs.declared.statement.Stmt.{Stmt, Block', Empty, If', While', Return, Break, Continue, Throw, Try', Assign, Call, LocalInt, LocalRef, LocalObject, Row_of-Stmt, end_of-Stmt, more_of-Stmt, Held-Stmt-If-2, None', Some', Row_of-Handler, end_of-Handler, more_of-Handler}
 use Rattle.cxx_ast.specs.Plain.{Expression, number, path, paren, unary, binary, call, std_call, Expressions, no_expressions, expression_then, Statement, block, empty, if_else, while, return, break, continue, throw, try, assign, evaluate, local_int, local_ref, local_object, Else, no_else, else_do, Statements, no_statements, statement_then, Handlers, no_handlers, handler_then, Initialiser, Specification, listed, noexcept, Function, Class, Declaration, class_declaration, global_declaration, function_declaration, Program, Checked}
 
@@ -73,6 +74,11 @@ abbrev mutual
 abbrev pub statements_of : List Stmt → Statements
 statements_of [] = no_statements
 statements_of (s ∷ ss) = statement_then (statement_of s) (statements_of ss)
+
+-- the handlers of a list
+abbrev pub handlers_of : List Handler → Handlers
+handlers_of [] = no_handlers
+handlers_of (h ∷ hs) = handler_then h.ty h.name (statements_of h.body.items) h.place (handlers_of hs)
 
 -- an initialiser
 abbrev pub initialiser_of : Init → Initialiser

@@ -5,13 +5,13 @@ use crate::statement::Stmt;
 use crate::types::{Param, Ty};
 
 /// `name(arguments)` before the body of a constructor.
-#[derive(Debug, Drop, PartialEq, Eq)]
+#[derive(Drop)]
 pub struct Init {
     pub name: Name,
     pub args: Vec<Expr>,
 }
 
-#[derive(Debug, Drop, Clone, Copy, PartialEq, Eq)]
+#[derive(Drop, Clone, Copy, PartialEq, Eq)]
 pub enum FuncKind {
     /// A function of no class.
     Plain,
@@ -21,7 +21,7 @@ pub enum FuncKind {
 }
 
 /// An exception specification.
-#[derive(Debug, Drop, PartialEq, Eq)]
+#[derive(Drop)]
 pub enum Spec {
     /// `throw(types)`.
     Throw(Vec<Ty>),
@@ -30,7 +30,7 @@ pub enum Spec {
 }
 
 /// A function, or its declaration alone, which has no body. Constructors and destructors have the result `Void`.
-#[derive(Debug, Drop, PartialEq, Eq)]
+#[derive(Drop)]
 pub struct Func {
     pub name: Name,
     pub kind: FuncKind,
@@ -45,7 +45,7 @@ pub struct Func {
 }
 
 /// A class, with its data members in order, and its member functions in order.
-#[derive(Debug, Drop, PartialEq, Eq)]
+#[derive(Drop)]
 pub struct ClassDecl {
     pub name: Name,
     pub base: Option<Name>,
@@ -53,7 +53,7 @@ pub struct ClassDecl {
     pub funcs: Vec<Func>,
 }
 
-#[derive(Debug, Drop, PartialEq, Eq)]
+#[derive(Drop)]
 pub enum Decl {
     Class(ClassDecl),
     /// A global int, with its first value.

@@ -2,20 +2,20 @@
 use crate::name::Name;
 
 /// `a.b.c`, at least one name.
-#[derive(Debug, Drop, PartialEq, Eq)]
+#[derive(Drop)]
 pub struct Lvalue {
     pub path: Vec<Name>,
 }
 
 /// An operator before its operand: `-` and `!`.
-#[derive(Debug, Drop, Clone, Copy, PartialEq, Eq)]
+#[derive(Drop, Clone, Copy, PartialEq, Eq)]
 pub enum UnaryOp {
     Minus,
     Not,
 }
 
 /// An operator between its operands.
-#[derive(Debug, Drop, Clone, Copy, PartialEq, Eq)]
+#[derive(Drop, Clone, Copy, PartialEq, Eq)]
 pub enum BinaryOp {
     Add,
     Subtract,
@@ -33,7 +33,7 @@ pub enum BinaryOp {
 }
 
 /// An expression. A `u32` is the place of the first token, where no name below has it.
-#[derive(Debug, Drop, PartialEq, Eq)]
+#[derive(Drop)]
 pub enum Expr {
     Number(i32, u32),
     Path(Lvalue),

@@ -3,7 +3,7 @@ ghost use Rattle.std.specs.Prelude.{◌≡◌};
 ghost use Rattle.cxx_ast.specs.Keywords.{spelling};
 
 /// A word that is no name: a keyword of C++03, an alternative token, or `std`.
-#[derive(Debug, Drop, Clone, Copy, PartialEq, Eq)]
+#[derive(Drop, Clone, Copy, PartialEq, Eq)]
 pub enum Keyword {
     Asm,
     Auto,

@@ -3,7 +3,7 @@ ghost use Rattle.std.specs.Prelude.{◌≡◌};
 ghost use Rattle.cxx_ast.specs.Marks.{spelling};
 
 /// An operator or a punctuator. From `PlusPlus` on, the grammar uses none.
-#[derive(Debug, Drop, Clone, Copy, PartialEq, Eq)]
+#[derive(Drop, Clone, Copy, PartialEq, Eq)]
 pub enum Mark {
     OpenBrace,
     CloseBrace,

@@ -2,7 +2,7 @@
 use crate::text::Text;
 
 /// A function that the language has without a declaration, or its class `std::bad_exception`.
-#[derive(Debug, Drop, Clone, Copy, PartialEq, Eq)]
+#[derive(Drop, Clone, Copy, PartialEq, Eq)]
 pub enum Builtin {
     /// `write_int`
     WriteInt,
@@ -27,7 +27,7 @@ pub enum Builtin {
 }
 
 /// What a name stands for. In a tree that was read each name is free, and in a checked program none is.
-#[derive(Debug, Drop, Clone, Copy, PartialEq, Eq)]
+#[derive(Drop, Clone, Copy, PartialEq, Eq)]
 pub enum Bound {
     /// Not yet sought.
     Free,
@@ -48,7 +48,7 @@ pub enum Bound {
 }
 
 /// A name, the place of its first byte, and what it stands for.
-#[derive(Debug, Drop, PartialEq, Eq)]
+#[derive(Drop)]
 pub struct Name {
     pub text: Text,
     pub place: u32,

@@ -4,7 +4,7 @@ use crate::name::Name;
 use crate::types::{Param, Ty};
 
 /// A handler. It has no type for `catch (...)`. The place is that of the first token after `catch (`.
-#[derive(Debug, Drop, PartialEq, Eq)]
+#[derive(Drop)]
 #[cycle(tree)]
 pub struct Handler {
     pub ty: Option<Ty>,
@@ -14,7 +14,7 @@ pub struct Handler {
 }
 
 /// A statement, or a declaration of a local variable. A `u32` is the place of the keyword.
-#[derive(Debug, Drop, PartialEq, Eq)]
+#[derive(Drop)]
 #[cycle(tree)]
 pub enum Stmt {
     Block(Vec<Stmt>),

@@ -4,7 +4,7 @@ use crate::mark::Mark;
 use crate::text::Text;
 
 /// What a token is.
-#[derive(Debug, Drop, PartialEq, Eq)]
+#[derive(Drop)]
 pub enum TokenKind {
     /// A name, which is no reserved word.
     Name(Text),
@@ -17,7 +17,7 @@ pub enum TokenKind {
 }
 
 /// A token, and the place of its first byte, counted in bytes from the source's start.
-#[derive(Debug, Drop, PartialEq, Eq)]
+#[derive(Drop)]
 pub struct Token {
     pub kind: TokenKind,
     pub place: u32,

@@ -3,7 +3,7 @@ use crate::name::Name;
 
 /// A type. The flag of a reference says that it refers to const. The name of `std::bad_exception` has that text, and the place of
 /// `std`.
-#[derive(Debug, Drop, PartialEq, Eq)]
+#[derive(Drop)]
 pub enum Ty {
     Int,
     Void,
@@ -13,7 +13,7 @@ pub enum Ty {
 }
 
 /// A parameter, a data member or a local reference. Of these only a parameter may have no name.
-#[derive(Debug, Drop, PartialEq, Eq)]
+#[derive(Drop)]
 pub struct Param {
     pub ty: Ty,
     pub name: Option<Name>,

@@ -6,9 +6,8 @@ use Rattle.cxx_ast.specs.declared.expression.Expr.{Expr}
 use Rattle.cxx_ast.specs.declared.statement.Stmt.{Stmt}
 use Rattle.cxx_ast.specs.declared.statement.Handler.{Handler}
 use Rattle.cxx_ast.specs.Plain.{Expressions, no_expressions, expression_then, Statements, no_statements, statement_then, Handlers, no_handlers, handler_then}
-use Rattle.cxx_ast.specs.View.{expression_of, expressions_of, statement_of, statements_of}
+use Rattle.cxx_ast.specs.View.{expression_of, expressions_of, statement_of, statements_of, handlers_of}
 use Rattle.cxx_check.specs.Joined.{expressions_joined, statements_joined, handlers_joined}
-use Rattle.cxx_rules.specs.Walk.{handlers_of}
 
 pub joined_push : (es : List Expr) (e : Expr) (others : Expressions) →
     expressions_joined (es ++ e ∷ []) others ≡ expressions_joined es (expression_then (expression_of e) others)

@@ -24,11 +24,13 @@ use Rattle.cxx_ast.specs.declared.standard.Std.{Std}
 use Rattle.cxx_check.specs.PartsOf.{class_in, global_in, function_in}
 use Rattle.cxx_check.specs.TreeParts.{base_tree, fields_tree, methods_tree}
 
-base_is : (env : Environment) (c : Class) (b : Option Name) → base_tree (with_class_name env c) b ≡ resolve_base env c b
+-- the base of a class
+pub base_is : (env : Environment) (c : Class) (b : Option Name) → base_tree (with_class_name env c) b ≡ resolve_base env c b
 base_is env c None = refl
 base_is env c (Some b) = refl
 
-fields_are : (env : Environment) (c : Class) (i : ℕ) (ps : List Param) → fields_tree (head_environment env c) (next_class env) i ps ≡ resolve_fields env c i ps
+-- its data members
+pub fields_are : (env : Environment) (c : Class) (i : ℕ) (ps : List Param) → fields_tree (head_environment env c) (next_class env) i ps ≡ resolve_fields env c i ps
 fields_are env c i [] = refl
 fields_are env c i (p ∷ ps) =
     let first : Param = record { ty = resolve_type (head_environment env c) (head_scope env (name_of p)) p.ty; name = bind_some p.name (FieldBound (next_class env) i) } in
@@ -47,19 +49,17 @@ same_class : (m n : Name) (a b : Option Name) (p q : List Param) (f g : List Fun
 same_class m n a b p q f g e h i j = cc
 
 -- a class of its parts
-pub class_tree_is : (env : Environment) (c : Class) (named inside known : Environment) (k number : ℕ) (name : Name) (base : Option Name) (members : List Param) (functions : List Function) →
-    named ≡ with_class_name env c → inside ≡ head_environment env c → known ≡ declare_behind env (class_declaration c) → k ≡ next_class env → number ≡ k →
-    name ≡ bind c.name (ClassBound number) → base ≡ base_tree named c.base → members ≡ fields_tree inside k 0 c.members →
-    functions ≡ methods_tree inside known k 0 c.functions →
+pub class_tree_by : (env : Environment) (c : Class) (known : Environment) (k : ℕ) (name : Name) (base : Option Name) (members : List Param) (functions : List Function) →
+    known ≡ declare_behind env (class_declaration c) → k ≡ next_class env →
+    name ≡ bind c.name (ClassBound k) → base ≡ resolve_base env c c.base → members ≡ resolve_fields env c 0 c.members →
+    functions ≡ methods_tree (head_environment env c) known k 0 c.functions →
     (let t : Class = record { name = name; base = base; members = members; functions = functions } in t ≡ resolve_class_tree env c)
-class_tree_is env c named inside known k number name base members functions e h i j n p q r s =
+class_tree_by env c known k name base members functions i j p q r s =
     let H = head_environment env c in
     let K = declare_behind env (class_declaration c) in
     same_class name _ base _ members _ functions _
-    (p ∙ ap (λ x. bind c.name (ClassBound x)) (n ∙ j))
-    (q ∙ ap (λ x. base_tree x c.base) e ∙ base_is env c c.base)
-    (r ∙ ap (λ x. fields_tree x k 0 c.members) h ∙ ap (λ x. fields_tree H x 0 c.members) j ∙ fields_are env c 0 c.members)
-    (s ∙ ap (λ x. methods_tree x known k 0 c.functions) h ∙ ap (λ x. methods_tree H x k 0 c.functions) i ∙ ap (λ x. methods_tree H K x 0 c.functions) j ∙ methods_are env c 0 c.functions)
+    (p ∙ ap (λ x. bind c.name (ClassBound x)) j) q r
+    (s ∙ ap (λ x. methods_tree H x k 0 c.functions) i ∙ ap (λ x. methods_tree H K x 0 c.functions) j ∙ methods_are env c 0 c.functions)
 
 -- no class is int
 meant_no_int : (m : Meaning) → is_int_kind (class_meant m) ≡ false

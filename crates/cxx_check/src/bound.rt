@@ -6,6 +6,7 @@ ghost use Rattle.cxx_rules.specs.KindOf.{kind_of};
 ghost use Rattle.cxx_rules.specs.MeaningOf.{meaning_of};
 
 use crate::NoMemory;
+use crate::held::put;
 use cxx_ast::name::{Bound, Name};
 use cxx_ast::text::Text;
 use cxx_ast::types::Ty;
@@ -54,8 +55,9 @@ pub fn bound_of(env: &Environment<'_>, meaning: &Meaning<'_, '_>) -> Result<Boun
 pub fn bind(alloc: Global, name: &Name, bound: Bound) -> Result<Name, NoMemory>
     ensures { IfOk result (λ n. n ≡ bind name.now bound) }
 {
+    let text = Text::copied(alloc, name.text.as_bytes())?;
     Ok(Name {
-        text: Text::copied(alloc, name.text.as_bytes())?,
+        text,
         place: name.place,
         bound,
     })
@@ -135,15 +137,17 @@ fn step_to(
         Kind::Class(class) => {
             let meaning = member_meaning(env, class, name.text.as_bytes());
             let bound = bound_of(env, &meaning)?;
+            let name = bind(alloc, name, bound)?;
+            let kind = meaning.kind();
+            Ok(Stepped { name, kind })
+        }
+        _ => {
+            let name = copied(alloc, name)?;
             Ok(Stepped {
-                name: bind(alloc, name, bound)?,
-                kind: meaning.kind(),
+                name,
+                kind: Kind::Nothing,
             })
         }
-        _ => Ok(Stepped {
-            name: copied(alloc, name)?,
-            kind: Kind::Nothing,
-        }),
     }
 }
 
@@ -158,11 +162,11 @@ fn resolve_members(
     ensures { IfOk result (λ bound. bound.items ≡ first ∷ resolve_members env.now (kind_of kind) names.now) }
 {
     let mut bound = Vec::new(alloc);
-    bound.push(first)?;
+    put(first, &mut bound)?;
     let mut kind = kind;
     for name in names {
         let next = step_to(alloc, env, kind, name)?;
-        bound.push(next.name)?;
+        put(next.name, &mut bound)?;
         kind = next.kind;
     }
     Ok(bound)

@@ -38,7 +38,10 @@ fn with_kind(
 {
     match kind {
         Kind::Class(class) => with_class(alloc, env, total, class),
-        _ => total.plus(alloc, &Size::new(alloc, 4)?),
+        _ => {
+            let four = Size::new(alloc, 4)?;
+            total.plus(alloc, &four)
+        }
     }
 }
 
@@ -155,8 +158,8 @@ pub fn class_entry<'t>(
 ) -> Result<ClassEntry<'t>, NoMemory>
     ensures { IfOk result (λ entry. entry ≡ entry_in env.now class base fields.entry.items functions.entry.items text.now) }
 {
-    let size = size_of(alloc, env, base, fields.as_slice())?;
     let chain = chain_of(env, base)?;
+    let size = size_of(alloc, env, base, fields.as_slice())?;
     let has_default = needs_no_arguments(
         env,
         class,

@@ -5,8 +5,9 @@ ghost use Rattle.cxx_ast.specs.Environment.{class_kind, same_kind};
 ghost use Rattle.cxx_ast.specs.ClassRules.{type_place};
 ghost use Rattle.cxx_ast.specs.Declare.{name_of, other_class, other_kind, bare_field, bare_signature};
 ghost use Rattle.cxx_ast.specs.Finding.{breaks_if};
+ghost use Rattle.cxx_ast.specs.Locals.{outermost};
 ghost use Rattle.cxx_ast.specs.Rule.{incomplete_class};
-ghost use Rattle.cxx_ast.specs.TypeNames.{type_kind, type_found};
+ghost use Rattle.cxx_ast.specs.TypeNames.{signature, type_kind, type_found};
 ghost use Rattle.cxx_ast.specs.View.{function_of, class_of};
 ghost use Rattle.cxx_check.specs.ClassParts.{base_in, base_number_in, bare_class, field_in, field_of_in, method_head_in, method_of_in};
 ghost use Rattle.cxx_check.specs.FunctionParts.{head_found};
@@ -14,6 +15,7 @@ ghost use Rattle.cxx_rules.specs.KindOf.{kind_of};
 ghost use Rattle.cxx_rules.specs.Summary.{seen};
 
 use crate::NoMemory;
+use crate::held::put;
 use cxx_ast::declaration::{ClassDecl, Func};
 use cxx_ast::name::Name;
 use cxx_ast::types::{Param, Ty};
@@ -207,9 +209,9 @@ pub fn data_members<'t>(
     Ok(Fields { found, fields })
 }
 
-/// What the head of a function breaks.
+// What the head of a function breaks.
 #[tactic(auto, using(cxx_rules::proofs::FoundLaws::findings))]
-pub fn head_found<'t>(
+fn head_found<'t>(
     alloc: Global,
     env: &Environment<'t>,
     scope: &Scope<'t>,
@@ -219,6 +221,30 @@ pub fn head_found<'t>(
 {
     let twice = params_twice(alloc, env, f.params.as_slice())?;
     Ok(head_types_found(env, scope, f).and(twice))
+}
+
+/// A function by its head, and what its head breaks.
+#[derive(Drop)]
+pub struct Head<'t> {
+    pub found: Found,
+    pub signature: Signature<'t>,
+}
+
+/// The head of a function, whose names are sought in a class before a place, or outside of classes.
+pub fn function_head<'t>(
+    alloc: Global,
+    env: &Environment<'t>,
+    own: Option<usize>,
+    limit: Option<u32>,
+    f: &'t Func,
+) -> Result<Head<'t>, NoMemory>
+    ensures found { IfOk result (λ h. h.found ≡ seen env.now (head_found env.now (record outermost { own = own; limit = limit }) (function_of f.now))) }
+    ensures signature { IfOk result (λ h. h.signature ≡ signature env.now (record outermost { own = own; limit = limit }) (function_of f.now)) }
+{
+    let scope = Scope::outermost(alloc, own, limit);
+    let found = head_found(alloc, env, &scope, f)?;
+    let signature = signature(alloc, env, &scope, f)?;
+    Ok(Head { found, signature })
 }
 
 /// The functions of a class by their heads, and what their heads break.
@@ -241,9 +267,9 @@ pub fn function_heads<'t>(
     let mut found = Found::nothing();
     let mut signatures = Vec::new(alloc);
     for f in funcs {
-        let scope = Scope::outermost(alloc, Some(class), Some(f.name.place));
-        found = found.and(head_found(alloc, env, &scope, f)?);
-        signatures.push(signature(alloc, env, &scope, f)?)?;
+        let head = function_head(alloc, env, Some(class), Some(f.name.place), f)?;
+        found = found.and(head.found);
+        put(head.signature, &mut signatures)?;
     }
     Ok(Heads { found, signatures })
 }

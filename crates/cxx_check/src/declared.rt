@@ -1,22 +1,25 @@
 // Declarations of globals and functions, and the walk over all declarations.
-ghost use Rattle.std.specs.Prelude.{◌≡◌, [], ◌&&◌, IfOk, map, Some, None};
+ghost use Rattle.std.specs.Prelude.{◌≡◌, [], ◌&&◌, IfOk, OnOk, map, Some, None};
 ghost use Rattle.cxx_ast.specs.declared.name.Bound.TheVariants.{Free};
 ghost use Rattle.cxx_ast.specs.Broken.{function_name_found, declaration_found, declarations_found};
 ghost use Rattle.cxx_ast.specs.Declare.{declare_behind};
+ghost use Rattle.cxx_ast.specs.Locals.{outermost};
 ghost use Rattle.cxx_ast.specs.Lookup.{entry_of};
 ghost use Rattle.cxx_ast.specs.Plain.{function_declaration};
+ghost use Rattle.cxx_ast.specs.TypeNames.{signature};
 ghost use Rattle.cxx_ast.specs.View.{function_of, declaration_of};
+ghost use Rattle.cxx_check.specs.FunctionParts.{head_found};
 ghost use Rattle.cxx_check.specs.Whole.{again_found, global_found};
 ghost use Rattle.cxx_rules.specs.Known.{with_global};
-ghost use Rattle.cxx_rules.specs.Summary.{seen};
+ghost use Rattle.cxx_rules.specs.Summary.{both, seen};
 
 use crate::NoMemory;
-use crate::class::{Walked, class};
-use crate::class_head::head_found;
-use crate::inside::{inside_found, resolve_inside};
+use crate::class::class;
+use crate::class_head::function_head;
+use crate::inside::behind_found;
 use cxx_ast::declaration::{Decl, Func};
 use cxx_ast::name::Name;
-use cxx_rules::{Environment, Found, Rule, Scope, Signature, Thing, signature};
+use cxx_rules::{Environment, Found, Rule, Signature, Thing};
 use std::alloc::Global;
 
 // A function behind other declarations of it.
@@ -47,48 +50,49 @@ fn name_found(env: &Environment<'_>, s: &Signature<'_>) -> Found
     }
 }
 
-// A function of no class.
-fn function<'t>(alloc: Global, env: Environment<'t>, f: &'t Func) -> Result<Walked<'t>, NoMemory>
-    ensures env { IfOk result (λ w. w.env ≡ declare_behind env.entry (function_declaration (function_of f.now))) }
-    ensures found { IfOk result (λ w. w.found ≡ seen env.entry (declaration_found env.entry (function_declaration (function_of f.now)))) }
+// The head of a function of no class, which is known from here on.
+fn head_known<'t>(alloc: Global, env: &mut Environment<'t>, f: &'t Func) -> Result<Found, NoMemory>
+    ensures env { OnOk result (env.new ≡ declare_behind env.old (function_declaration (function_of f.now))) }
+    ensures found { IfOk result (λ found. found ≡ both (seen env.old (function_name_found env.old (signature env.old outermost (function_of f.now)) (entry_of env.old f.now.name.text))) (seen env.old (head_found env.old outermost (function_of f.now)))) }
 {
-    let scope = Scope::outermost(alloc, None, None);
-    let s = signature(alloc, &env, &scope, f)?;
-    let named = name_found(&env, &s);
-    let head = head_found(alloc, &env, &scope, f)?;
-    let known = env.with_signature(alloc, s)?;
-    let inside = resolve_inside(alloc, &known, None, f)?;
-    let behind = inside_found(alloc, &known, None, f, &inside)?;
-    Ok(Walked {
-        env: known,
-        found: named.and(head).and(behind),
-    })
+    let head = function_head(alloc, env, None, None, f)?;
+    let named = name_found(env, &head.signature);
+    env.add_signature(alloc, head.signature)?;
+    Ok(named.and(head.found))
 }
 
-// A global.
+// A function of no class, which is known from here on.
+fn function<'t>(alloc: Global, env: &mut Environment<'t>, f: &'t Func) -> Result<Found, NoMemory>
+    ensures env { OnOk result (env.new ≡ declare_behind env.old (function_declaration (function_of f.now))) }
+    ensures found { IfOk result (λ found. found ≡ seen env.old (declaration_found env.old (function_declaration (function_of f.now)))) }
+{
+    let head = head_known(alloc, env, f)?;
+    let behind = behind_found(alloc, env, None, f)?;
+    Ok(head.and(behind))
+}
+
+// A global, which is known from here on.
 #[tactic(auto, using(cxx_rules::proofs::FoundLaws::findings))]
-fn global<'t>(alloc: Global, env: Environment<'t>, name: &Name) -> Result<Walked<'t>, NoMemory>
-    ensures env { IfOk result (λ w. w.env ≡ with_global env.entry name.now.text) }
-    ensures found { IfOk result (λ w. w.found ≡ seen env.entry (global_found env.entry name.now)) }
+fn global(alloc: Global, env: &mut Environment<'_>, name: &Name) -> Result<Found, NoMemory>
+    ensures env { OnOk result (env.new ≡ with_global env.old name.now.text) }
+    ensures found { IfOk result (λ found. found ≡ seen env.old (global_found env.old name.now)) }
 {
     let text = name.text.as_bytes();
     let found = Found::broken_if(env.is_taken(text), Rule::Redeclared, name.place);
-    Ok(Walked {
-        env: env.with_global(alloc, text)?,
-        found,
-    })
+    env.add_global(alloc, text)?;
+    Ok(found)
 }
 
-// A declaration.
+// A declaration, which is known from here on.
 fn declaration<'t>(
     alloc: Global,
-    env: Environment<'t>,
+    env: &mut Environment<'t>,
     nameless: &'t Name,
     d: &'t Decl,
-) -> Result<Walked<'t>, NoMemory>
+) -> Result<Found, NoMemory>
     requires { nameless.now ≡ record { text = []; place = 0; bound = Free } }
-    ensures env { IfOk result (λ w. w.env ≡ declare_behind env.entry (declaration_of d.now)) }
-    ensures found { IfOk result (λ w. w.found ≡ seen env.entry (declaration_found env.entry (declaration_of d.now))) }
+    ensures env { OnOk result (env.new ≡ declare_behind env.old (declaration_of d.now)) }
+    ensures found { IfOk result (λ found. found ≡ seen env.old (declaration_found env.old (declaration_of d.now))) }
 {
     match d {
         Decl::Class(c) => class(alloc, env, nameless, c),
@@ -97,23 +101,21 @@ fn declaration<'t>(
     }
 }
 
-/// Declarations in order.
+/// Declarations in order, which are known from here on.
 pub fn declarations<'t>(
     alloc: Global,
-    env: Environment<'t>,
+    env: &mut Environment<'t>,
     nameless: &'t Name,
     decls: &'t [Decl],
-) -> Result<Walked<'t>, NoMemory>
+) -> Result<Found, NoMemory>
     requires { nameless.now ≡ record { text = []; place = 0; bound = Free } }
-    ensures env { IfOk result (λ w. w.env.definitions ≡ env.entry.definitions) }
-    ensures found { IfOk result (λ w. w.found ≡ seen env.entry (declarations_found env.entry (map declaration_of decls.now))) }
+    ensures env { OnOk result (env.new.definitions ≡ env.old.definitions) }
+    ensures found { IfOk result (λ found. found ≡ seen env.old (declarations_found env.old (map declaration_of decls.now))) }
 {
-    let mut known = env;
     let mut found = Found::nothing();
     for d in decls {
-        let next = declaration(alloc, known, nameless, d)?;
-        found = found.and(next.found);
-        known = next.env;
+        let next = declaration(alloc, env, nameless, d)?;
+        found = found.and(next);
     }
-    Ok(Walked { env: known, found })
+    Ok(found)
 }

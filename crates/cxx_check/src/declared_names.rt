@@ -2,11 +2,10 @@
 ghost use Rattle.std.specs.Prelude.{◌≡◌, ◌++◌, ◌∷◌, [], OnOk, IfOk, flat_map, map};
 ghost use Rattle.cxx_ast.specs.ClassRules.{method_names};
 ghost use Rattle.cxx_ast.specs.DeclaredNames.{some_name, names_in, names_of, names_caught, param_names, body_names, inside_function, names_declared};
-ghost use Rattle.cxx_ast.specs.View.{statement_of, statements_of, function_of, class_of, declaration_of};
+ghost use Rattle.cxx_ast.specs.View.{statement_of, statements_of, function_of, class_of, declaration_of, handlers_of};
 ghost use Rattle.cxx_check.specs.InsideOf.{body_of};
 ghost use Rattle.cxx_check.specs.OwnParts.{names_now};
 ghost use Rattle.cxx_check.specs.Once.{class_names_in};
-ghost use Rattle.cxx_rules.specs.Walk.{handlers_of};
 
 use crate::NoMemory;
 use cxx_ast::declaration::{ClassDecl, Decl, Func, FuncKind};
@@ -34,7 +33,7 @@ fn with_some<'t>(names: &mut Vec<&'t Name>, name: &'t Option<Name>) -> Result<()
 }
 
 // The names that a statement declares, behind others.
-#[tactic(auto, using(cxx_rules::proofs::Rows::statement_rows))]
+#[tactic(auto, using(cxx_ast::proofs::Rows::statement_rows))]
 #[cycle(names)]
 fn with_statement<'t>(names: &mut Vec<&'t Name>, s: &'t Stmt) -> Result<(), NoMemory>
     ensures { OnOk result (names_now names.new.items ≡ names_now names.old.items ++ names_in (statement_of s.now)) }

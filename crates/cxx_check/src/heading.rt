@@ -7,6 +7,7 @@ ghost use Rattle.cxx_check.specs.HeadingOf.{some_specification, heading_of, head
 
 use crate::NoMemory;
 use crate::bound::{copied, resolve_type};
+use crate::held::put;
 use crate::rebuilt::resolve_param;
 use cxx_ast::declaration::{Func, Spec};
 use cxx_ast::name::Name;
@@ -32,7 +33,8 @@ fn resolve_params<'t>(
 {
     let mut rebuilt = Vec::new(alloc);
     for param in params {
-        rebuilt.push(resolve_param(alloc, env, scope, param)?)?;
+        let bound = resolve_param(alloc, env, scope, param)?;
+        put(bound, &mut rebuilt)?;
         declare_param(env, scope, param)?;
     }
     Ok(rebuilt)
@@ -49,7 +51,8 @@ fn resolve_types<'t>(
 {
     let mut rebuilt = Vec::new(alloc);
     for ty in types {
-        rebuilt.push(resolve_type(alloc, env, scope, ty)?)?;
+        let bound = resolve_type(alloc, env, scope, ty)?;
+        put(bound, &mut rebuilt)?;
     }
     Ok(rebuilt)
 }
@@ -73,6 +76,20 @@ fn resolve_specification<'t>(
     }
 }
 
+// The head of a function, where its names are sought.
+fn heading_at<'t>(
+    alloc: Global,
+    env: &Environment<'t>,
+    scope: &mut Scope<'t>,
+    f: &'t Func,
+) -> Result<Heading, NoMemory>
+    ensures { IfOk result (λ h. heading_of h ≡ heading_in env.now scope.old (function_of f.now)) }
+{
+    let spec = resolve_specification(alloc, env, scope, &f.spec)?;
+    let params = resolve_params(alloc, env, scope, f.params.as_slice())?;
+    Ok(Heading { params, spec })
+}
+
 /// The head of a function, whose names are sought in a class before a place, or outside of classes.
 pub fn bound_head<'t>(
     alloc: Global,
@@ -84,9 +101,8 @@ pub fn bound_head<'t>(
     ensures { IfOk result (λ h. heading_of h ≡ heading_in env.now (record outermost { own = own; limit = limit }) (function_of f.now)) }
 {
     let mut scope = Scope::outermost(alloc, own, limit);
-    let spec = resolve_specification(alloc, env, &scope, &f.spec)?;
-    let params = resolve_params(alloc, env, &mut scope, f.params.as_slice())?;
-    Ok(Heading { params, spec })
+    let heading = heading_at(alloc, env, &mut scope, f)?;
+    Ok(heading)
 }
 
 /// The heads of a class's functions in order.
@@ -100,7 +116,8 @@ pub fn bound_heads<'t>(
 {
     let mut heads = Vec::new(alloc);
     for f in funcs {
-        heads.push(bound_head(alloc, env, Some(class), Some(f.name.place), f)?)?;
+        let head = bound_head(alloc, env, Some(class), Some(f.name.place), f)?;
+        put(head, &mut heads)?;
     }
     Ok(heads)
 }
@@ -124,7 +141,8 @@ pub fn copied_types(alloc: Global, types: &[Ty]) -> Result<Vec<Ty>, NoMemory>
 {
     let mut copies = Vec::new(alloc);
     for ty in types {
-        copies.push(copied_type(alloc, ty)?)?;
+        let copy = copied_type(alloc, ty)?;
+        put(copy, &mut copies)?;
     }
     Ok(copies)
 }
@@ -157,19 +175,28 @@ fn copied_some(alloc: Global, name: &Option<Name>) -> Result<Option<Name>, NoMem
 fn copied_param(alloc: Global, param: &Param) -> Result<Param, NoMemory>
     ensures { IfOk result (λ p. p ≡ param.now) }
 {
-    Ok(Param {
-        ty: copied_type(alloc, &param.ty)?,
-        name: copied_some(alloc, &param.name)?,
-    })
+    let ty = copied_type(alloc, &param.ty)?;
+    let name = copied_some(alloc, &param.name)?;
+    Ok(Param { ty, name })
 }
 
-/// Copies of parameters.
-pub fn copied_params(alloc: Global, params: &[Param]) -> Result<Vec<Param>, NoMemory>
+// Copies of parameters.
+fn copied_params(alloc: Global, params: &[Param]) -> Result<Vec<Param>, NoMemory>
     ensures { IfOk result (λ r. r.items ≡ params.now) }
 {
     let mut copies = Vec::new(alloc);
     for param in params {
-        copies.push(copied_param(alloc, param)?)?;
+        let copy = copied_param(alloc, param)?;
+        put(copy, &mut copies)?;
     }
     Ok(copies)
+}
+
+/// A copy of a head.
+pub fn copied_heading(alloc: Global, heading: &Heading) -> Result<Heading, NoMemory>
+    ensures { IfOk result (λ h. heading_of h ≡ heading_of heading.now) }
+{
+    let params = copied_params(alloc, heading.params.as_slice())?;
+    let spec = copied_specification(alloc, &heading.spec)?;
+    Ok(Heading { params, spec })
 }

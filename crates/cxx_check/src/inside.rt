@@ -8,12 +8,13 @@ ghost use Rattle.cxx_ast.specs.Declare.{function_scope};
 ghost use Rattle.cxx_ast.specs.FunctionRules.{limits_found, definition_found};
 ghost use Rattle.cxx_ast.specs.Resolve.{resolve_initialiser, resolve_body};
 ghost use Rattle.cxx_ast.specs.View.{initialiser_of, statements_of, function_of};
-ghost use Rattle.cxx_check.specs.FunctionParts.{initialiser_bound, inside_found};
+ghost use Rattle.cxx_check.specs.FunctionParts.{initialiser_bound, inside_scope, inside_found};
 ghost use Rattle.cxx_check.specs.InsideOf.{body_of, IsInside};
 ghost use Rattle.cxx_rules.specs.Summary.{seen};
 
 use crate::NoMemory;
 use crate::bound::{bind, bound_of};
+use crate::held::put;
 use crate::rebuilt_statement::resolve_all;
 use crate::resolved::resolve_expressions;
 use crate::variables::are_too_large;
@@ -73,7 +74,8 @@ fn resolve_initialisers<'t>(
 {
     let mut rebuilt = Vec::new(alloc);
     for i in inits {
-        rebuilt.push(resolve_initialiser(alloc, env, scope, i)?)?;
+        let bound = resolve_initialiser(alloc, env, scope, i)?;
+        put(bound, &mut rebuilt)?;
     }
     Ok(rebuilt)
 }
@@ -93,6 +95,35 @@ fn resolve_body<'t>(
     }
 }
 
+// Where the initialisers and the body of a function stand, in a class or in none.
+fn inside_scope<'t>(
+    alloc: Global,
+    env: &Environment<'t>,
+    own: Option<usize>,
+    f: &'t Func,
+) -> Result<Scope<'t>, NoMemory>
+    ensures { IfOk result (λ s. s ≡ inside_scope env.now own (function_of f.now)) }
+{
+    let mut scope = function_scope(alloc, env, own, &f.result)?;
+    declare_params(env, &mut scope, f.params.as_slice())?;
+    Ok(scope)
+}
+
+// The initialisers and the body of a function, where they stand.
+fn resolve_parts<'t>(
+    alloc: Global,
+    env: &Environment<'t>,
+    scope: &mut Scope<'t>,
+    f: &'t Func,
+) -> Result<Inside, NoMemory>
+    ensures initialisers { IfOk result (λ r. map initialiser_of r.inits.items ≡ map (resolve_initialiser env.now scope.old) (function_of f.now).initialisers) }
+    ensures body { IfOk result (λ r. body_of r.body ≡ resolve_body env.now scope.old (function_of f.now).body) }
+{
+    let inits = resolve_initialisers(alloc, env, scope, f.inits.as_slice())?;
+    let body = resolve_body(alloc, env, scope, &f.body)?;
+    Ok(Inside { inits, body })
+}
+
 /// What stands behind the head of a function, in a class or in none.
 pub fn resolve_inside<'t>(
     alloc: Global,
@@ -102,11 +133,9 @@ pub fn resolve_inside<'t>(
 ) -> Result<Inside, NoMemory>
     ensures { IfOk result (λ r. IsInside env.now own (function_of f.now) r) }
 {
-    let mut scope = function_scope(alloc, env, own, &f.result)?;
-    declare_params(env, &mut scope, f.params.as_slice())?;
-    let inits = resolve_initialisers(alloc, env, &scope, f.inits.as_slice())?;
-    let body = resolve_body(alloc, env, &mut scope, &f.body)?;
-    Ok(Inside { inits, body })
+    let mut scope = inside_scope(alloc, env, own, f)?;
+    let inside = resolve_parts(alloc, env, &mut scope, f)?;
+    Ok(inside)
 }
 
 // The limits of a function with a body.
@@ -133,8 +162,8 @@ fn definition_found(env: &Environment<'_>, f: &Func, inside: &Inside) -> Found
     }
 }
 
-/// What stands behind the head of a function breaks, in a class or in none, where it is given with its names bound.
-pub fn inside_found<'t>(
+// What stands behind the head of a function breaks, in a class or in none, where it is given with its names bound.
+fn inside_found<'t>(
     alloc: Global,
     env: &Environment<'t>,
     own: Option<usize>,
@@ -146,4 +175,17 @@ pub fn inside_found<'t>(
 {
     let found = body_found(alloc, env, own, f)?;
     Ok(found.and(definition_found(env, f, inside)))
+}
+
+/// What stands behind the head of a function breaks, in a class or in none.
+pub fn behind_found<'t>(
+    alloc: Global,
+    env: &Environment<'t>,
+    own: Option<usize>,
+    f: &'t Func,
+) -> Result<Found, NoMemory>
+    ensures { (head : Known) (place : Place) → IfOk result (λ found. found ≡ seen env.now (inside_found head place env.now own (function_of f.now))) }
+{
+    let inside = resolve_inside(alloc, env, own, f)?;
+    inside_found(alloc, env, own, f, &inside)
 }

@@ -112,7 +112,7 @@ impl Measure {
 }
 
 /// An expression.
-#[tactic(auto, using(cxx_rules::proofs::Rows::rows, crate::proofs::MeasureLaws::measures))]
+#[tactic(auto, using(cxx_ast::proofs::Rows::rows, crate::proofs::MeasureLaws::measures))]
 #[cycle(expressions)]
 pub fn expression(e: &Expr) -> Measure
     ensures { result ≡ capped 0 (most_in (expression_of e.now)) }

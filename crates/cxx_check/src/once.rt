@@ -1,5 +1,5 @@
 // Names that are declared once only, anywhere.
-ghost use Rattle.std.specs.Prelude.{◌≡◌, ◌∷◌, IfOk, map, codes};
+ghost use Rattle.std.specs.Prelude.{◌≡◌, ◌∷◌, IfOk, map, flat_map, codes};
 ghost use Rattle.cxx_ast.specs.DeclaredNames.{names_declared, class_names, is_builtin, once_found, once_only_found};
 ghost use Rattle.cxx_ast.specs.Lookup.{builtin_named};
 ghost use Rattle.cxx_ast.specs.View.{declaration_of};
@@ -21,10 +21,11 @@ use std::alloc::Global;
 fn special_names(alloc: Global, decls: &[Decl]) -> Result<Texts, NoMemory>
     ensures { IfOk result (λ texts. texts ≡ codes "main" ∷ class_names (map declaration_of decls.now)) }
 {
-    let mut texts = Texts::new(alloc).with(alloc, b"main".as_slice())?;
+    let mut texts = Texts::new(alloc);
+    texts.add(alloc, b"main".as_slice())?;
     for d in decls {
         if let Decl::Class(c) = d {
-            texts = texts.with(alloc, c.name.text.as_bytes())?;
+            texts.add(alloc, c.name.text.as_bytes())?;
         }
     }
     Ok(texts)
@@ -80,6 +81,20 @@ fn once_found(env: &Environment<'_>, special: &Texts, places: &Places, all: &[&N
     found
 }
 
+// The names of a program that are declared once more, by those that are declared once only.
+fn names_found(
+    alloc: Global,
+    env: &Environment<'_>,
+    special: &Texts,
+    decls: &[Decl],
+) -> Result<Found, NoMemory>
+    ensures { IfOk result (λ found. found ≡ seen env.now (once_found special.now (flat_map names_declared (map declaration_of decls.now)) (flat_map names_declared (map declaration_of decls.now)))) }
+{
+    let names = names_declared(alloc, decls)?;
+    let places = places_of(alloc, names.as_slice())?;
+    Ok(once_found(env, special, &places, names.as_slice()))
+}
+
 /// The names that a program declares more than once though they are declared once only.
 pub fn once_only_found(
     alloc: Global,
@@ -88,8 +103,6 @@ pub fn once_only_found(
 ) -> Result<Found, NoMemory>
     ensures { IfOk result (λ found. found ≡ seen env.now (once_only_found (map declaration_of decls.now))) }
 {
-    let names = names_declared(alloc, decls)?;
-    let places = places_of(alloc, names.as_slice())?;
     let special = special_names(alloc, decls)?;
-    Ok(once_found(env, &special, &places, names.as_slice()))
+    names_found(alloc, env, &special, decls)
 }

@@ -23,7 +23,7 @@ pub fn places_of(alloc: Global, names: &[&Name]) -> Result<Places, NoMemory>
 {
     let mut places = Places::new(alloc);
     for name in names {
-        places = places.with(alloc, name)?;
+        places.add(alloc, name)?;
     }
     Ok(places)
 }

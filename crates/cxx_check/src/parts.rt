@@ -1,11 +1,12 @@
 // The classes, the globals and the functions of a program.
-ghost use Rattle.std.specs.Prelude.{◌≡◌, ◌++◌, ◌∷◌, [], IfOk, map};
+ghost use Rattle.std.specs.Prelude.{◌≡◌, ◌++◌, ◌∷◌, [], IfOk, OnOk, map};
 ghost use Rattle.cxx_ast.specs.Checked.{bad_exception};
 ghost use Rattle.cxx_ast.specs.Plain.{function_declaration};
 ghost use Rattle.cxx_ast.specs.View.{class_of, function_of, declaration_of};
 ghost use Rattle.cxx_check.specs.PartsOf.{class_in, global_in, function_in};
 
 use crate::NoMemory;
+use crate::held::put;
 use cxx_ast::declaration::{ClassDecl, Decl, Func};
 use cxx_ast::name::{Bound, Name};
 use cxx_ast::text::Text;
@@ -23,12 +24,13 @@ pub struct Parts {
 fn bad_exception(alloc: Global) -> Result<ClassDecl, NoMemory>
     ensures { IfOk result (λ c. class_of c ≡ bad_exception) }
 {
+    let name = Name {
+        text: Text::copied(alloc, b"std::bad_exception".as_slice())?,
+        place: 0,
+        bound: Bound::Class(0),
+    };
     Ok(ClassDecl {
-        name: Name {
-            text: Text::copied(alloc, b"std::bad_exception".as_slice())?,
-            place: 0,
-            bound: Bound::Class(0),
-        },
+        name,
         base: None,
         members: Vec::new(alloc),
         funcs: Vec::new(alloc),
@@ -42,8 +44,9 @@ impl Parts {
         ensures globals { IfOk result (λ p. p.globals.items ≡ []) }
         ensures functions { IfOk result (λ p. p.functions.items ≡ []) }
     {
+        let first = bad_exception(alloc)?;
         let mut classes = Vec::new(alloc);
-        classes.push(bad_exception(alloc)?)?;
+        put(first, &mut classes)?;
         Ok(Parts {
             classes,
             globals: Vec::new(alloc),
@@ -51,51 +54,26 @@ impl Parts {
         })
     }
 
-    /// The parts with what a declaration declares.
-    pub fn with(self, d: Decl) -> Result<Self, NoMemory>
-        ensures classes { IfOk result (λ p. map class_of p.classes.items ≡ map class_of self.classes.items ++ class_in (declaration_of d)) }
-        ensures globals { IfOk result (λ p. p.globals.items ≡ self.globals.items ++ global_in (declaration_of d)) }
-        ensures functions { IfOk result (λ p. map function_of p.functions.items ≡ map function_of self.functions.items ++ function_in (declaration_of d)) }
+    /// Takes what a declaration declares.
+    pub fn add(&mut self, d: Decl) -> Result<(), NoMemory>
+        ensures classes { OnOk result (map class_of self.new.classes.items ≡ map class_of self.old.classes.items ++ class_in (declaration_of d)) }
+        ensures globals { OnOk result (self.new.globals.items ≡ self.old.globals.items ++ global_in (declaration_of d)) }
+        ensures functions { OnOk result (map function_of self.new.functions.items ≡ map function_of self.old.functions.items ++ function_in (declaration_of d)) }
     {
-        let Parts {
-            mut classes,
-            mut globals,
-            functions,
-        } = self;
         match d {
-            Decl::Class(c) => {
-                classes.push(c)?;
-                Ok(Parts {
-                    classes,
-                    globals,
-                    functions,
-                })
-            }
-            Decl::Global(_, value) => {
-                globals.push(value)?;
-                Ok(Parts {
-                    classes,
-                    globals,
-                    functions,
-                })
-            }
-            Decl::Func(f) => Ok(Parts {
-                classes,
-                globals,
-                functions: with_function(functions, f)?,
-            }),
+            Decl::Class(c) => put(c, &mut self.classes),
+            Decl::Global(_, value) => put(value, &mut self.globals),
+            Decl::Func(f) => add_function(&mut self.functions, f),
         }
     }
 }
 
-// Functions with one more, where it is defined.
-fn with_function(functions: Vec<Func>, f: Func) -> Result<Vec<Func>, NoMemory>
-    ensures { IfOk result (λ fs. map function_of fs.items ≡ map function_of functions.items ++ function_in (function_declaration (function_of f))) }
+// Takes a function, where it is defined.
+fn add_function(functions: &mut Vec<Func>, f: Func) -> Result<(), NoMemory>
+    ensures { OnOk result (map function_of functions.new.items ≡ map function_of functions.old.items ++ function_in (function_declaration (function_of f))) }
 {
-    let mut functions = functions;
     if f.body.is_none() {
-        return Ok(functions);
+        return Ok(());
     }
-    functions.push(f)?;
-    Ok(functions)
+    put(f, functions)
 }

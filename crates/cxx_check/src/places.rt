@@ -1,5 +1,5 @@
 // The least places at which names stand.
-ghost use Rattle.std.specs.Prelude.{◌≡◌, ◌++◌, ◌∷◌, [], List, IfOk};
+ghost use Rattle.std.specs.Prelude.{◌≡◌, ◌++◌, ◌∷◌, [], List, OnOk};
 ghost use Rattle.cxx_ast.specs.declared.name.Name.{Name};
 ghost use Rattle.cxx_ast.specs.ClassRules.{stands_before};
 ghost use Rattle.cxx_check.specs.Places.{lesser_place};
@@ -37,15 +37,15 @@ impl Places {
         }
     }
 
-    /// The places with those of one name more.
-    pub fn with(self, alloc: Global, name: &Name) -> Result<Self, NoMemory>
-        ensures { (names : List Name) → Hold self names → IfOk result (λ p. Hold p (names ++ name.now ∷ [])) }
+    /// Takes a name more.
+    pub fn add(&mut self, alloc: Global, name: &Name) -> Result<(), NoMemory>
+        ensures { (names : List Name) → Hold self.old names → OnOk result (Hold self.new (names ++ name.now ∷ [])) }
     {
-        let Places { mut first } = self;
         let text = name.text.as_bytes();
-        let least = lesser_place(name.place, first.get(text).copied());
-        first.insert(Vec::from_slice(alloc, text)?, least)?;
-        Ok(Places { first })
+        let least = lesser_place(name.place, self.first.get(text).copied());
+        let key = Vec::from_slice(alloc, text)?;
+        self.first.insert(key, least)?;
+        Ok(())
     }
 
     /// A name of the same text stands before a name.

@@ -4,11 +4,12 @@ ghost use Rattle.cxx_ast.specs.Locals.{inner, after, locals_in, locals_of, local
 ghost use Rattle.cxx_ast.specs.declared.name.Bound.TheVariants.{Local};
 ghost use Rattle.cxx_ast.specs.Plain.{try, no_handlers, handler_then};
 ghost use Rattle.cxx_ast.specs.Resolve.{resolve_statement, resolve_statements, resolve_handlers, resolve_caught, bind_some};
-ghost use Rattle.cxx_ast.specs.View.{statement_of, statements_of};
-ghost use Rattle.cxx_rules.specs.Walk.{handlers_of, scope_after};
+ghost use Rattle.cxx_ast.specs.View.{statement_of, statements_of, handlers_of};
+ghost use Rattle.cxx_rules.specs.Walk.{scope_after};
 
 use crate::NoMemory;
 use crate::bound::{bind_some, numbered, resolve_path, resolve_type};
+use crate::held::{beside, boxed, put};
 use crate::rebuilt::{block_of, if_else_of, if_of, local_int, local_object, local_ref, while_of};
 use crate::resolved::{resolve_expression, resolve_value};
 use cxx_ast::expression::Lvalue;
@@ -19,7 +20,7 @@ use cxx_rules::{Environment, Scope, declare_caught};
 use std::alloc::Global;
 
 // A try block with its handlers.
-#[tactic(auto, using(cxx_rules::proofs::Rows::statement_rows))]
+#[tactic(auto, using(cxx_ast::proofs::Rows::statement_rows))]
 fn try_of(ss: Vec<Stmt>, hs: Vec<Handler>) -> Stmt
     ensures { statement_of result ≡ try (statements_of ss.items) (handlers_of hs.items) }
 {
@@ -27,7 +28,7 @@ fn try_of(ss: Vec<Stmt>, hs: Vec<Handler>) -> Stmt
 }
 
 /// A statement, which may declare a variable.
-#[tactic(auto, using(cxx_rules::proofs::Rows::statement_rows))]
+#[tactic(auto, using(cxx_ast::proofs::Rows::statement_rows))]
 #[cycle(rebuilt)]
 pub fn resolve_statement<'t>(
     alloc: Global,
@@ -43,19 +44,20 @@ pub fn resolve_statement<'t>(
         Stmt::Empty => Ok(Stmt::Empty),
         Stmt::If(e, body, None) => {
             let test = resolve_expression(alloc, env, scope, e)?;
-            let first = resolve_branch(alloc, env, scope, body)?;
-            if_of(alloc, test, first)
+            let (test, first) = beside(test, resolve_branch(alloc, env, scope, body))?;
+            Ok(if_of(test, first))
         }
         Stmt::If(e, body, Some(other)) => {
             let test = resolve_expression(alloc, env, scope, e)?;
-            let first = resolve_branch(alloc, env, scope, body)?;
-            let second = resolve_branch(alloc, env, scope, other)?;
-            if_else_of(alloc, test, first, second)
+            let (test, first) = beside(test, resolve_branch(alloc, env, scope, body))?;
+            let second = resolve_branch(alloc, env, scope, other);
+            let ((test, first), second) = beside((test, first), second)?;
+            Ok(if_else_of(test, first, second))
         }
         Stmt::While(e, body) => {
             let test = resolve_expression(alloc, env, scope, e)?;
-            let inside = resolve_branch(alloc, env, scope, body)?;
-            while_of(alloc, test, inside)
+            let (test, inside) = beside(test, resolve_branch(alloc, env, scope, body))?;
+            Ok(while_of(test, inside))
         }
         Stmt::Return(place, e) => Ok(Stmt::Return(*place, resolve_value(alloc, env, scope, e)?)),
         Stmt::Break(place) => Ok(Stmt::Break(*place)),
@@ -63,12 +65,13 @@ pub fn resolve_statement<'t>(
         Stmt::Throw(place, e) => Ok(Stmt::Throw(*place, resolve_value(alloc, env, scope, e)?)),
         Stmt::Try(ss, hs) => {
             let tried = resolve_block(alloc, env, scope, ss.as_slice())?;
-            let caught = resolve_handlers(alloc, env, scope, hs.as_slice())?;
+            let caught = resolve_handlers(alloc, env, scope, hs.as_slice());
+            let (tried, caught) = beside(tried, caught)?;
             Ok(try_of(tried, caught))
         }
         Stmt::Assign(l, e) => {
             let path = resolve_path(alloc, env, scope, l.path.as_slice())?;
-            let value = resolve_expression(alloc, env, scope, e)?;
+            let (path, value) = beside(path, resolve_expression(alloc, env, scope, e))?;
             Ok(Stmt::Assign(Lvalue { path }, value))
         }
         Stmt::Call(e) => Ok(Stmt::Call(resolve_expression(alloc, env, scope, e)?)),
@@ -106,14 +109,14 @@ fn resolve_branch<'t>(
     env: &Environment<'t>,
     scope: &mut Scope<'t>,
     s: &'t Stmt,
-) -> Result<Stmt, NoMemory>
-    ensures rebuilt { IfOk result (λ r. statement_of r ≡ resolve_statement env.now scope.old (statement_of s.now)) }
+) -> Result<Box<Stmt>, NoMemory>
+    ensures rebuilt { IfOk result (λ r. statement_of r.value ≡ resolve_statement env.now scope.old (statement_of s.now)) }
     ensures scope { OnOk result (scope.new ≡ after (locals_in (statement_of s.now)) scope.old) }
 {
     let mark = scope.mark();
     let rebuilt = resolve_statement(alloc, env, scope, s)?;
     scope.rewind(mark);
-    Ok(rebuilt)
+    boxed(alloc, rebuilt)
 }
 
 /// The statements of a block.
@@ -130,7 +133,8 @@ pub fn resolve_all<'t>(
 {
     let mut rebuilt = Vec::new(alloc);
     for s in ss {
-        rebuilt.push(resolve_statement(alloc, env, scope, s)?)?;
+        let next = resolve_statement(alloc, env, scope, s)?;
+        put(next, &mut rebuilt)?;
     }
     Ok(rebuilt)
 }
@@ -171,6 +175,21 @@ fn resolve_handler_block<'t>(
     Ok(rebuilt)
 }
 
+// A handler without its block.
+fn resolve_caught_as<'t>(
+    alloc: Global,
+    env: &Environment<'t>,
+    scope: &Scope<'t>,
+    h: &Handler,
+) -> Result<(Option<Ty>, Option<Name>), NoMemory>
+    ensures { IfOk result (λ c. (c.0 ≡ resolve_caught env.now scope.now h.now.ty) × (c.1 ≡ bind_some h.now.name (Local scope.now.next))) }
+{
+    let number = Bound::Local(numbered(scope.next())?);
+    let ty = resolve_caught(alloc, env, scope, &h.ty)?;
+    let name = bind_some(alloc, &h.name, number)?;
+    Ok((ty, name))
+}
+
 // A handler.
 #[cycle(rebuilt)]
 fn resolve_handler<'t>(
@@ -182,10 +201,9 @@ fn resolve_handler<'t>(
     ensures rebuilt { IfOk result (λ r. handlers_of (r ∷ []) ≡ handler_then (resolve_caught env.now scope.old h.now.ty) (bind_some h.now.name (Local scope.old.next)) (resolve_statements env.now (handler_scope env.now h.now.ty h.now.name scope.old) (statements_of h.now.body.items)) h.now.place no_handlers) }
     ensures scope { OnOk result (scope.new ≡ after (caught_count h.now.ty + locals_of (statements_of h.now.body.items)) scope.old) }
 {
-    let ty = resolve_caught(alloc, env, scope, &h.ty)?;
-    let number = Bound::Local(numbered(scope.next())?);
-    let name = bind_some(alloc, &h.name, number)?;
-    let body = resolve_handler_block(alloc, env, scope, &h.ty, &h.name, h.body.as_slice())?;
+    let caught = resolve_caught_as(alloc, env, scope, h)?;
+    let body = resolve_handler_block(alloc, env, scope, &h.ty, &h.name, h.body.as_slice());
+    let ((ty, name), body) = beside(caught, body)?;
     Ok(Handler {
         ty,
         name,
@@ -208,7 +226,8 @@ fn resolve_handlers<'t>(
 {
     let mut rebuilt = Vec::new(alloc);
     for h in hs {
-        rebuilt.push(resolve_handler(alloc, env, scope, h)?)?;
+        let next = resolve_handler(alloc, env, scope, h)?;
+        put(next, &mut rebuilt)?;
     }
     Ok(rebuilt)
 }

@@ -6,6 +6,7 @@ ghost use Rattle.cxx_ast.specs.View.{expression_of, expressions_of, option_of};
 
 use crate::NoMemory;
 use crate::bound::{bind, resolve_path, std_bound};
+use crate::held::{beside, boxed, put};
 use cxx_ast::expression::{BinaryOp, Expr, Lvalue, UnaryOp};
 use cxx_ast::name::Name;
 use cxx_rules::{Environment, Scope};
@@ -15,25 +16,29 @@ use std::alloc::Global;
 fn paren_of(alloc: Global, inner: Expr, place: u32) -> Result<Expr, NoMemory>
     ensures { IfOk result (λ e. expression_of e ≡ paren (expression_of inner) place) }
 {
-    Ok(Expr::Paren(Box::new(alloc, inner)?, place))
+    let inner = boxed(alloc, inner)?;
+    Ok(Expr::Paren(inner, place))
 }
 
 // A unary expression.
 fn unary_of(alloc: Global, op: UnaryOp, inner: Expr, place: u32) -> Result<Expr, NoMemory>
     ensures { IfOk result (λ e. expression_of e ≡ unary op (expression_of inner) place) }
 {
-    Ok(Expr::Unary(op, Box::new(alloc, inner)?, place))
+    let inner = boxed(alloc, inner)?;
+    Ok(Expr::Unary(op, inner, place))
 }
 
 // A binary expression.
 fn binary_of(alloc: Global, op: BinaryOp, a: Expr, b: Expr) -> Result<Expr, NoMemory>
     ensures { IfOk result (λ e. expression_of e ≡ binary op (expression_of a) (expression_of b)) }
 {
-    Ok(Expr::Binary(op, Box::new(alloc, a)?, Box::new(alloc, b)?))
+    let (b, a) = beside(b, boxed(alloc, a))?;
+    let (a, b) = beside(a, boxed(alloc, b))?;
+    Ok(Expr::Binary(op, a, b))
 }
 
 // A call.
-#[tactic(auto, using(cxx_rules::proofs::Rows::rows))]
+#[tactic(auto, using(cxx_ast::proofs::Rows::rows))]
 fn call_of(names: Vec<Name>, args: Vec<Expr>) -> Expr
     ensures { expression_of result ≡ call names.items (expressions_of args.items) }
 {
@@ -41,7 +46,7 @@ fn call_of(names: Vec<Name>, args: Vec<Expr>) -> Expr
 }
 
 // A call of `std::` something.
-#[tactic(auto, using(cxx_rules::proofs::Rows::rows))]
+#[tactic(auto, using(cxx_ast::proofs::Rows::rows))]
 fn std_call_of(name: Name, args: Vec<Expr>, place: u32) -> Expr
     ensures { expression_of result ≡ std_call name (expressions_of args.items) place }
 {
@@ -49,7 +54,7 @@ fn std_call_of(name: Name, args: Vec<Expr>, place: u32) -> Expr
 }
 
 /// An expression.
-#[tactic(auto, using(cxx_rules::proofs::Rows::rows))]
+#[tactic(auto, using(cxx_ast::proofs::Rows::rows))]
 #[cycle(resolved)]
 pub fn resolve_expression<'t>(
     alloc: Global,
@@ -75,17 +80,19 @@ pub fn resolve_expression<'t>(
         }
         Expr::Binary(op, a, b) => {
             let left = resolve_expression(alloc, env, scope, a)?;
-            let right = resolve_expression(alloc, env, scope, b)?;
+            let (left, right) = beside(left, resolve_expression(alloc, env, scope, b))?;
             binary_of(alloc, *op, left, right)
         }
         Expr::Call(callee, args) => {
             let names = resolve_path(alloc, env, scope, callee.path.as_slice())?;
-            let given = resolve_expressions(alloc, env, scope, args.as_slice())?;
+            let given = resolve_expressions(alloc, env, scope, args.as_slice());
+            let (names, given) = beside(names, given)?;
             Ok(call_of(names, given))
         }
         Expr::StdCall(name, args, place) => {
             let callee = bind(alloc, name, std_bound(name.text.as_bytes()))?;
-            let given = resolve_expressions(alloc, env, scope, args.as_slice())?;
+            let given = resolve_expressions(alloc, env, scope, args.as_slice());
+            let (callee, given) = beside(callee, given)?;
             Ok(std_call_of(callee, given, *place))
         }
     }
@@ -104,7 +111,8 @@ pub fn resolve_expressions<'t>(
 {
     let mut given = Vec::new(alloc);
     for e in es {
-        given.push(resolve_expression(alloc, env, scope, e)?)?;
+        let bound = resolve_expression(alloc, env, scope, e)?;
+        put(bound, &mut given)?;
     }
     Ok(given)
 }

@@ -1,5 +1,5 @@
 // The specifications that count where a program runs.
-ghost use Rattle.std.specs.Prelude.{◌≡◌, ◌++◌, List, [], ◌∷◌, Some, IfOk, map};
+ghost use Rattle.std.specs.Prelude.{◌≡◌, ◌++◌, List, [], ◌∷◌, Some, IfOk, OnOk, map};
 ghost use Rattle.cxx_ast.specs.Settled.{Allowed as Allows, lists, same_bound, same_listed, with_types, allowed_by, allowed_of, allowed_of_base, allowed_of_members, allowed_together, destructor_of, given, settle_class, settle_classes, settle_function, taken};
 ghost use Rattle.cxx_ast.specs.View.{class_of, function_of, specification_of};
 ghost use Rattle.cxx_check.specs.HeadingOf.{some_specification};
@@ -7,6 +7,7 @@ ghost use Rattle.cxx_check.specs.Together.{allowed_seen, together};
 
 use crate::NoMemory;
 use crate::heading::{copied_specification, copied_type, copied_types};
+use crate::held::{beside, put};
 use cxx_ast::declaration::{ClassDecl, Func, FuncKind, Spec};
 use cxx_ast::name::{Bound, Name};
 use cxx_ast::standard::Std;
@@ -66,7 +67,8 @@ fn with_types(alloc: Global, types: Vec<Ty>, others: &[Ty]) -> Result<Allowed, N
             if types.len() >= MOST_TAKEN {
                 return Ok(Allowed::All);
             }
-            types.push(copied_type(alloc, ty)?)?;
+            let copy = copied_type(alloc, ty)?;
+            put(copy, &mut types)?;
         }
     }
     Ok(Allowed::Listed(types))
@@ -216,7 +218,7 @@ fn settle_function(alloc: Global, own: &Option<Spec>, f: Func) -> Result<Func, N
             if !matches!(f.kind, FuncKind::Destructor) {
                 return Ok(f);
             }
-            let spec = copied_specification(alloc, own)?;
+            let (f, spec) = beside(f, copied_specification(alloc, own))?;
             Ok(Func { spec, ..f })
         }
         Some(Spec::Noexcept(_, false)) => Ok(Func { spec: None, ..f }),
@@ -234,7 +236,8 @@ pub fn settle_functions(
 {
     let mut settled = Vec::new(alloc);
     for f in funcs {
-        settled.push(settle_function(alloc, own, f)?)?;
+        let next = settle_function(alloc, own, f)?;
+        put(next, &mut settled)?;
     }
     Ok(settled)
 }
@@ -249,13 +252,44 @@ fn settle_class(alloc: Global, own: &Option<Spec>, class: ClassDecl) -> Result<C
         members,
         funcs,
     } = class;
-    let funcs = settle_functions(alloc, own, funcs)?;
+    let funcs = settle_functions(alloc, own, funcs);
+    let ((name, base, members), funcs) = beside((name, base, members), funcs)?;
     Ok(ClassDecl {
         name,
         base,
         members,
         funcs,
     })
+}
+
+// Notes what the destructor of a class allows behind those before it, and gives the specification of one that has none.
+fn note_destructor(
+    alloc: Global,
+    standard: Std,
+    before: &mut Vec<Allowed>,
+    class: &ClassDecl,
+) -> Result<Option<Spec>, NoMemory>
+    ensures own { IfOk result (λ s. some_specification s ≡ given standard (map allowed_seen before.old.items) (class_of class.now)) }
+    ensures before { OnOk result (map allowed_seen before.new.items ≡ map allowed_seen before.old.items ++ allowed_by (destructor_of (given standard (map allowed_seen before.old.items) (class_of class.now)) (class_of class.now).functions) ∷ []) }
+{
+    let own = given(alloc, standard, before.as_slice(), class)?;
+    let allowed = destructor_allows(alloc, &own, class.funcs.as_slice())?;
+    put(allowed, before)?;
+    Ok(own)
+}
+
+// A class with the specifications that count, behind those before it.
+fn settle_next(
+    alloc: Global,
+    standard: Std,
+    before: &mut Vec<Allowed>,
+    class: ClassDecl,
+) -> Result<ClassDecl, NoMemory>
+    ensures class { IfOk result (λ c. class_of c ≡ settle_class (given standard (map allowed_seen before.old.items) (class_of class)) (class_of class)) }
+    ensures before { OnOk result (map allowed_seen before.new.items ≡ map allowed_seen before.old.items ++ allowed_by (destructor_of (given standard (map allowed_seen before.old.items) (class_of class)) (class_of class).functions) ∷ []) }
+{
+    let own = note_destructor(alloc, standard, before, &class)?;
+    settle_class(alloc, &own, class)
 }
 
 /// The classes of a program, in order, with the specifications that count by a standard.
@@ -269,9 +303,8 @@ pub fn settle_classes(
     let mut before = Vec::new(alloc);
     let mut settled = Vec::new(alloc);
     for class in classes {
-        let own = given(alloc, standard, before.as_slice(), &class)?;
-        before.push(destructor_allows(alloc, &own, class.funcs.as_slice())?)?;
-        settled.push(settle_class(alloc, &own, class)?)?;
+        let next = settle_next(alloc, standard, &mut before, class)?;
+        put(next, &mut settled)?;
     }
     Ok(settled)
 }

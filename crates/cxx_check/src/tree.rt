@@ -3,7 +3,7 @@ ghost use Rattle.std.specs.Prelude.{◌≡◌, [], ◌∷◌, ℕ, Option, IfOk,
 ghost use Rattle.cxx_ast.specs.declared.name.Bound.TheVariants.{Free};
 ghost use Rattle.cxx_ast.specs.Declare.{function_scope};
 ghost use Rattle.cxx_ast.specs.Environment.{Environment as Known, Scope as Place};
-ghost use Rattle.cxx_ast.specs.Resolve.{resolve_function};
+ghost use Rattle.cxx_ast.specs.Resolve.{bind, resolve_function};
 ghost use Rattle.cxx_ast.specs.View.{function_of};
 ghost use Rattle.cxx_check.specs.HeadingOf.{heading_of, heading_in, method_heading};
 ghost use Rattle.cxx_check.specs.InsideOf.{IsInside};
@@ -12,16 +12,41 @@ ghost use Rattle.cxx_check.specs.TreeParts.{base_tree, fields_tree, methods_tree
 use crate::NoMemory;
 use crate::bound::{bind, bind_some, numbered, resolve_class, resolve_type};
 use crate::class_head::name_of;
-use crate::heading::{Heading, copied_params, copied_specification, copied_type};
+use crate::heading::{Heading, copied_heading, copied_type};
+use crate::held::put;
 use crate::inside::{Inside, resolve_inside};
 use cxx_ast::declaration::Func;
 use cxx_ast::name::{Bound, Name};
-use cxx_ast::types::Param;
+use cxx_ast::types::{Param, Ty};
 use cxx_rules::{Environment, Scope};
 use std::alloc::Global;
 
-/// A function of its head and what stands behind it, with its own name bound.
-pub fn function_tree(
+// What stands before the initialisers and the body of a function, with its own name bound.
+#[derive(Drop)]
+struct Front {
+    name: Name,
+    result: Ty,
+    heading: Heading,
+}
+
+// The front of a function by its head.
+fn front_of(alloc: Global, bound: Bound, heading: &Heading, f: &Func) -> Result<Front, NoMemory>
+    ensures name { IfOk result (λ r. r.name ≡ bind f.now.name bound) }
+    ensures outcome { IfOk result (λ r. r.result ≡ f.now.result) }
+    ensures heading { IfOk result (λ r. heading_of r.heading ≡ heading_of heading.now) }
+{
+    let name = bind(alloc, &f.name, bound)?;
+    let outcome = copied_type(alloc, &f.result)?;
+    let heading = copied_heading(alloc, heading)?;
+    Ok(Front {
+        name,
+        result: outcome,
+        heading,
+    })
+}
+
+// A function of its head and what stands behind it, with its own name bound.
+fn function_tree(
     alloc: Global,
     bound: Bound,
     heading: &Heading,
@@ -30,20 +55,32 @@ pub fn function_tree(
 ) -> Result<Func, NoMemory>
     ensures { (head : Known) (place : Place) (env : Known) (own : Option ℕ) → heading_of heading.now ≡ heading_in head place (function_of f.now) → IsInside env own (function_of f.now) inside → IfOk result (λ r. function_of r ≡ resolve_function head place env (function_scope env own (function_of f.now).result) bound (function_of f.now)) }
 {
-    let name = bind(alloc, &f.name, bound)?;
-    let outcome = copied_type(alloc, &f.result)?;
-    let params = copied_params(alloc, heading.params.as_slice())?;
-    let spec = copied_specification(alloc, &heading.spec)?;
+    let front = front_of(alloc, bound, heading, f)?;
     Ok(Func {
-        name,
+        name: front.name,
         kind: f.kind,
-        result: outcome,
-        params,
-        spec,
+        result: front.result,
+        params: front.heading.params,
+        spec: front.heading.spec,
         inits: inside.inits,
         body: inside.body,
         tokens: f.tokens,
     })
+}
+
+/// A function by its head, in a class or in none, with its own name bound.
+pub fn function_under<'t>(
+    alloc: Global,
+    env: &Environment<'t>,
+    own: Option<usize>,
+    bound: Bound,
+    heading: &Heading,
+    f: &'t Func,
+) -> Result<Func, NoMemory>
+    ensures { (head : Known) (place : Place) → heading_of heading.now ≡ heading_in head place (function_of f.now) → IfOk result (λ r. function_of r ≡ resolve_function head place env.now (function_scope env.now own (function_of f.now).result) bound (function_of f.now)) }
+{
+    let inside = resolve_inside(alloc, env, own, f)?;
+    function_tree(alloc, bound, heading, inside, f)
 }
 
 /// A base, where the class is known by its name.
@@ -58,7 +95,8 @@ pub fn base_tree<'t>(
         None => Ok(None),
         Some(name) => {
             let scope = Scope::outermost(alloc, None, None);
-            Ok(Some(resolve_class(alloc, env, &scope, name)?))
+            let bound = resolve_class(alloc, env, &scope, name)?;
+            Ok(Some(bound))
         }
     }
 }
@@ -78,10 +116,9 @@ fn field_tree<'t>(
     let place = name_of(nameless, member).place;
     let scope = Scope::outermost(alloc, Some(class), Some(place));
     let bound = Bound::Field(numbered(class)?, numbered(i)?);
-    Ok(Param {
-        ty: resolve_type(alloc, env, &scope, &member.ty)?,
-        name: bind_some(alloc, &member.name, bound)?,
-    })
+    let ty = resolve_type(alloc, env, &scope, &member.ty)?;
+    let name = bind_some(alloc, &member.name, bound)?;
+    Ok(Param { ty, name })
 }
 
 /// The data members of a class, where the names of its parts are known.
@@ -97,7 +134,8 @@ pub fn fields_tree<'t>(
 {
     let mut rebuilt = Vec::new(alloc);
     for (i, member) in members.iter().enumerate() {
-        rebuilt.push(field_tree(alloc, env, class, i, nameless, member)?)?;
+        let field = field_tree(alloc, env, class, i, nameless, member)?;
+        put(field, &mut rebuilt)?;
     }
     Ok(rebuilt)
 }
@@ -113,10 +151,8 @@ fn method_tree<'t>(
 ) -> Result<Func, NoMemory>
     ensures { (head : Known) → heading_of heading.now ≡ method_heading head class (function_of f.now) → IfOk result (λ r. function_of r ∷ [] ≡ methods_tree head env.now class i (function_of f.now ∷ [])) }
 {
-    let inside = resolve_inside(alloc, env, Some(class), f)?;
     let bound = Bound::Method(numbered(class)?, numbered(i)?);
-    let tree = function_tree(alloc, bound, heading, inside, f)?;
-    Ok(tree)
+    function_under(alloc, env, Some(class), bound, heading, f)
 }
 
 /// The functions of a class by their heads, where the class is known.
@@ -132,7 +168,8 @@ pub fn methods_tree<'t>(
 {
     let mut rebuilt = Vec::new(alloc);
     for (i, f) in funcs.iter().enumerate() {
-        rebuilt.push(method_tree(alloc, env, class, i, &headings[i], f)?)?;
+        let method = method_tree(alloc, env, class, i, &headings[i], f)?;
+        put(method, &mut rebuilt)?;
     }
     Ok(rebuilt)
 }

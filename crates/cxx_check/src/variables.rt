@@ -2,9 +2,8 @@
 ghost use Rattle.std.specs.Prelude.{◌≡◌, ◌+◌, ◌/◌, ◌*◌, Some, min, nat_lt, length, map};
 ghost use Rattle.cxx_ast.specs.Plain.{Function};
 ghost use Rattle.cxx_ast.specs.Sizes.{class_size, object_bytes, variable_bytes, nothing, caught_bytes, statement_bytes, statements_bytes, handlers_bytes, statement_most, statements_most, handlers_most, initialisers_most, variables_bytes};
-ghost use Rattle.cxx_ast.specs.View.{statement_of, statements_of, initialiser_of};
+ghost use Rattle.cxx_ast.specs.View.{statement_of, statements_of, initialiser_of, handlers_of};
 ghost use Rattle.cxx_check.specs.Measured.{capped};
-ghost use Rattle.cxx_rules.specs.Walk.{handlers_of};
 
 use crate::measure::{Measure, arguments, expression, value};
 use cxx_ast::declaration::Init;
@@ -55,7 +54,7 @@ fn caught(env: &Environment<'_>, ty: &Option<Ty>) -> Measure
 }
 
 // A statement.
-#[tactic(auto, using(cxx_rules::proofs::Rows::statement_rows, crate::proofs::MeasureLaws::statements))]
+#[tactic(auto, using(cxx_ast::proofs::Rows::statement_rows, crate::proofs::MeasureLaws::statements))]
 #[cycle(statements)]
 fn statement(env: &Environment<'_>, s: &Stmt) -> Measure
     ensures { result ≡ capped (statement_bytes env.now (statement_of s.now)) (statement_most (statement_of s.now)) }

@@ -4,8 +4,9 @@ ghost use Rattle.cxx_ast.specs.declared.mark.Mark.TheVariants as sign;
 ghost use Rattle.cxx_ast.specs.declared.name.Name.{Name};
 ghost use Rattle.cxx_ast.specs.declared.token.TokenKind.TheVariants as kind;
 ghost use Rattle.cxx_ast.specs.Limits.{most_depth};
+ghost use Rattle.cxx_ast.specs.Plain.{local_ref};
 ghost use Rattle.cxx_ast.specs.View.{statement_of};
-ghost use Rattle.cxx_parser.specs.Contexts.{InStatement, of_local, of_call_statement, of_std_statement, of_statement};
+ghost use Rattle.cxx_parser.specs.Contexts.{InStatement, of_local, of_referred, of_call_statement, of_std_call_statement, of_std_statement, of_statement};
 ghost use Rattle.cxx_parser.specs.Gives.{Gives, Refuses, begins};
 ghost use Rattle.cxx_parser.specs.Reading.{read};
 ghost use Rattle.cxx_parser.specs.States.{expect, want_name, after_open, have_path, after_const, have_type, have_statement, after_first_name, after_only_name, after_int, after_int_name, after_object_name};
@@ -27,25 +28,36 @@ use cxx_ast::token::Token;
 use cxx_ast::types::{Param, Ty};
 use std::alloc::Global;
 
+// What a reference stands for, behind its name.
+#[tactic(auto, unfolding(crate::specs::Reading::read, crate::specs::Reading::feed))]
+fn referred(alloc: Global, tokens: &[Token], end: u32) -> Read<'_, Vec<Name>>
+    ensures gives { (total : ℕ) (p : Param) (C : InStatement) → Gives (λ x. read total end x.1.now (have_statement (local_ref p x.0.items) C)) result (read total end tokens.now (expect (kind.Mark sign.Assign) (want_name (of_referred p C)))) }
+    ensures shorter { IfOk result (λ x. length x.1.now < length tokens.now) }
+{
+    let rest = expect_mark(tokens, Mark::Assign, end)?;
+    let (first, rest) = name(alloc, rest, end)?;
+    let (names, rest) = path(alloc, first, rest, end)?;
+    let rest = expect_mark(rest, Mark::Semicolon, end)?;
+    Ok((names, rest))
+}
+
 // A reference, behind its type.
 #[tactic(auto, unfolding(crate::specs::Reading::read, crate::specs::Reading::feed))]
 fn reference(alloc: Global, ty: Ty, tokens: &[Token], end: u32) -> Read<'_, Stmt>
     ensures gives { (total : ℕ) (C : InStatement) → Gives (λ x. read total end x.1.now (have_statement (statement_of x.0) C)) result (read total end tokens.now (have_type ty (of_local C))) }
     ensures shorter { IfOk result (λ x. length x.1.now < length tokens.now) }
 {
-    let (declared, rest) = match after_name(alloc, tokens)? {
-        Some(found) => found,
-        None => return Err(ParseError::Unexpected(place_of(tokens, end))),
-    };
-    let rest = expect_mark(rest, Mark::Assign, end)?;
-    let (first, rest) = name(alloc, rest, end)?;
-    let (names, rest) = path(alloc, first, rest, end)?;
-    let rest = expect_mark(rest, Mark::Semicolon, end)?;
-    let param = Param {
-        ty,
-        name: Some(declared),
-    };
-    Ok((Stmt::LocalRef(param, Lvalue { path: names }), rest))
+    match after_name(alloc, tokens)? {
+        Some((declared, rest)) => {
+            let (names, rest) = referred(alloc, rest, end)?;
+            let param = Param {
+                ty,
+                name: Some(declared),
+            };
+            Ok((Stmt::LocalRef(param, Lvalue { path: names }), rest))
+        }
+        None => Err(ParseError::Unexpected(place_of(tokens, end))),
+    }
 }
 
 // A reference to const, behind `const`.
@@ -223,6 +235,26 @@ fn assignment(
     Ok((Stmt::Assign(target, value.expr), rest))
 }
 
+// The arguments of a call of `std::` and a name, behind the name.
+#[tactic(auto, using(crate::proofs::Rows::arguments_of), unfolding(crate::specs::Reading::read, crate::specs::Reading::feed))]
+fn std_called(
+    alloc: Global,
+    called: Name,
+    tokens: &[Token],
+    place: u32,
+    depth: u32,
+    end: u32,
+) -> Read<'_, Stmt>
+    requires { depth < most_depth }
+    ensures gives { (total : ℕ) (C : InStatement) → Gives (λ x. read total end x.1.now (have_statement (statement_of x.0) C)) result (read total end tokens.now (expect (kind.Mark sign.OpenParen) (after_open (depth + 2) (of_std_call_statement called place C)))) }
+    ensures shorter { IfOk result (λ x. length x.1.now < length tokens.now) }
+{
+    let rest = expect_mark(tokens, Mark::OpenParen, end)?;
+    let (args, rest) = arguments(alloc, rest, depth + 2, end)?;
+    let rest = expect_mark(rest, Mark::Semicolon, end)?;
+    Ok((Stmt::Call(nodes::std_call(called, args, place).expr), rest))
+}
+
 // A call of `std::` and a name whose value is not used, behind `std` with its place.
 #[tactic(auto, using(crate::proofs::Rows::arguments_of), unfolding(crate::specs::Reading::read, crate::specs::Reading::feed))]
 pub fn std_call_statement(
@@ -238,8 +270,5 @@ pub fn std_call_statement(
 {
     let rest = expect_mark(tokens, Mark::ColonColon, end)?;
     let (called, rest) = name(alloc, rest, end)?;
-    let rest = expect_mark(rest, Mark::OpenParen, end)?;
-    let (args, rest) = arguments(alloc, rest, depth + 2, end)?;
-    let rest = expect_mark(rest, Mark::Semicolon, end)?;
-    Ok((Stmt::Call(nodes::std_call(called, args, place).expr), rest))
+    std_called(alloc, called, rest, place, depth, end)
 }

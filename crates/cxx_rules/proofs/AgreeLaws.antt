@@ -5,45 +5,15 @@ use Rattle.std.proofs.lemmas.Slice.Eq.{bytes_eq-Decides}
 use Rattle.cxx_ast.specs.Environment.{Kind, int_kind, truth_kind, void_kind, class_kind, no_kind, same_kind, Passing, Signature}
 use Rattle.cxx_ast.specs.ClassRules.{same_test}
 use Rattle.cxx_ast.specs.Broken.{same_passing, same_parameters, has_kind, all_in, same_allowed, agree, differs_from}
+use Rattle.cxx_ast.proofs.KindLaws.{same_test_is, same_kind_is}
+use Rattle.cxx_ast.proofs.Positions.{position-cons}
 use Rattle.cxx_rules.specs.SignaturesOf.{first_named}
-use Rattle.cxx_rules.proofs.TextLaws.{position-cons, some_suc}
+use Rattle.cxx_rules.proofs.MemberNames.{right_true}
+use Rattle.cxx_rules.proofs.TextLaws.{some_suc}
 
 pub both_true : (a b : Bool) → (a && b) ≡ true → (a ≡ true) × (b ≡ true)
 both_true true b h = (refl, h)
 both_true false b h = absurd (cc h)
-
-pub same_test_is : (a b : Bool) → same_test a b ≡ true → a ≡ b
-same_test_is true true h = refl
-same_test_is true false h = absurd (cc h)
-same_test_is false true h = absurd (cc h)
-same_test_is false false h = refl
-
-pub same_kind_is : (a b : Kind) → same_kind a b ≡ true → a ≡ b
-same_kind_is int_kind int_kind h = refl
-same_kind_is truth_kind truth_kind h = refl
-same_kind_is void_kind void_kind h = refl
-same_kind_is no_kind no_kind h = refl
-same_kind_is (class_kind j) (class_kind k) h = let same : j ≡ k = grind (arith, nat_tests, h) in ap class_kind same
-same_kind_is int_kind truth_kind h = absurd (cc h)
-same_kind_is int_kind void_kind h = absurd (cc h)
-same_kind_is int_kind (class_kind k) h = absurd (cc h)
-same_kind_is int_kind no_kind h = absurd (cc h)
-same_kind_is truth_kind int_kind h = absurd (cc h)
-same_kind_is truth_kind void_kind h = absurd (cc h)
-same_kind_is truth_kind (class_kind k) h = absurd (cc h)
-same_kind_is truth_kind no_kind h = absurd (cc h)
-same_kind_is void_kind int_kind h = absurd (cc h)
-same_kind_is void_kind truth_kind h = absurd (cc h)
-same_kind_is void_kind (class_kind k) h = absurd (cc h)
-same_kind_is void_kind no_kind h = absurd (cc h)
-same_kind_is (class_kind j) int_kind h = absurd (cc h)
-same_kind_is (class_kind j) truth_kind h = absurd (cc h)
-same_kind_is (class_kind j) void_kind h = absurd (cc h)
-same_kind_is (class_kind j) no_kind h = absurd (cc h)
-same_kind_is no_kind int_kind h = absurd (cc h)
-same_kind_is no_kind truth_kind h = absurd (cc h)
-same_kind_is no_kind void_kind h = absurd (cc h)
-same_kind_is no_kind (class_kind k) h = absurd (cc h)
 
 nat_itself : (n : ℕ) → nat_eq n n ≡ true
 nat_itself n = grind (arith, nat_tests)
@@ -79,16 +49,12 @@ lt_none i = grind (arith, nat_tests)
 lt_more : (i n : ℕ) → nat_lt (suc i) (suc n) ≡ nat_lt i n
 lt_more i n = grind (arith, nat_tests)
 
-or_later : (a b : Bool) → b ≡ true → (a || b) ≡ true
-or_later true b e = refl
-or_later false b e = e
-
 -- a list has the type that stands at a place of it
 pub has_at : {R : Type 0} (f : R → Kind) (x : Kind) (ks : List R) (i : ℕ) (d k : R) →
     true ≡ nat_lt i (length ks) → k ≡ slice_index_or ks i d → same_kind (f k) x ≡ true → has_kind x (map f ks) ≡ true
 has_at f x [] i d k h e s = let none : true ≡ false = h ∙ lt_none i in absurd (cc none)
 has_at f x (j ∷ ks) zero d k h e s = ap (λ b. b || has_kind x (map f ks)) (ap (λ y. same_kind (f y) x) (sym e) ∙ s)
-has_at f x (j ∷ ks) (suc i) d k h e s = or_later (same_kind (f j) x) (has_kind x (map f ks)) (has_at f x ks i d k (h ∙ lt_more i (length ks)) e s)
+has_at f x (j ∷ ks) (suc i) d k h e s = right_true (same_kind (f j) x) (has_kind x (map f ks)) (has_at f x ks i d k (h ∙ lt_more i (length ks)) e s)
 
 -- a list has a type exactly where it has a place for it
 pub has_place : {R : Type 0} (f : R → Kind) (x : Kind) (ks : List R) → is_some (position (λ k. same_kind (f k) x) ks) ≡ has_kind x (map f ks)
@@ -149,7 +115,7 @@ all_itself : (js ks : List Kind) → ((k : Kind) → has_kind k js ≡ true → 
 all_itself [] ks h = refl
 all_itself (j ∷ js) ks h =
     let a = h j (ap (λ b. b || has_kind j js) (kind_itself j)) in
-    let b = all_itself js ks (λ k e. h k (or_later (same_kind j k) (has_kind k js) e)) in
+    let b = all_itself js ks (λ k e. h k (right_true (same_kind j k) (has_kind k js) e)) in
     rw a b
 
 allowed_itself : (o : Option (List Kind)) → same_allowed o o ≡ true

@@ -2,6 +2,7 @@
 use Rattle.std.proofs.Common.{◌≡◌, ℕ, Bool, true, false, ◌&&◌, List, [], ◌∷◌, ◌++◌, Some, None, Option, refl, ap, ◌∙◌, sym, arith, if◌then◌else◌}
 use Rattle.std.proofs.lemmas.Bool.Decides.{nat_tests}
 use Rattle.cxx_ast.specs.declared.name.Name.{Name}
+use Rattle.cxx_ast.proofs.FindingLaws.{sound-append}
 use Rattle.cxx_ast.specs.Finding.{Finding, breaks, uses, is_sound, breaks_if}
 use Rattle.cxx_rules.specs.declared.found.Refusal.{Refusal}
 use Rattle.cxx_rules.specs.declared.found.Found.{Found}
@@ -46,11 +47,6 @@ least-append d (breaks number place ∷ xs) ys =
     ap (joined (Some (refusal number place))) (least-append d xs ys) ∙ joined_some (refusal number place) (least d xs) (least d ys)
 least-append d (uses n ∷ xs) ys =
     ap (joined (unless_defined d n)) (least-append d xs ys) ∙ joined_joined (unless_defined d n) (least d xs) (least d ys)
-
-pub sound-append : (xs ys : List Finding) → is_sound (xs ++ ys) ≡ (is_sound xs && is_sound ys)
-sound-append [] ys = refl
-sound-append (breaks number place ∷ xs) ys = refl
-sound-append (uses n ∷ xs) ys = sound-append xs ys
 
 pub summary_append : (d : List (List ℕ)) (xs ys : List Finding) → summary d (xs ++ ys) ≡ both (summary d xs) (summary d ys)
 unfolding summary both

@@ -9,7 +9,6 @@ pub mod AgreeLaws
 mod SignatureLaws
 mod LookupLaws
 mod MemberNames
-pub mod Rows
 pub mod PathLaws
 pub mod ConstructLaws
 pub mod GivenLaws

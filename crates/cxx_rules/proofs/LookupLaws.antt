@@ -3,7 +3,7 @@ use Rattle.std.proofs.Common.{◌≡◌, ℕ, suc, ◌+◌, Bool, true, false, �
 use Rattle.cxx_ast.specs.Environment.{Field, Signature}
 use Rattle.cxx_ast.specs.Lookup.{in_reach, is_method, field_named, method_named}
 use Rattle.cxx_rules.specs.NamesOf.{field_texts, function_texts}
-use Rattle.cxx_rules.proofs.TextLaws.{position-cons}
+use Rattle.cxx_ast.proofs.Positions.{position-cons}
 
 never : (b : Bool) → (b && false) ≡ false
 never true = refl

@@ -1,5 +1,5 @@
 -- The names of the parts of classes.
-use Rattle.std.proofs.Common.{◌≡◌, ℕ, zero, suc, Bool, true, false, ◌||◌, List, [], ◌∷◌, ◌++◌, Option, Some, None, refl, ap, ◌∙◌, sym, bytes_eq, position, subst, take, slice_get}
+use Rattle.std.proofs.Common.{◌≡◌, ℕ, zero, suc, Bool, true, false, ◌||◌, List, [], ◌∷◌, ◌++◌, Option, Some, None, Result, Ok, Err, OnOk, OnErr, refl, ap, ◌∙◌, sym, bytes_eq, position, subst, take, slice_get}
 use Rattle.std.proofs.lemmas.Slice.Eq.{bytes_eq-Decides}
 use Rattle.std.specs.Prelude.{⊤}
 use Rattle.cxx_ast.specs.Environment.{ClassEntry, Environment, unknown}
@@ -22,7 +22,7 @@ has_append q (x ∷ xs) ys = ap (λ b. bytes_eq x q || b) (has_append q xs ys) �
 left_true : (a b : Bool) → a ≡ true → (a || b) ≡ true
 left_true a b e = rw e refl
 
-right_true : (a b : Bool) → b ≡ true → (a || b) ≡ true
+pub right_true : (a b : Bool) → b ≡ true → (a || b) ≡ true
 right_true true b e = refl
 right_true false b e = e
 
@@ -46,6 +46,11 @@ with_last text old = (
   λ q h. has_append q old (text ∷ []) ∙ left_true (has_text q old) (has_text q (text ∷ [])) h,
   λ q h. has_append q old (text ∷ []) ∙ right_true (has_text q old) (has_text q (text ∷ [])) h,
 )
+
+-- whether it was put there or not, the texts before it are still there
+pub added_kept : {T E : Type 0} (r : Result T E) (text : List ℕ) (old new : List (List ℕ)) → OnOk r (new ≡ old ++ text ∷ []) → OnErr r (new ≡ old) → AreAmong old new
+added_kept (Ok x) text old new e f = subst (AreAmong old) (sym e) (with_last text old).0
+added_kept (Err x) text old new e f = subst (AreAmong old) (sym f) (λ q h. h)
 
 pub with_none : (old : List (List ℕ)) → AreWith old [] old
 with_none old = (λ q h. h, λ q h. absurd (cc h))

@@ -2,21 +2,14 @@
 use Rattle.std.specs.Prelude.{ℕ, Bool, ◌+◌, ◌||◌, List, [], ◌∷◌, ◌++◌, Option, take, length}
 use Rattle.cxx_ast.specs.declared.name.Name.{Name}
 use Rattle.cxx_ast.specs.declared.types.Ty.{Ty}
-use Rattle.cxx_ast.specs.declared.statement.Handler.{Handler}
 use Rattle.cxx_ast.specs.Plain.{Statements, no_statements, statement_then, Handlers, no_handlers, handler_then}
 use Rattle.cxx_ast.specs.Environment.{Environment, Variable, Scope}
 use Rattle.cxx_ast.specs.Finding.{Finding, breaks_if}
 use Rattle.cxx_ast.specs.Locals.{after, handler_scope, caught_count, locals_of, scope_behind}
 use Rattle.cxx_ast.specs.Rule.{handler_order}
 use Rattle.cxx_ast.specs.StatementRules.{caught_found, catches_all, statement_found, statements_found}
-use Rattle.cxx_ast.specs.View.{statements_of}
 use Rattle.cxx_rules.specs.declared.found.Found.{Found}
 use Rattle.cxx_rules.specs.Summary.{both, seen}
-
--- the handlers of a list
-abbrev pub handlers_of : List Handler → Handlers
-handlers_of [] = no_handlers
-handlers_of (h ∷ hs) = handler_then h.ty h.name (statements_of h.body.items) h.place (handlers_of hs)
 
 -- the scope behind the statements of a block
 abbrev pub scope_after : Environment → Scope → Statements → Scope

@@ -1,5 +1,5 @@
 // What is known of classes.
-ghost use Rattle.std.specs.Prelude.{◌≡◌, None, position, bytes_eq, IfOk, IfSome};
+ghost use Rattle.std.specs.Prelude.{◌≡◌, None, position, bytes_eq, IfOk};
 ghost use Rattle.cxx_rules.specs.NamesOf.{field_texts, function_texts};
 
 use crate::NoMemory;
@@ -9,17 +9,14 @@ use crate::texts::Texts;
 use std::alloc::Global;
 use std::marker::Model;
 
-// So many parts of a kind are sought one by one.
-const FEW: usize = 8;
-
-// The names of the parts of a class that has many.
+// The names of the parts of a class.
 #[derive(Drop)]
 pub struct PartNames {
     fields: Texts,
     functions: Texts,
 }
 
-/// A class. Where it has many parts, each is found at once by its name.
+/// A class. Each of its parts is found at once by its name.
 #[derive(Drop)]
 pub struct ClassEntry<'t> {
     name: &'t [u8],
@@ -29,7 +26,7 @@ pub struct ClassEntry<'t> {
     size: Size,
     chain: usize,
     has_default: bool,
-    many: Option<Box<PartNames>>,
+    names: Box<PartNames>,
 }
 
 impl<'t> Model for ClassEntry<'t> {
@@ -37,7 +34,7 @@ impl<'t> Model for ClassEntry<'t> {
 
     ghost Value = { environment.ClassEntry };
 
-    ghost use Rattle.std.specs.Prelude.{◌≡◌, IfSome};
+    ghost use Rattle.std.specs.Prelude.{◌≡◌};
     ghost use Rattle.cxx_rules.specs.NamesOf.{field_texts, function_texts};
 
     ghost view = { λ c. record {
@@ -50,7 +47,7 @@ impl<'t> Model for ClassEntry<'t> {
       has_default = c.has_default;
     } };
 
-    ghost invariant = { λ c. IfSome c.many (λ n. (n.value.fields ≡ field_texts c.fields.items) × (n.value.functions ≡ function_texts c.functions.items)) };
+    ghost invariant = { λ c. (c.names.value.fields ≡ field_texts c.fields.items) × (c.names.value.functions ≡ function_texts c.functions.items) };
 }
 
 impl<'t> ClassEntry<'t> {
@@ -88,7 +85,7 @@ impl<'t> ClassEntry<'t> {
     ) -> Result<Self, NoMemory>
         ensures { IfOk result (λ c. c ≡ record { name = name.now; base = base; fields = fields.entry.items; functions = functions.entry.items; size = size; chain = chain; has_default = has_default }) }
     {
-        let many = names_of_many(alloc, fields.as_slice(), functions.as_slice())?;
+        let names = part_names(alloc, fields.as_slice(), functions.as_slice())?;
         Ok(ClassEntry {
             name,
             base,
@@ -97,7 +94,7 @@ impl<'t> ClassEntry<'t> {
             size,
             chain,
             has_default,
-            many,
+            names,
         })
     }
 
@@ -147,37 +144,15 @@ impl<'t> ClassEntry<'t> {
     pub fn first_field(&self, text: &[u8]) -> Option<usize>
         ensures { result ≡ position (λ d. bytes_eq d text.now) (field_texts self.now.fields) }
     {
-        match &self.many {
-            None => field_in(self.fields.as_slice(), text),
-            Some(names) => names.fields.position(text),
-        }
+        self.names.fields.position(text)
     }
 
     /// The first function of a name.
     pub fn first_function(&self, text: &[u8]) -> Option<usize>
         ensures { result ≡ position (λ d. bytes_eq d text.now) (function_texts self.now.functions) }
     {
-        match &self.many {
-            None => function_in(self.functions.as_slice(), text),
-            Some(names) => names.functions.position(text),
-        }
+        self.names.functions.position(text)
     }
-}
-
-// The first data member of a name in a list.
-fn field_in(fields: &[Field<'_>], text: &[u8]) -> Option<usize>
-    ensures { result ≡ position (λ f. bytes_eq f.name.text text.now) fields.now }
-{
-    fields.iter().position(|f| f.name().text.as_bytes() == text)
-}
-
-// The first function of a name in a list.
-fn function_in(functions: &[Signature<'_>], text: &[u8]) -> Option<usize>
-    ensures { result ≡ position (λ f. bytes_eq f.name.text text.now) functions.now }
-{
-    functions
-        .iter()
-        .position(|f| f.name().text.as_bytes() == text)
 }
 
 // The names of data members.
@@ -186,7 +161,7 @@ fn field_names(alloc: Global, fields: &[Field<'_>]) -> Result<Texts, NoMemory>
 {
     let mut names = Texts::new(alloc);
     for f in fields {
-        names = names.with(alloc, f.name().text.as_bytes())?;
+        names.add(alloc, f.name().text.as_bytes())?;
     }
     Ok(names)
 }
@@ -197,24 +172,21 @@ fn function_names(alloc: Global, functions: &[Signature<'_>]) -> Result<Texts, N
 {
     let mut names = Texts::new(alloc);
     for f in functions {
-        names = names.with(alloc, f.name().text.as_bytes())?;
+        names.add(alloc, f.name().text.as_bytes())?;
     }
     Ok(names)
 }
 
-// The names of the parts of a class, where it has many.
-fn names_of_many(
+// The names of the parts of a class.
+fn part_names(
     alloc: Global,
     fields: &[Field<'_>],
     functions: &[Signature<'_>],
-) -> Result<Option<Box<PartNames>>, NoMemory>
-    ensures { IfOk result (λ o. IfSome o (λ n. (n.value.fields ≡ field_texts fields.now) × (n.value.functions ≡ function_texts functions.now))) }
+) -> Result<Box<PartNames>, NoMemory>
+    ensures { IfOk result (λ n. (n.value.fields ≡ field_texts fields.now) × (n.value.functions ≡ function_texts functions.now)) }
 {
-    if fields.len() <= FEW && functions.len() <= FEW {
-        return Ok(None);
-    }
     let fields = field_names(alloc, fields)?;
     let functions = function_names(alloc, functions)?;
     let names = Box::new(alloc, PartNames { fields, functions })?;
-    Ok(Some(names))
+    Ok(names)
 }

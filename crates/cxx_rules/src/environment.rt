@@ -1,13 +1,13 @@
 // What is known of the names that a program declared so far.
-ghost use Rattle.std.specs.Prelude.{◌≡◌, true, option_map, find, bytes_eq, slice_get, length, IfOk};
+ghost use Rattle.std.specs.Prelude.{◌≡◌, ◌∷◌, [], true, option_map, find, bytes_eq, slice_get, length, IfOk, OnOk};
 ghost use Rattle.cxx_ast.specs.ClassRules.{is_taken};
 ghost use Rattle.cxx_ast.specs.Declare.{with_name, with_class, with_signature};
 ghost use Rattle.cxx_ast.specs.FunctionRules.{has_text};
 ghost use Rattle.cxx_ast.specs.Lookup.{entry_of};
 ghost use Rattle.cxx_ast.specs.Resolve.{function_number};
-ghost use Rattle.cxx_rules.specs.Known.{part_names, HasNoMember};
+ghost use Rattle.cxx_rules.specs.Known.{bad_exception, part_names, HasNoMember};
 ghost use Rattle.cxx_rules.specs.NamesOf.{field_texts, function_texts};
-ghost use Rattle.cxx_rules.specs.Positions.{AreWith};
+ghost use Rattle.cxx_rules.specs.Positions.{AreAmong};
 
 use crate::NoMemory;
 use crate::class::ClassEntry;
@@ -56,8 +56,7 @@ impl<'t> Environment<'t> {
     pub fn new(alloc: Global, definitions: Texts) -> Result<Self, NoMemory>
         ensures { IfOk result (λ e. e ≡ known_at_first definitions) }
     {
-        let mut classes = Vec::new(alloc);
-        classes.push(ClassEntry::bad_exception(alloc)?)?;
+        let classes = first_classes(alloc)?;
         Ok(Environment {
             classes,
             names: Names::new(alloc),
@@ -75,146 +74,64 @@ impl<'t> Environment<'t> {
         self.thing(text).is_some()
     }
 
-    /// What is known with a name more; the first of a name stands.
-    pub fn with_name(self, alloc: Global, text: &[u8], thing: Thing) -> Result<Self, NoMemory>
-        ensures { IfOk result (λ e. e ≡ with_name self.entry text.now (thing_of thing)) }
+    /// Takes a name more; the first of a name stands.
+    pub fn add_name(&mut self, alloc: Global, text: &[u8], thing: Thing) -> Result<(), NoMemory>
+        ensures { OnOk result (self.new ≡ with_name self.old text.now (thing_of thing)) }
     {
         if self.is_taken(text) {
-            return Ok(self);
+            return Ok(());
         }
-        let Environment {
-            classes,
-            mut names,
-            globals,
-            signatures,
-            members,
-            definitions,
-        } = self;
-        names.add(alloc, text, thing)?;
-        Ok(Environment {
-            classes,
-            names,
-            globals,
-            signatures,
-            members,
-            definitions,
-        })
+        self.names.add(alloc, text, thing)
     }
 
-    /// What is known with a class more.
-    pub fn with_class(self, alloc: Global, entry: ClassEntry<'t>) -> Result<Self, NoMemory>
-        ensures { IfOk result (λ e. e ≡ with_class self.entry entry.entry) }
+    /// Takes a class more.
+    pub fn add_class(&mut self, alloc: Global, entry: ClassEntry<'t>) -> Result<(), NoMemory>
+        ensures { OnOk result (self.new ≡ with_class self.old entry.entry) }
     {
-        let Environment {
-            mut classes,
-            names,
-            globals,
-            signatures,
-            members,
-            definitions,
-        } = self;
-        let members = with_members(alloc, members, &entry)?;
-        classes.push(entry)?;
-        Ok(Environment {
-            classes,
-            names,
-            globals,
-            signatures,
-            members,
-            definitions,
-        })
+        add_members(alloc, &mut self.members, &entry)?;
+        self.classes.push(entry)?;
+        Ok(())
     }
 
-    /// What is known without the last class.
-    pub fn without_class(self) -> Self
-        ensures { result ≡ record self.entry { classes = front_of self.entry.classes } }
+    /// Forgets the last class.
+    pub fn remove_class(&mut self)
+        ensures { self.new ≡ record self.old { classes = front_of self.old.classes } }
     {
-        let Environment {
-            mut classes,
-            names,
-            globals,
-            signatures,
-            members,
-            definitions,
-        } = self;
-        classes.pop();
-        Environment {
-            classes,
-            names,
-            globals,
-            signatures,
-            members,
-            definitions,
-        }
+        let before = self.classes.len().saturating_sub(1);
+        self.classes.truncate(before);
     }
 
-    // What is known with a declaration of a function more.
-    fn with_declaration(self, alloc: Global, signature: Signature<'t>) -> Result<Self, NoMemory>
-        ensures { IfOk result (λ e. e ≡ with_declaration self.entry signature.entry) }
+    // Takes a declaration of a function more.
+    fn add_declaration(&mut self, alloc: Global, signature: Signature<'t>) -> Result<(), NoMemory>
+        ensures { OnOk result (self.new ≡ with_declaration self.old signature.entry) }
     {
-        let Environment {
-            classes,
-            names,
-            globals,
-            signatures,
-            members,
-            definitions,
-        } = self;
-        let signatures = signatures.with(alloc, signature)?;
-        Ok(Environment {
-            classes,
-            names,
-            globals,
-            signatures,
-            members,
-            definitions,
-        })
+        self.signatures.add(alloc, signature)
     }
 
-    /// What is known with a function of the one scope more, unless the name stands for something else.
-    pub fn with_signature(self, alloc: Global, signature: Signature<'t>) -> Result<Self, NoMemory>
-        ensures { IfOk result (λ e. e ≡ with_signature self.entry signature.entry) }
+    /// Takes a function of the one scope more, unless the name stands for something else.
+    pub fn add_signature(&mut self, alloc: Global, signature: Signature<'t>) -> Result<(), NoMemory>
+        ensures { OnOk result (self.new ≡ with_signature self.old signature.entry) }
     {
         let text = signature.name().text.as_bytes();
         match self.thing(text) {
-            None => self
-                .with_name(alloc, text, Thing::Function)?
-                .with_declaration(alloc, signature),
-            Some(Thing::Function) => self.with_declaration(alloc, signature),
-            Some(_) => Ok(self),
+            None => {
+                self.add_name(alloc, text, Thing::Function)?;
+                self.add_declaration(alloc, signature)
+            }
+            Some(Thing::Function) => self.add_declaration(alloc, signature),
+            Some(_) => Ok(()),
         }
     }
 
-    // What is known with a global counted.
-    fn with_globals(self, globals: usize) -> Self
-        ensures { result ≡ record self.entry { globals = globals } }
-    {
-        let Environment {
-            classes,
-            names,
-            globals: _,
-            signatures,
-            members,
-            definitions,
-        } = self;
-        Environment {
-            classes,
-            names,
-            globals,
-            signatures,
-            members,
-            definitions,
-        }
-    }
-
-    /// What is known with a global more.
-    pub fn with_global(self, alloc: Global, text: &[u8]) -> Result<Self, NoMemory>
-        ensures { IfOk result (λ e. e ≡ with_global self.entry text.now) }
+    /// Takes a global more.
+    pub fn add_global(&mut self, alloc: Global, text: &[u8]) -> Result<(), NoMemory>
+        ensures { OnOk result (self.new ≡ with_global self.old text.now) }
     {
         let globals = self.globals();
         let next = globals.checked_add(1).ok_or(NoMemory)?;
-        let named = self.with_name(alloc, text, Thing::Global(globals))?;
-        Ok(named.with_globals(next))
+        self.add_name(alloc, text, Thing::Global(globals))?;
+        self.globals = next;
+        Ok(())
     }
 
     /// A class by its number.
@@ -283,37 +200,46 @@ impl<'t> Environment<'t> {
     }
 }
 
-// The names of data members among those of parts of classes.
-fn with_fields(alloc: Global, members: Texts, fields: &[Field<'_>]) -> Result<Texts, NoMemory>
-    ensures { IfOk result (λ m. AreWith members (field_texts fields.now) m) }
+// The classes that each program has.
+fn first_classes<'t>(alloc: Global) -> Result<Vec<ClassEntry<'t>>, NoMemory>
+    ensures { IfOk result (λ cs. cs.items ≡ bad_exception ∷ []) }
 {
-    let mut texts = members;
+    let mut classes = Vec::new(alloc);
+    classes.push(ClassEntry::bad_exception(alloc)?)?;
+    Ok(classes)
+}
+
+// The names of data members among those of parts of classes.
+fn add_fields(alloc: Global, members: &mut Texts, fields: &[Field<'_>]) -> Result<(), NoMemory>
+    ensures kept { AreAmong members.old members.new }
+    ensures added { OnOk result (AreAmong (field_texts fields.now) members.new) }
+{
     for field in fields {
-        texts = texts.with_one(alloc, field.name().text.as_bytes())?;
+        members.add_once(alloc, field.name().text.as_bytes())?;
     }
-    Ok(texts)
+    Ok(())
 }
 
 // The names of functions among those of parts of classes.
-fn with_functions(
+fn add_functions(
     alloc: Global,
-    members: Texts,
+    members: &mut Texts,
     functions: &[Signature<'_>],
-) -> Result<Texts, NoMemory>
-    ensures { IfOk result (λ m. AreWith members (function_texts functions.now) m) }
+) -> Result<(), NoMemory>
+    ensures kept { AreAmong members.old members.new }
+    ensures added { OnOk result (AreAmong (function_texts functions.now) members.new) }
 {
-    let mut texts = members;
     for function in functions {
-        texts = texts.with_one(alloc, function.name().text.as_bytes())?;
+        members.add_once(alloc, function.name().text.as_bytes())?;
     }
-    Ok(texts)
+    Ok(())
 }
 
 // The names of a class's parts among those of parts of classes.
-fn with_members(alloc: Global, members: Texts, class: &ClassEntry<'_>) -> Result<Texts, NoMemory>
-    ensures { IfOk result (λ m. AreWith members (part_names class.now) m) }
+fn add_members(alloc: Global, members: &mut Texts, class: &ClassEntry<'_>) -> Result<(), NoMemory>
+    ensures kept { AreAmong members.old members.new }
+    ensures added { OnOk result (AreAmong (part_names class.now) members.new) }
 {
-    let named = with_fields(alloc, members, class.fields())?;
-    let all = with_functions(alloc, named, class.functions())?;
-    Ok(all)
+    add_fields(alloc, members, class.fields())?;
+    add_functions(alloc, members, class.functions())
 }

@@ -147,7 +147,7 @@ fn number_judged<'t>(_env: &Environment<'t>, place: u32) -> Judged<'t>
 }
 
 /// An expression.
-#[tactic(auto, using(crate::proofs::Rows::rows))]
+#[tactic(auto, using(cxx_ast::proofs::Rows::rows))]
 #[cycle(expressions)]
 pub fn judged<'t>(
     alloc: Global,
@@ -174,14 +174,43 @@ pub fn judged<'t>(
             Ok(binary_judged(env, *op, &left, &right))
         }
         Expr::Call(callee, args) => {
-            let given = all_judged(alloc, env, scope, args.as_slice())?;
-            Ok(call_judged(env, scope, callee.path.as_slice(), given.as_slice()))
+            call(alloc, env, scope, callee.path.as_slice(), args.as_slice())
         }
         Expr::StdCall(name, args, place) => {
-            let given = all_judged(alloc, env, scope, args.as_slice())?;
-            Ok(std_call_judged(env, scope, name, given.as_slice(), *place))
+            std_call(alloc, env, scope, name, args.as_slice(), *place)
         }
     }
+}
+
+// A call with its arguments.
+#[cycle(expressions)]
+fn call<'t>(
+    alloc: Global,
+    env: &Environment<'t>,
+    scope: &Scope<'t>,
+    names: &[Name],
+    args: &'t [Expr],
+) -> Result<Judged<'t>, NoMemory>
+    ensures { IfOk result (λ j. j ≡ judgement_seen env.now (judged env.now scope.now (call names.now (expressions_of args.now)))) }
+{
+    let given = all_judged(alloc, env, scope, args)?;
+    Ok(call_judged(env, scope, names, given.as_slice()))
+}
+
+// A call of `std::` something with its arguments.
+#[cycle(expressions)]
+fn std_call<'t>(
+    alloc: Global,
+    env: &Environment<'t>,
+    scope: &Scope<'t>,
+    name: &Name,
+    args: &'t [Expr],
+    place: u32,
+) -> Result<Judged<'t>, NoMemory>
+    ensures { IfOk result (λ j. j ≡ judgement_seen env.now (judged env.now scope.now (std_call name.now (expressions_of args.now) place))) }
+{
+    let given = all_judged(alloc, env, scope, args)?;
+    Ok(std_call_judged(env, scope, name, given.as_slice(), place))
 }
 
 /// Expressions one by one.

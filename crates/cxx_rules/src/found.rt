@@ -25,7 +25,7 @@ impl Refusal {
 
 /// What was found in a part of a program: the refusal that answers, and whether the part breaks no rule itself. The use of a
 /// function that is never defined refuses the source, and leaves the part sound.
-#[derive(Clone, Copy, Debug, Drop, PartialEq, Eq)]
+#[derive(Clone, Copy, Drop)]
 pub struct Found {
     pub least: Option<Refusal>,
     pub is_sound: bool,

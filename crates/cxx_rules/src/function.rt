@@ -39,25 +39,29 @@ fn param_found(_env: &Environment<'_>, before: &Texts, param: &Param) -> Found
     }
 }
 
-// The names of parameters with that of one more.
-fn param_seen(alloc: Global, before: Texts, param: &Param) -> Result<Texts, NoMemory>
-    ensures { IfOk result (λ names. names ≡ param_seen before param.now) }
+// Takes the name of a parameter more.
+fn see_param(alloc: Global, before: &mut Texts, param: &Param) -> Result<(), NoMemory>
+    ensures { OnOk result (before.new ≡ param_seen before.old param.now) }
 {
     match &param.name {
-        None => Ok(before),
-        Some(name) => before.with(alloc, name.text.as_bytes()),
+        None => Ok(()),
+        Some(name) => before.add(alloc, name.text.as_bytes()),
     }
 }
 
-// Parameters one by one.
-fn each_param(alloc: Global, env: &Environment<'_>, params: &[Param]) -> Result<Found, NoMemory>
-    ensures { IfOk result (λ f. f ≡ params_behind env.now nothing_found [] params.now) }
+// Parameters behind those of some names, to which theirs are added.
+fn each_param(
+    alloc: Global,
+    env: &Environment<'_>,
+    before: &mut Texts,
+    params: &[Param],
+) -> Result<Found, NoMemory>
+    ensures { IfOk result (λ f. f ≡ params_behind env.now nothing_found before.old params.now) }
 {
-    let mut before = Texts::new(alloc);
     let mut found = Found::nothing();
     for param in params {
-        found = found.and(param_found(env, &before, param));
-        before = param_seen(alloc, before, param)?;
+        found = found.and(param_found(env, before, param));
+        see_param(alloc, before, param)?;
     }
     Ok(found)
 }
@@ -71,7 +75,8 @@ pub fn params_twice(
 ) -> Result<Found, NoMemory>
     ensures { IfOk result (λ f. f ≡ seen env.now (params_twice [] params.now)) }
 {
-    each_param(alloc, env, params)
+    let mut before = Texts::new(alloc);
+    each_param(alloc, env, &mut before, params)
 }
 
 /// Declares parameters in order.

@@ -1,6 +1,9 @@
 // The initialisers of a constructor, and the parts that it leaves to their default constructors.
 ghost use Rattle.std.specs.Prelude.{◌≡◌, ◌∷◌, List, IfOk};
+ghost use Rattle.cxx_ast.specs.Environment.{Scope as Place};
+ghost use Rattle.cxx_ast.specs.ExpressionRules.{all_judged};
 ghost use Rattle.cxx_ast.specs.Finding.{breaks};
+ghost use Rattle.cxx_ast.specs.Plain.{Expressions};
 ghost use Rattle.cxx_ast.specs.Rule.{arity, initialiser_list};
 ghost use Rattle.cxx_ast.specs.FunctionRules.{has_text, part_kind, is_called, base_part, named_part, int_part_found, part_found, initialiser_found, class_text, left_part, left_base};
 ghost use Rattle.cxx_ast.specs.Reference.{Judgement, all_found};
@@ -23,6 +26,7 @@ use crate::reference::{all_found, int_found};
 use crate::rule::Rule;
 use crate::scope::Scope;
 use cxx_ast::declaration::Init;
+use cxx_ast::name::Name;
 use std::alloc::Global;
 
 // A list of texts has one.
@@ -122,8 +126,28 @@ fn no_part(env: &Environment<'_>, place: u32, given: &[Judged<'_>]) -> Found
     Found::broken(Rule::InitialiserList, place).and(all_found(given))
 }
 
-/// An initialiser behind those of some names.
+// An initialiser of a part, behind those of some names.
 #[tactic(auto, using(crate::proofs::FoundLaws::findings))]
+fn initialised(
+    env: &Environment<'_>,
+    class: &ClassEntry<'_>,
+    before: &[&[u8]],
+    name: &Name,
+    given: &[Judged<'_>],
+) -> Found
+    ensures { (scope : Place) (es : Expressions) → given.now ≡ judgements_seen env.now (all_judged env.now scope es) → result ≡ seen env.now (initialiser_found env.now scope class.now (texts_now before.now) (record { name = name.now; arguments = es })) }
+{
+    let text = name.text.as_bytes();
+    match named_part(env, class, text) {
+        None => no_part(env, name.place, given),
+        Some(kind) => {
+            let twice = Found::broken_if(has_text(text, before), Rule::InitialiserList, name.place);
+            twice.and(part_found(env, name.place, given, kind))
+        }
+    }
+}
+
+/// An initialiser behind those of some names.
 pub fn initialiser_found<'t>(
     alloc: Global,
     env: &Environment<'t>,
@@ -134,19 +158,8 @@ pub fn initialiser_found<'t>(
 ) -> Result<Found, NoMemory>
     ensures { IfOk result (λ f. f ≡ seen env.now (initialiser_found env.now scope.now class.now (texts_now before.now) (initialiser_of i.now))) }
 {
-    let text = i.name.text.as_bytes();
     let given = all_judged(alloc, env, scope, i.args.as_slice())?;
-    match named_part(env, class, text) {
-        None => Ok(no_part(env, i.name.place, given.as_slice())),
-        Some(kind) => {
-            let twice = Found::broken_if(
-                has_text(text, before),
-                Rule::InitialiserList,
-                i.name.place,
-            );
-            Ok(twice.and(part_found(env, i.name.place, given.as_slice(), kind)))
-        }
-    }
+    Ok(initialised(env, class, before, &i.name, given.as_slice()))
 }
 
 // A part of class type that is not initialised and needs arguments.

@@ -4,7 +4,7 @@ ghost use Rattle.cxx_ast.specs.Environment.{same_kind};
 ghost use Rattle.cxx_rules.specs.KindOf.{kind_of};
 
 /// The type of a value, an object or a variable.
-#[derive(Clone, Copy, Debug, Drop)]
+#[derive(Clone, Copy, Drop)]
 pub enum Kind {
     Int,
     /// What a comparison gives.

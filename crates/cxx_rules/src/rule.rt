@@ -3,7 +3,7 @@ ghost use Rattle.std.specs.Prelude.{◌≡◌};
 ghost use Rattle.cxx_rules.specs.Numbered.{number_of};
 
 /// A rule that a program may break.
-#[derive(Clone, Copy, Debug, Drop, PartialEq, Eq)]
+#[derive(Clone, Copy, Drop)]
 pub enum Rule {
     UnknownName,
     Redeclared,

@@ -187,10 +187,9 @@ impl<'t> Scope<'t> {
         ensures { OnOk result (self.new ≡ declare name.now (kind_of kind) is_const self.old) }
     {
         let text = name.text.as_bytes();
-        let variable = Variable::new(text, kind, is_const, self.next);
         let next = one_more(self.next)?;
         if !self.rows.is_empty() && !self.has(text) {
-            self.rows[0].push(variable)?;
+            self.rows[0].push(Variable::new(text, kind, is_const, self.next))?;
         }
         self.next = next;
         Ok(())

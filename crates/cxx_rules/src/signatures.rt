@@ -1,8 +1,8 @@
 // The declarations of functions.
-ghost use Rattle.std.specs.Prelude.{◌≡◌, ◌++◌, ◌∷◌, [], option_map, find, bytes_eq, slice_get, not, ◌||◌, Some, IfOk};
+ghost use Rattle.std.specs.Prelude.{◌≡◌, ◌++◌, ◌∷◌, [], List, option_map, find, bytes_eq, slice_get, not, ◌||◌, Some, OnOk, OnErr};
 ghost use Rattle.cxx_ast.specs.Broken.{agree, differs_from, defined_in};
 ghost use Rattle.cxx_ast.specs.Environment as environment;
-ghost use Rattle.cxx_rules.specs.SignaturesOf.{Says, IsNoted};
+ghost use Rattle.cxx_rules.specs.SignaturesOf.{Says, IsNoted, AreNoted};
 
 use crate::NoMemory;
 use crate::agree::agree;
@@ -12,7 +12,7 @@ use std::alloc::Global;
 use std::marker::Model;
 
 /// Of the declarations of a name: where the first stands, whether one differs from it, and whether one is a definition.
-#[derive(Clone, Copy, Debug, Drop)]
+#[derive(Clone, Copy, Drop)]
 pub struct Noted {
     first: usize,
     differs: bool,
@@ -122,20 +122,36 @@ impl<'t> Signatures<'t> {
         }
     }
 
-    /// The declarations with one more behind them.
-    pub fn with(self, alloc: Global, signature: Signature<'t>) -> Result<Self, NoMemory>
-        ensures { IfOk result (λ s. s ≡ self.entry ++ signature.entry ∷ []) }
+    /// Puts a declaration behind the others.
+    pub fn add(&mut self, alloc: Global, signature: Signature<'t>) -> Result<(), NoMemory>
+        ensures { OnOk result (self.new ≡ self.old ++ signature.entry ∷ []) }
     {
         let with_it = self.noted_with(&signature);
-        let name = Vec::from_slice(alloc, signature.name().text.as_bytes())?;
-        let Signatures {
-            mut items,
-            mut noted,
-        } = self;
-        items.push(signature)?;
-        noted.insert(name, with_it)?;
-        Ok(Signatures { items, noted })
+        // The room comes first, so that nothing is noted of a declaration that is not put in.
+        self.items.reserve(1)?;
+        note(
+            alloc,
+            &mut self.noted,
+            signature.name().text.as_bytes(),
+            with_it,
+        )?;
+        self.items.push(signature)?;
+        Ok(())
     }
+}
+
+// Notes something of a name.
+fn note(
+    alloc: Global,
+    noted: &mut IndexMap<Vec<u8>, Noted>,
+    text: &[u8],
+    entry: Noted,
+) -> Result<(), NoMemory>
+    ensures ok { (ss : List environment.Signature) (s : environment.Signature) → AreNoted noted.old.entries ss → s.name.text ≡ text.now → IsNoted text.now (ss ++ s ∷ []) entry → OnOk result (AreNoted noted.new.entries (ss ++ s ∷ [])) }
+    ensures err { OnErr result (noted.new.entries ≡ noted.old.entries) }
+{
+    noted.insert(Vec::from_slice(alloc, text)?, entry)?;
+    Ok(())
 }
 
 // One of two is so.

@@ -260,8 +260,29 @@ fn object_found(
     }
 }
 
-/// A local object.
+// What a local object breaks.
 #[tactic(auto, using(crate::proofs::FoundLaws::findings))]
+fn local_object_found<'t>(
+    alloc: Global,
+    env: &Environment<'t>,
+    scope: &Scope<'t>,
+    class: &Name,
+    name: &Name,
+    args: &'t [Expr],
+) -> Result<Found, NoMemory>
+    ensures { IfOk result (λ f. f ≡ seen env.now (statement_found env.now scope.now (local_object class.now name.now (expressions_of args.now)))) }
+{
+    let given = all_judged(alloc, env, scope, args)?;
+    let kind = class_of_name(env, scope, class);
+    let built = object_found(env, kind, class.place, name.place, given.as_slice());
+    Ok(
+        class_found(env, scope, class)
+            .and(built)
+            .and(twice_in(env, scope, name)),
+    )
+}
+
+/// A local object.
 pub fn local_object<'t>(
     alloc: Global,
     env: &Environment<'t>,
@@ -273,12 +294,7 @@ pub fn local_object<'t>(
     ensures found { IfOk result (λ f. f ≡ seen env.now (statement_found env.now scope.old (local_object class.now name.now (expressions_of args.now)))) }
     ensures scope { OnOk result (scope.new ≡ scope_behind env.now scope.old (local_object class.now name.now (expressions_of args.now))) }
 {
-    let given = all_judged(alloc, env, scope, args)?;
-    let kind = class_of_name(env, scope, class);
-    let built = object_found(env, kind, class.place, name.place, given.as_slice());
-    let found = class_found(env, scope, class)
-        .and(built)
-        .and(twice_in(env, scope, name));
-    scope.declare(name, kind, false)?;
+    let found = local_object_found(alloc, env, scope, class, name, args)?;
+    scope.declare(name, class_of_name(env, scope, class), false)?;
     Ok(found)
 }

@@ -1,11 +1,14 @@
 // What is broken in statements and handlers.
-ghost use Rattle.std.specs.Prelude.{◌≡◌, ◌+◌, false, IfOk, OnOk};
+ghost use Rattle.std.specs.Prelude.{◌≡◌, ◌+◌, ◌++◌, false, IfOk, OnOk};
 ghost use Rattle.cxx_ast.specs.Environment.{Scope as Place};
+ghost use Rattle.cxx_ast.specs.ExpressionRules.{judged};
 ghost use Rattle.cxx_ast.specs.Locals.{inner, in_a_loop, after, locals_in, locals_of, locals_caught, caught_count, handler_scope, scope_behind};
+ghost use Rattle.cxx_ast.specs.Plain.{while};
+ghost use Rattle.cxx_ast.specs.Reference.{int_found};
 ghost use Rattle.cxx_ast.specs.StatementRules.{caught_found, catches_all, statement_found, statements_found, handlers_found};
-ghost use Rattle.cxx_ast.specs.View.{statement_of, statements_of};
+ghost use Rattle.cxx_ast.specs.View.{expression_of, statement_of, statements_of, handlers_of};
 ghost use Rattle.cxx_rules.specs.Summary.{seen};
-ghost use Rattle.cxx_rules.specs.Walk.{handlers_of, handler_found, scope_after};
+ghost use Rattle.cxx_rules.specs.Walk.{handler_found, scope_after};
 
 use crate::NoMemory;
 use crate::environment::Environment;
@@ -18,13 +21,14 @@ use crate::simple::{
 };
 use crate::thrown::throw_found;
 use crate::types::{is_const, type_found, type_kind};
+use cxx_ast::expression::Expr;
 use cxx_ast::name::Name;
 use cxx_ast::statement::{Handler, Stmt};
 use cxx_ast::types::Ty;
 use std::alloc::Global;
 
 /// A statement, which may declare a variable.
-#[tactic(auto, using(crate::proofs::Rows::statement_rows, crate::proofs::FoundLaws::findings))]
+#[tactic(auto, using(cxx_ast::proofs::Rows::statement_rows, crate::proofs::FoundLaws::findings))]
 #[cycle(statements)]
 pub fn statement<'t>(
     alloc: Global,
@@ -38,27 +42,21 @@ pub fn statement<'t>(
     match s {
         Stmt::Block(ss) => block(alloc, env, scope, ss.as_slice()),
         Stmt::Empty => Ok(Found::nothing()),
-        Stmt::If(e, body, None) => {
-            let test = wanted_int(alloc, env, scope, e)?;
-            Ok(test.and(branch(alloc, env, scope, body)?))
-        }
+        Stmt::If(e, body, None) => guarded(alloc, env, scope, body, e),
         Stmt::If(e, body, Some(other)) => {
-            let test = wanted_int(alloc, env, scope, e)?;
-            let first = branch(alloc, env, scope, body)?;
+            let first = guarded(alloc, env, scope, body, e)?;
             let second = branch(alloc, env, scope, other)?;
-            Ok(test.and(first).and(second))
+            Ok(first.and(second))
         }
-        Stmt::While(e, body) => {
-            let test = wanted_int(alloc, env, scope, e)?;
-            Ok(test.and(loop_body(alloc, env, scope, body)?))
-        }
+        Stmt::While(e, body) => while_loop(alloc, env, scope, body, e),
         Stmt::Return(place, e) => return_found(alloc, env, scope, *place, e),
         Stmt::Break(place) => Ok(jump_found(env, scope, *place)),
         Stmt::Continue(place) => Ok(jump_found(env, scope, *place)),
         Stmt::Throw(_, e) => throw_found(alloc, env, scope, e),
         Stmt::Try(ss, hs) => {
             let tried = block(alloc, env, scope, ss.as_slice())?;
-            Ok(tried.and(handlers(alloc, env, scope, hs.as_slice())?))
+            let handled = handlers(alloc, env, scope, hs.as_slice())?;
+            Ok(tried.and(handled))
         }
         Stmt::Assign(l, e) => assign_found(alloc, env, scope, l.path.as_slice(), e),
         Stmt::Call(e) => evaluated_found(alloc, env, scope, e),
@@ -68,6 +66,42 @@ pub fn statement<'t>(
             local_object(alloc, env, scope, class, name, args.as_slice())
         }
     }
+}
+
+// A test and the statement that it guards.
+#[tactic(auto, using(crate::proofs::FoundLaws::findings))]
+#[cycle(statements)]
+fn guarded<'t>(
+    alloc: Global,
+    env: &Environment<'t>,
+    scope: &mut Scope<'t>,
+    body: &'t Stmt,
+    test: &'t Expr,
+) -> Result<Found, NoMemory>
+    ensures found { IfOk result (λ f. f ≡ seen env.now (int_found (judged env.now scope.old (expression_of test.now)) ++ statement_found env.now scope.old (statement_of body.now))) }
+    ensures scope { OnOk result (scope.new ≡ after (locals_in (statement_of body.now)) scope.old) }
+{
+    let wanted = wanted_int(alloc, env, scope, test)?;
+    let inside = branch(alloc, env, scope, body)?;
+    Ok(wanted.and(inside))
+}
+
+// A test and the statement that is done while it holds.
+#[tactic(auto, using(crate::proofs::FoundLaws::findings))]
+#[cycle(statements)]
+fn while_loop<'t>(
+    alloc: Global,
+    env: &Environment<'t>,
+    scope: &mut Scope<'t>,
+    body: &'t Stmt,
+    test: &'t Expr,
+) -> Result<Found, NoMemory>
+    ensures found { IfOk result (λ f. f ≡ seen env.now (statement_found env.now scope.old (while (expression_of test.now) (statement_of body.now)))) }
+    ensures scope { OnOk result (scope.new ≡ after (locals_in (statement_of body.now)) scope.old) }
+{
+    let wanted = wanted_int(alloc, env, scope, test)?;
+    let inside = loop_body(alloc, env, scope, body)?;
+    Ok(wanted.and(inside))
 }
 
 // The statements of a block that is a scope of its own.

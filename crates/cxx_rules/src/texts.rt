@@ -1,7 +1,7 @@
 // Names by their positions in a list.
-ghost use Rattle.std.specs.Prelude.{◌≡◌, ◌++◌, ◌∷◌, [], None, position, bytes_eq, IfOk, length, take, List, ℕ};
+ghost use Rattle.std.specs.Prelude.{◌≡◌, ◌++◌, ◌∷◌, [], None, position, bytes_eq, IfOk, OnOk, OnErr, length, take, List, ℕ};
 ghost use Rattle.cxx_ast.specs.FunctionRules.{has_text};
-ghost use Rattle.cxx_rules.specs.Positions.{texts_of, ArePositions, AreWith};
+ghost use Rattle.cxx_rules.specs.Positions.{texts_of, ArePositions, AreAmong};
 
 use crate::NoMemory;
 use indexmap::IndexMap;
@@ -75,24 +75,36 @@ impl Texts {
         self.position(text).is_some()
     }
 
+    /// Puts a text behind the others.
+    pub fn add(&mut self, alloc: Global, text: &[u8]) -> Result<(), NoMemory>
+        ensures ok { OnOk result (self.new ≡ self.old ++ text.now ∷ []) }
+        ensures err { OnErr result (self.new ≡ self.old) }
+    {
+        let item = Vec::from_slice(alloc, text)?;
+        // The room comes first, so that the map has no number of a text that is not put in.
+        self.items.reserve(1)?;
+        number(alloc, &mut self.first, text, self.items.len())?;
+        self.items.push(item)?;
+        Ok(())
+    }
+
+    /// Puts a text behind the others unless it is there.
+    pub fn add_once(&mut self, alloc: Global, text: &[u8]) -> Result<(), NoMemory>
+        ensures kept { AreAmong self.old self.new }
+        ensures added { OnOk result (AreAmong (text.now ∷ []) self.new) }
+    {
+        if self.contains(text) {
+            return Ok(());
+        }
+        self.add(alloc, text)
+    }
+
     /// The list with a text behind the others.
     pub fn with(self, alloc: Global, text: &[u8]) -> Result<Self, NoMemory>
         ensures { IfOk result (λ t. t ≡ self ++ text.now ∷ []) }
     {
-        let Texts { first, mut items } = self;
-        let first = numbered(alloc, first, text, items.len())?;
-        items.push(Vec::from_slice(alloc, text)?)?;
-        Ok(Texts { first, items })
-    }
-
-    /// The list with a text, which is put behind the others unless it is there.
-    pub fn with_one(self, alloc: Global, text: &[u8]) -> Result<Self, NoMemory>
-        ensures { IfOk result (λ t. AreWith self (text.now ∷ []) t) }
-    {
-        if self.contains(text) {
-            return Ok(self);
-        }
-        let texts = self.with(alloc, text)?;
+        let mut texts = self;
+        texts.add(alloc, text)?;
         Ok(texts)
     }
 }
@@ -111,21 +123,22 @@ fn first_few(items: &[Vec<u8>], text: &[u8]) -> Option<usize>
     first_in(&items[..FEW.min(items.len())], text)
 }
 
-// A map of first positions, with the number that a text has behind the others.
-fn numbered(
+// Puts the number that a text has behind the others into a map of first positions.
+fn number(
     alloc: Global,
-    mut first: IndexMap<Vec<u8>, usize>,
+    first: &mut IndexMap<Vec<u8>, usize>,
     text: &[u8],
     number: usize,
-) -> Result<IndexMap<Vec<u8>, usize>, NoMemory>
-    ensures { (texts : List (List ℕ)) → ArePositions first.entries texts → length texts ≡ number → IfOk result (λ m. ArePositions m.entries (texts ++ text.now ∷ [])) }
+) -> Result<(), NoMemory>
+    ensures ok { (texts : List (List ℕ)) → ArePositions first.old.entries texts → length texts ≡ number → OnOk result (ArePositions first.new.entries (texts ++ text.now ∷ [])) }
+    ensures err { OnErr result (first.new.entries ≡ first.old.entries) }
 {
     if number < FEW {
-        return Ok(first);
+        return Ok(());
     }
     if first.get(text).is_some() {
-        return Ok(first);
+        return Ok(());
     }
     first.insert(Vec::from_slice(alloc, text)?, number)?;
-    Ok(first)
+    Ok(())
 }

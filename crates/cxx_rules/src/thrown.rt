@@ -4,7 +4,7 @@ ghost use Rattle.cxx_ast.specs.Environment.{Environment as Known, class_kind};
 ghost use Rattle.cxx_ast.specs.ExpressionRules.{judged, all_judged, operand_found, thrown_kind_found, thrown_found};
 ghost use Rattle.cxx_ast.specs.Plain.{Expressions, call, std_call};
 ghost use Rattle.cxx_ast.specs.Reference.{Judgement};
-ghost use Rattle.cxx_ast.specs.View.{expression_of, option_of};
+ghost use Rattle.cxx_ast.specs.View.{expression_of, expressions_of, option_of};
 ghost use Rattle.cxx_ast.specs.StatementRules.{throw_found};
 ghost use Rattle.cxx_rules.specs.KindOf.{kind_of};
 ghost use Rattle.cxx_rules.specs.Seen.{judgement_seen, judgements_seen};
@@ -102,8 +102,37 @@ fn std_call_operand<'t>(
     operand_found(env, true, &no_lvalue(place, &value))
 }
 
+// A call as the operand of throw, with its arguments.
+fn call_thrown<'t>(
+    alloc: Global,
+    env: &Environment<'t>,
+    scope: &Scope<'t>,
+    names: &[Name],
+    args: &'t [Expr],
+) -> Result<Found, NoMemory>
+    ensures { IfOk result (λ f. f ≡ seen env.now (thrown_found env.now scope.now (call names.now (expressions_of args.now)))) }
+{
+    let given = all_judged(alloc, env, scope, args)?;
+    Ok(call_operand(env, scope, names, given.as_slice()))
+}
+
+// A call of `std::` something as the operand of throw, with its arguments.
+fn std_call_thrown<'t>(
+    alloc: Global,
+    env: &Environment<'t>,
+    scope: &Scope<'t>,
+    name: &Name,
+    args: &'t [Expr],
+    place: u32,
+) -> Result<Found, NoMemory>
+    ensures { IfOk result (λ f. f ≡ seen env.now (thrown_found env.now scope.now (std_call name.now (expressions_of args.now) place))) }
+{
+    let given = all_judged(alloc, env, scope, args)?;
+    Ok(std_call_operand(env, scope, name, given.as_slice(), place))
+}
+
 // The operand of throw, which alone may be a construction.
-#[tactic(auto, using(crate::proofs::Rows::rows))]
+#[tactic(auto, using(cxx_ast::proofs::Rows::rows))]
 fn thrown_found<'t>(
     alloc: Global,
     env: &Environment<'t>,
@@ -114,12 +143,10 @@ fn thrown_found<'t>(
 {
     match e {
         Expr::Call(callee, args) => {
-            let given = all_judged(alloc, env, scope, args.as_slice())?;
-            Ok(call_operand(env, scope, callee.path.as_slice(), given.as_slice()))
+            call_thrown(alloc, env, scope, callee.path.as_slice(), args.as_slice())
         }
         Expr::StdCall(name, args, place) => {
-            let given = all_judged(alloc, env, scope, args.as_slice())?;
-            Ok(std_call_operand(env, scope, name, given.as_slice(), *place))
+            std_call_thrown(alloc, env, scope, name, args.as_slice(), *place)
         }
         Expr::Number(_, _) => plain_operand(alloc, env, scope, e),
         Expr::Path(_) => plain_operand(alloc, env, scope, e),

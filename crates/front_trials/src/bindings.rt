@@ -125,15 +125,9 @@ fn what_names_stand_for(rt: HostRuntime) -> Result<(), Fail> {
     assert_eq!(rt; checked.classes.len(), 3);
     assert_eq!(rt; checked.globals.as_slice(), [3].as_slice());
     assert_eq!(rt; checked.functions.len(), 2);
-    assert_eq!(rt; bounds_in(alloc, &checked, 0)?.as_slice(), IN_MAIN);
-    assert_eq!(rt;
-        bounds_in(alloc, &checked, 1)?.as_slice(),
-        [Bound::Local(1)].as_slice()
-    );
-    assert_eq!(rt;
-        bounds_of_initialisers(alloc, &checked)?.as_slice(),
-        IN_INITIALISERS
-    );
+    assert!(rt; bounds_in(alloc, &checked, 0)?.as_slice() == IN_MAIN);
+    assert!(rt; bounds_in(alloc, &checked, 1)?.as_slice() == [Bound::Local(1)].as_slice());
+    assert!(rt; bounds_of_initialisers(alloc, &checked)?.as_slice() == IN_INITIALISERS);
     let checked = program(alloc, WITHOUT_CLASSES.as_bytes()).map_err(|_| AllocError)?;
     assert_eq!(rt; checked.main, 1);
     assert_eq!(rt; checked.functions.len(), 2);

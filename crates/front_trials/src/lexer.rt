@@ -1,6 +1,6 @@
 // What `lex` answers on sources whose tokens were written down by hand.
 use cxx_ast::token::{Token, TokenKind};
-use cxx_lexer::{LexError, lex};
+use cxx_lexer::lex;
 use std::alloc::{AllocError, Global};
 use std::test::Fail;
 
@@ -108,7 +108,7 @@ fn tokens_of_small_sources(rt: HostRuntime) -> Result<(), Fail> {
 fn limits(rt: HostRuntime) -> Result<(), Fail> {
     let alloc = rt.alloc();
     let blanks = vec![in alloc; b' '; 1_048_576]?;
-    assert_eq!(rt; lex(alloc, blanks.as_slice()), Ok(Vec::new(alloc)));
+    assert_eq!(rt; shown(alloc, blanks.as_slice())?.as_str(), "");
     let mut source = vec![in alloc; b';'; 65_536]?;
     let most = lex(alloc, source.as_slice()).map_or(0, |tokens| tokens.len());
     assert_eq!(rt; most, 65_536);
@@ -128,7 +128,5 @@ fn limits(rt: HostRuntime) -> Result<(), Fail> {
         };
         assert_eq!(rt; answer.as_str(), expected);
     }
-    let none: Result<Vec<Token>, LexError> = lex(alloc, b"");
-    assert_eq!(rt; none, Ok(Vec::new(alloc)));
     Ok(())
 }

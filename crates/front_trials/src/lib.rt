@@ -6,8 +6,6 @@ mod bindings;
 #[cfg(test)]
 mod lexer;
 #[cfg(test)]
-mod limits;
-#[cfg(test)]
 mod parser;
 #[cfg(test)]
 mod reading;

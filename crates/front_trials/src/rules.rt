@@ -30,9 +30,10 @@ fn known<'t>(alloc: Global, f: &'t Name) -> Result<Environment<'t>, Fail> {
     let mut parameters = Vec::new(alloc);
     parameters.push(Passing::new(Kind::Int, true, false))?;
     let signature = Signature::new(f, FuncKind::Plain, Kind::Int, parameters, None, false);
-    let env = Environment::new(alloc, Texts::new(alloc))?;
-    let env = env.with_global(alloc, b"g".as_slice())?;
-    Ok(env.with_signature(alloc, signature)?)
+    let mut env = Environment::new(alloc, Texts::new(alloc))?;
+    env.add_global(alloc, b"g".as_slice())?;
+    env.add_signature(alloc, signature)?;
+    Ok(env)
 }
 
 fn found_in(alloc: Global, e: &Expr) -> Result<Found, Fail> {

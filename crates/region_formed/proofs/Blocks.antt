@@ -15,7 +15,7 @@ use Rattle.cxx_ast.specs.Locals.{inner, in_a_loop, after, handler_scope, caught_
 use Rattle.cxx_ast.specs.StatementRules.{twice_in, start_found, caught_found, catches_all, statement_found, else_found, statements_found, handlers_found}
 use Rattle.cxx_ast.specs.Resolve.{resolve_type, resolve_path, resolve_expression, resolve_statement, resolve_else, resolve_statements, resolve_handlers}
 use Rattle.cxx_ast.specs.Grammatical.{NotEmpty, IsCaught, IsStatement, IsElse, AreStatements, AreHandlers}
-use Rattle.cxx_rules.proofs.ScopeLaws.{behind_within}
+use Rattle.cxx_ast.proofs.ScopesBehind.{next_behind}
 use Rattle.meaning_forms.specs.Class.{object_type}
 use Rattle.region_forms.specs.Form.{Region, in_order}
 use Rattle.region_forms.specs.Numbering.{declared_in, declared_in_else, all_declared_in, declared_in_handlers}
@@ -124,7 +124,7 @@ module _ (g : Given) where
         let parts = fine_parts g.defined (statement_found g.env sc s) (statements_found g.env later ss) f in
         let own = declared_in (resolve_statement g.env sc s) in
         let count = counted g.env sc s in
-        let next = (behind_within g.env sc s).next in
+        let next = next_behind g.env sc s in
         let same : later.next ≡ sc.next + length own = omega (arith, count, next) in
         let mine = from_front own _ v in
         let reach = behind_reaches g sc s w.0 r parts.0 mine in

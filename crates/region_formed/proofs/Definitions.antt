@@ -26,7 +26,7 @@ use Rattle.cxx_ast.specs.Broken.{same_passing, same_parameters, same_allowed, ag
 use Rattle.cxx_ast.specs.Grammatical.{Each, IsParam, IsFunction, IsGrammatical}
 use Rattle.cxx_ast.specs.Written.{Written, written_class, written_global, written_function, declared}
 use Rattle.cxx_ast.specs.Checked.{resolve_declarations, functions_of}
-use Rattle.cxx_rules.proofs.TextLaws.{position-cons}
+use Rattle.cxx_ast.proofs.Positions.{position-cons}
 use Rattle.meaning_forms.specs.Expression.{types_of}
 use Rattle.region_formed.proofs.Fine.{Fine, fine_parts, not_broken}
 use Rattle.region_formed.proofs.Meant.{HasKind, Shaped, numbered}

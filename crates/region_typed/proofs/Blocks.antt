@@ -16,7 +16,7 @@ use Rattle.cxx_ast.specs.Locals.{inner, in_a_loop, after, handler_scope, caught_
 use Rattle.cxx_ast.specs.StatementRules.{twice_in, start_found, assigned_found, caught_found, catches_all, statement_found, else_found, statements_found, handlers_found}
 use Rattle.cxx_ast.specs.Resolve.{bind, bind_some, resolve_type, resolve_statement, resolve_else, resolve_statements, resolve_handlers}
 use Rattle.cxx_ast.specs.Grammatical.{IsCaught, IsStatement, IsElse, AreStatements, AreHandlers}
-use Rattle.cxx_rules.proofs.ScopeLaws.{behind_within}
+use Rattle.cxx_ast.proofs.ScopesBehind.{next_behind}
 use Rattle.meaning_forms.specs.Class.{object_type}
 use Rattle.meaning_forms.specs.Frame.{Variable as FrameVariable}
 use Rattle.region_forms.specs.Numbering.{declared_in, declared_in_else, all_declared_in, declared_in_handlers}
@@ -143,7 +143,7 @@ module _ (g : Given) (settled : SettledIn g) (own : Option ℕ) (gives : Bool) w
         let parts = fine_parts g.defined (statement_found g.env sc s) (statements_found g.env later ss) f in
         let mine = declared_in (resolve_statement g.env sc s) in
         let count = counted g.env sc s in
-        let next = (behind_within g.env sc s).next in
+        let next = next_behind g.env sc s in
         let same : later.next ≡ sc.next + length mine = omega (arith, count, next) in (
           stretch_start v,
           statement_typed s w.0 sc xs h parts.0 (stretch_front mine _ v) (others (resolve_statements g.env later ss) (sc.next + length mine))

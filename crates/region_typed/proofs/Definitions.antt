@@ -27,8 +27,8 @@ use Rattle.cxx_ast.specs.Written.{Written, written_class, written_global, writte
 use Rattle.cxx_ast.specs.Checked.{IsChecked, resolve_declarations, functions_of}
 use Rattle.cxx_ast.specs.Settled.{settle_function}
 use Rattle.std.proofs.lemmas.Option.{slice_get-map}
-use Rattle.cxx_rules.proofs.AgreeLaws.{same_test_is, same_kind_is}
-use Rattle.cxx_rules.proofs.TextLaws.{position-cons}
+use Rattle.cxx_ast.proofs.KindLaws.{same_test_is, same_kind_is}
+use Rattle.cxx_ast.proofs.Positions.{position-cons}
 use Rattle.meaning_forms.specs.Class.{object_type, function_at, no_function}
 use Rattle.region_formed.proofs.Fine.{Fine, fine_parts, not_broken}
 use Rattle.region_formed.proofs.Meant.{ParamsMeant, Typed, numbered}

@@ -5,7 +5,7 @@ use Rattle.cxx_ast.specs.declared.name.Name.{Name}
 use Rattle.cxx_ast.specs.declared.types.Ty.{Ty}
 use Rattle.cxx_ast.specs.declared.statement.Handler.{Handler}
 use Rattle.cxx_ast.specs.Plain.{Statements}
-use Rattle.cxx_ast.specs.View.{statements_of}
+use Rattle.cxx_ast.specs.View.{statements_of, handlers_of}
 use Rattle.meaning_forms.specs.Class.{ObjectType}
 use Rattle.meaning_forms.specs.World.{World, Reference, Exception, exception_at, exception_type, type_at}
 use Rattle.meaning_forms.specs.Context.{Context, try_block, guarded_by, handling}
@@ -20,7 +20,7 @@ use Rattle.scope_world.specs.declared.outcome.Halt.{Halt}
 use Rattle.scope_world.specs.declared.outcome.Halt.TheVariants.{Thrown, Cancelled, Exited, Aborted, Undefined, OutOfTurns, Deep, NoMemory}
 use Rattle.scope_world.specs.declared.outcome.Flow.{Flow as CodeFlow}
 use Rattle.scope_world.specs.Gives.{GivesBy, Halts, flow_of}
-use Rattle.scope_world.specs.Inward.{clause_in, handlers_of}
+use Rattle.scope_world.specs.Inward.{clause_in}
 use Rattle.scope_flow.specs.Steps.{entered}
 use Rattle.scope_meaning.specs.Steps.{handler_done, tried}
 use Rattle.scope_flow.proofs.Left.{throws}

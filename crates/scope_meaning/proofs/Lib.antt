@@ -1,6 +1,5 @@
 pub mod Endless
 pub mod Chosen
-pub mod Rows
 pub mod Opened
 pub mod Stopped
 pub mod Stepped

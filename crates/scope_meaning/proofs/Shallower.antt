@@ -3,9 +3,8 @@ use Rattle.std.proofs.Common.{◌≡◌, ◌∙◌, refl, sym, ap, ℕ, ◌+◌,
 use Rattle.std.specs.Prelude.{nat_le}
 use Rattle.std.proofs.lemmas.Bool.Decides.{nat_tests}
 use Rattle.cxx_ast.specs.Plain.{Expression, number, path, paren, unary, binary, call, std_call, Statement, if_else, Else, no_else, Statements, statement_then}
-use Rattle.cxx_ast.specs.View.{statements_of}
+use Rattle.cxx_ast.specs.View.{statements_of, handlers_of}
 use Rattle.cxx_ast.specs.declared.statement.Handler.{Handler}
-use Rattle.scope_world.specs.Inward.{handlers_of}
 use Rattle.cxx_ast.specs.Sizes.{levels}
 use Rattle.scope_meaning.specs.Levels.{declared_levels, statement_levels, statements_levels, handlers_levels}
 use Rattle.scope_meaning.specs.Steps.{declares}

@@ -245,7 +245,7 @@ fn operated<G: Outside, C: Calls<G>>(
 
 /// The value of an expression. Operands are evaluated left to right.
 #[cycle(expressions)]
-#[tactic(auto, using(scope_flow::proofs::Passing::passing, crate::proofs::Rows::rows))]
+#[tactic(auto, using(scope_flow::proofs::Passing::passing, cxx_ast::proofs::Rows::rows))]
 pub fn value_of<G: Outside, C: Calls<G>>(
     calls: &C,
     c: &Context<'_>,

@@ -1,10 +1,10 @@
 // Try blocks and their handlers.
 
-ghost use Rattle.cxx_ast.specs.View.{checked_of, statements_of};
+ghost use Rattle.cxx_ast.specs.View.{checked_of, statements_of, handlers_of};
 ghost use Rattle.meaning_forms.specs.Handler as handler_rules;
 ghost use Rattle.meaning_forms.specs.Statement as rules;
 ghost use Rattle.scope_world.specs.Gives.{GivesBy, flow_of};
-ghost use Rattle.scope_world.specs.Inward.{context_of, frame_of, handlers_of};
+ghost use Rattle.scope_world.specs.Inward.{context_of, frame_of};
 ghost use Rattle.scope_world.specs.Objects.{reference_of};
 ghost use Rattle.scope_world.specs.Seen.{world_of};
 ghost use Rattle.scope_flow.specs.Always.{always};

@@ -3,8 +3,7 @@
 ghost use Rattle.std.specs.Prelude.{◌≡◌, map, nat_le};
 ghost use Rattle.std.specs.List.{list_all};
 ghost use Rattle.cxx_ast.specs.Sizes as sizes;
-ghost use Rattle.cxx_ast.specs.View.{checked_of, class_of, expression_of, expressions_of, function_of, initialiser_of, option_of, statement_of, statements_of};
-ghost use Rattle.scope_world.specs.Inward.{handlers_of};
+ghost use Rattle.cxx_ast.specs.View.{checked_of, class_of, expression_of, expressions_of, function_of, initialiser_of, option_of, statement_of, statements_of, handlers_of};
 ghost use Rattle.scope_meaning.specs.Levels as levels;
 
 use crate::statement::declares;
@@ -19,7 +18,7 @@ const MOST_LEVELS: u64 = 600;
 
 // An expression, with what stands in it, has room.
 #[cycle(expressions)]
-#[tactic(auto, using(crate::proofs::Rows::rows, crate::proofs::Shallower::no_room))]
+#[tactic(auto, using(cxx_ast::proofs::Rows::rows, crate::proofs::Shallower::no_room))]
 fn expression_fits(e: &Expr, room: u64) -> bool
     ensures { result ≡ nat_le (sizes.levels (expression_of e.now)) room }
 {
@@ -71,7 +70,7 @@ fn declared_fits(it: &Stmt, room: u64) -> bool
 }
 
 #[cycle(statements)]
-#[tactic(auto, using(crate::proofs::Rows::statement_rows))]
+#[tactic(auto, using(cxx_ast::proofs::Rows::statement_rows))]
 fn statement_fits(it: &Stmt, room: u64) -> bool
     ensures { result ≡ nat_le (levels.statement_levels (statement_of it.now)) room }
 {

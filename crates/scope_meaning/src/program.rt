@@ -25,7 +25,7 @@ use std::marker::{Brand, PhantomData};
 use std::mem;
 
 /// What a program writes, how it ends, and the greatest number of calls that were open at once.
-#[derive(Debug, Drop)]
+#[derive(Drop)]
 pub struct Meaning {
     pub items: Vec<Item>,
     pub end: MeanEnd,

@@ -1,7 +1,7 @@
 // What a statement does. The scope of a local variable is the rest of its block.
 
 ghost use Rattle.std.specs.Prelude.{◌≡◌, ℕ, suc};
-ghost use Rattle.cxx_ast.specs.View.{checked_of, expression_of, expressions_of, statement_of, statements_of};
+ghost use Rattle.cxx_ast.specs.View.{checked_of, expression_of, expressions_of, statement_of, statements_of, handlers_of};
 ghost use Rattle.cxx_ast.specs.Plain.{no_statements, statement_then};
 ghost use Rattle.meaning_forms.specs.Expression as expression_rules;
 ghost use Rattle.meaning_forms.specs.Frame as frame_rules;
@@ -9,7 +9,7 @@ ghost use Rattle.meaning_forms.specs.Handler as handler_rules;
 ghost use Rattle.meaning_forms.specs.Outcome as outcome_rules;
 ghost use Rattle.meaning_forms.specs.Statement as rules;
 ghost use Rattle.scope_world.specs.Gives.{GivesBy, flow_of};
-ghost use Rattle.scope_world.specs.Inward.{context_of, frame_of, handlers_of};
+ghost use Rattle.scope_world.specs.Inward.{context_of, frame_of};
 ghost use Rattle.scope_world.specs.Objects.{reference_of};
 ghost use Rattle.scope_world.specs.Seen.{world_of};
 ghost use Rattle.scope_flow.specs.Always.{always};
@@ -234,7 +234,7 @@ fn while_loop<G: Outside, C: Calls<G>>(
 // The side of an `if` that its test chooses; another statement is want of memory.
 #[inline(never)]
 #[cycle(statements)]
-#[tactic(auto, using(scope_flow::proofs::Passing::passing, crate::proofs::Declared::first_side, crate::proofs::Declared::second_side, crate::proofs::Declared::no_side, crate::proofs::Rows::statement_rows))]
+#[tactic(auto, using(scope_flow::proofs::Passing::passing, crate::proofs::Declared::first_side, crate::proofs::Declared::second_side, crate::proofs::Declared::no_side, cxx_ast::proofs::Rows::statement_rows))]
 fn chosen<G: Outside, C: Calls<G>>(
     calls: &C,
     c: &Context<'_>,
@@ -262,7 +262,7 @@ fn chosen<G: Outside, C: Calls<G>>(
 // A statement that declares nothing; any other is want of memory.
 #[inline(never)]
 #[cycle(statements)]
-#[tactic(auto, using(scope_flow::proofs::Passing::passing, crate::proofs::Rows::statement_rows))]
+#[tactic(auto, using(scope_flow::proofs::Passing::passing, cxx_ast::proofs::Rows::statement_rows))]
 fn statement<G: Outside, C: Calls<G>>(
     calls: &C,
     c: &Context<'_>,

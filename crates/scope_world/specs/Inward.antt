@@ -1,7 +1,5 @@
 -- What an evaluation is given from outside.
 use Rattle.std.specs.Prelude.{ℕ, List, [], ◌∷◌, ◌++◌, map, reverse}
-use Rattle.cxx_ast.specs.View.{statements_of}
-use Rattle.cxx_ast.specs.Plain.{Handlers, no_handlers, handler_then}
 use Rattle.cxx_ast.specs.declared.statement.Handler.{Handler}
 use Rattle.scope_world.specs.declared.context.Context.{Context as CodeContext}
 use Rattle.scope_world.specs.declared.context.Numbers.{Numbers, None as NoNumbers, More'}
@@ -67,8 +65,3 @@ first_frame this parameters = record { this = this; variables = map variable_of 
 abbrev pub argument_of : CodeArgument → Argument
 argument_of (Value v) = by_value v
 argument_of (Place r) = by_reference (reference_of r)
-
--- handlers
-abbrev pub handlers_of : List Handler → Handlers
-handlers_of [] = no_handlers
-handlers_of (h ∷ hs) = handler_then h.ty h.name (statements_of h.body.items) h.place (handlers_of hs)

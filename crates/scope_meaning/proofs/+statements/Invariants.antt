@@ -1,9 +1,9 @@
 use Rattle.std.proofs.Common.{◌≡◌, ◌≤◌, ◌+◌, ◌-◌, ◌*◌, suc, length, max}
-use Rattle.cxx_ast.specs.View.{checked_of, expression_of, statement_of, statements_of}
+use Rattle.cxx_ast.specs.View.{checked_of, expression_of, statement_of, statements_of, handlers_of}
 use Rattle.meaning_forms.specs.Outcome.{normal, pure}
 use Rattle.meaning_forms.specs.Expression.{value_of}
 use Rattle.meaning_forms.specs.Statement.{loop, statement, statements}
-use Rattle.scope_world.specs.Inward.{context_of, frame_of, handlers_of}
+use Rattle.scope_world.specs.Inward.{context_of, frame_of}
 use Rattle.scope_world.specs.Seen.{world_of}
 use Rattle.scope_flow.specs.Always.{always}
 use Rattle.scope_meaning.specs.Levels.{declared_levels, statement_levels, statements_levels, handlers_levels}

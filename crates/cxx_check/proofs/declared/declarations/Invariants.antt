@@ -5,6 +5,6 @@ use Rattle.cxx_check.proofs.declared.declarations.Given as goal
 
 abbrev pub invariant-loop-d : goal.invariant-loop-d
 invariant-loop-d l = record {
-  found : declarations_behind l.found l.known (map declaration_of (drop l.d-index l.decls)) ≡ declarations_behind l.initial.found l.initial.known (map declaration_of l.decls);
-  definitions : l.known.definitions ≡ l.initial.known.definitions;
+  found : declarations_behind l.found l.env (map declaration_of (drop l.d-index l.decls)) ≡ declarations_behind l.initial.found l.initial.env (map declaration_of l.decls);
+  definitions : l.env.definitions ≡ l.initial.env.definitions;
 }

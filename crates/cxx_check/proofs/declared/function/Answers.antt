@@ -1,4 +1,4 @@
-use Rattle.std.proofs.Common.{None, ap, ◌∙◌}
+use Rattle.std.proofs.Common.{None, refl, ap, ◌∙◌}
 use Rattle.cxx_ast.specs.Broken.{function_name_found}
 use Rattle.cxx_ast.specs.Declare.{with_signature}
 use Rattle.cxx_ast.specs.Locals.{outermost}
@@ -14,15 +14,11 @@ use Rattle.cxx_check.proofs.declared.function.Goals as goal
 
 pub returns-clause-found : goal.returns-clause-found
 returns-clause-found c =
-    let env = c.args.env in
+    let env = c.args.env.now in
     let f = function_of c.args.f.now in
     let s = signature env outermost f in
-    let sig = c.in_ok-s.ensures ∙ ap (λ sc. signature env sc f) c.outermost-scope.ensures in
-    let known = c.in_ok-known.ensures ∙ ap (with_signature env) sig in
-    let named = c.name_found-named.ensures ∙ ap (λ s. seen env (function_name_found env s (entry_of env s.name.text))) sig in
-    let head = c.in_ok-head.ensures ∙ ap (λ sc. seen env (head_found env sc f)) c.outermost-scope.ensures in
     let behind =
-    c.in_ok-behind.ensures env outermost ∙ ap (λ e. seen e (inside_found env outermost e None f)) known
+    c.in_ok-behind.ensures env outermost ∙ ap (λ e. seen e (inside_found env outermost e None f)) c.in_ok-head.ensures.env
     ∙ seen_alike (with_signature env s) env (inside_found env outermost (with_signature env s) None f) (declared_definitions env (function_declaration f)) in
-    function_is env f c.name_found-named.result c.in_ok-head.head c.in_ok-behind.behind c.and-2.result named head behind
-    (c.and-2.ensures ∙ ap (λ x. both x c.in_ok-behind.behind) c.and.ensures)
+    function_is env f (seen env (function_name_found env s (entry_of env f.name.text))) (seen env (head_found env outermost f)) c.in_ok-behind.behind c.and.result refl refl behind
+    (c.and.ensures ∙ ap (λ x. both x c.in_ok-behind.behind) c.in_ok-head.ensures.found)

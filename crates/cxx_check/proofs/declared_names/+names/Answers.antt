@@ -1,9 +1,8 @@
 use Rattle.std.proofs.Common.{◌≡◌, ◌++◌, rules, ap, ◌∙◌, sym, append_assoc}
 use Rattle.cxx_ast.specs.DeclaredNames.{names_in, names_of, names_caught}
 use Rattle.cxx_ast.specs.Plain.{try}
-use Rattle.cxx_ast.specs.View.{statement_of, statements_of}
-use Rattle.cxx_rules.specs.Walk.{handlers_of}
-use Rattle.cxx_rules.proofs.Rows.{statement_rows}
+use Rattle.cxx_ast.specs.View.{statement_of, statements_of, handlers_of}
+use Rattle.cxx_ast.proofs.Rows.{statement_rows}
 use Rattle.cxx_check.specs.OwnParts.{names_now}
 use Rattle.cxx_check.proofs.declared_names.+names.Goals as goal
 

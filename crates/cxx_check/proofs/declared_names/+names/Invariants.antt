@@ -1,8 +1,7 @@
 use Rattle.std.proofs.Common.{◌≡◌, ◌++◌, drop}
 use Rattle.cxx_ast.specs.DeclaredNames.{names_of, names_caught}
-use Rattle.cxx_ast.specs.View.{statements_of}
+use Rattle.cxx_ast.specs.View.{statements_of, handlers_of}
 use Rattle.cxx_check.specs.OwnParts.{names_now}
-use Rattle.cxx_rules.specs.Walk.{handlers_of}
 use Rattle.cxx_check.proofs.declared_names.+names.Given as goal
 
 abbrev pub invariant-with_statements-loop-s : goal.invariant-with_statements-loop-s

@@ -10,25 +10,25 @@ pub loop-d-preserved : goal.loop-d-preserved
 loop-d-preserved c =
     let i = c.loop-d.d-index in
     let ds = c.args.decls.now in
-    let known = c.loop-d.known in
+    let known = c.loop-d.env in
     let old = c.loop-d.parts in
-    let new = c.in_ok-parts.parts in
+    let new = c.add.new.self in
     let within : i < length ds = omega arith in
     let next = drop_more ds i c.d-item.result within ∙ ap (λ x. x ∷ drop (i + 1) ds) (sym c.d-item.is) in
     let rest = map declaration_of (drop (i + 1) ds) in
     let d = declaration_of c.d-item.result in
-    let tree = declaration_of c.in_ok-next.next.decl in
+    let tree = declaration_of c.in_ok-next.next in
     record {
       classes =
-          parts_more class_in classes_of class_one (map class_of old.classes.items) (map class_of new.classes.items) _ known c.in_ok-next.next.env d tree rest
-          c.in_ok-parts.ensures.classes c.in_ok-next.ensures.decl c.in_ok-next.ensures.env
+          parts_more class_in classes_of class_one (map class_of old.classes.items) (map class_of new.classes.items) _ known c.declaration_bound.new.env d tree rest
+          c.in_ok-add.ensures.classes c.in_ok-next.ensures.decl c.in_ok-next.ensures.env
           (ap (λ xs. map class_of old.classes.items ++ classes_of (resolve_declarations known (map declaration_of xs))) (sym next) ∙ c.loop-d.invariant.classes);
       globals =
-          parts_more global_in globals_of global_one old.globals.items new.globals.items _ known c.in_ok-next.next.env d tree rest
-          c.in_ok-parts.ensures.globals c.in_ok-next.ensures.decl c.in_ok-next.ensures.env
+          parts_more global_in globals_of global_one old.globals.items new.globals.items _ known c.declaration_bound.new.env d tree rest
+          c.in_ok-add.ensures.globals c.in_ok-next.ensures.decl c.in_ok-next.ensures.env
           (ap (λ xs. old.globals.items ++ globals_of (resolve_declarations known (map declaration_of xs))) (sym next) ∙ c.loop-d.invariant.globals);
       functions =
-          parts_more function_in functions_of function_one (map function_of old.functions.items) (map function_of new.functions.items) _ known c.in_ok-next.next.env d tree rest
-          c.in_ok-parts.ensures.functions c.in_ok-next.ensures.decl c.in_ok-next.ensures.env
+          parts_more function_in functions_of function_one (map function_of old.functions.items) (map function_of new.functions.items) _ known c.declaration_bound.new.env d tree rest
+          c.in_ok-add.ensures.functions c.in_ok-next.ensures.decl c.in_ok-next.ensures.env
           (ap (λ xs. map function_of old.functions.items ++ functions_of (resolve_declarations known (map declaration_of xs))) (sym next) ∙ c.loop-d.invariant.functions);
     }

@@ -9,6 +9,6 @@ loop-name-preserved c =
     let i = c.loop-name.name-index in
     let names = c.args.names.now in
     let within : i < length names = omega arith in
-    subst (Hold c.in_ok-places.places)
+    subst (Hold c.add.new.self)
     (sym (map_more (λ n. n.now) names i c.name-item.result within ∙ ap (λ n. names_now (take i names) ++ n.now ∷ []) (sym c.name-item.is)))
-    (c.in_ok-places.ensures (names_now (take i names)) c.loop-name.invariant)
+    (c.in_ok-add.ensures (names_now (take i names)) c.loop-name.invariant)

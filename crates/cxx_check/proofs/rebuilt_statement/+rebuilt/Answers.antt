@@ -4,11 +4,11 @@ use Rattle.cxx_ast.specs.Locals.{after, locals_caught, handler_scope}
 use Rattle.cxx_ast.specs.Plain.{statement_then, handler_then}
 use Rattle.cxx_ast.specs.Resolve.{resolve_statement, resolve_statements, resolve_handlers, resolve_caught, bind_some}
 use Rattle.cxx_ast.specs.declared.name.Bound.TheVariants.{Local}
-use Rattle.cxx_ast.specs.View.{statement_of, statements_of}
+use Rattle.cxx_ast.specs.View.{statement_of, statements_of, handlers_of}
 use Rattle.cxx_check.specs.Joined.{statements_joined, handlers_joined}
 use Rattle.cxx_check.proofs.JoinedLaws.{statements_push, statements_all, handlers_push, handlers_all, handler_joined}
 use Rattle.cxx_rules.specs.ScopeOf.{closed}
-use Rattle.cxx_rules.specs.Walk.{handlers_of, scope_after}
+use Rattle.cxx_rules.specs.Walk.{scope_after}
 use Rattle.cxx_rules.proofs.ScopeLaws.{handler_left}
 use Rattle.cxx_check.proofs.rebuilt_statement.+rebuilt.Goals as goal
 
@@ -24,14 +24,14 @@ resolve_all-loop-s-preserved t c =
     let new = c.resolve_statement.new.scope in
     record {
       rebuilt =
-          ap (λ xs. statements_joined xs (resolve_statements env new rest)) c.in_ok-push.ensures.items
-          ∙ statements_push done c.in_ok-resolve_statement.field-0 (resolve_statements env new rest)
-          ∙ ap (λ x. statements_joined done (statement_then x (resolve_statements env new rest))) c.in_ok-resolve_statement.ensures.rebuilt
-          ∙ ap (λ sc. statements_joined done (statement_then (resolve_statement env c.loop-s.scope (statement_of c.s-item.result)) (resolve_statements env sc rest))) c.in_ok-resolve_statement.ensures.scope
+          ap (λ xs. statements_joined xs (resolve_statements env new rest)) c.in_ok-put.ensures
+          ∙ statements_push done c.in_ok-next.next (resolve_statements env new rest)
+          ∙ ap (λ x. statements_joined done (statement_then x (resolve_statements env new rest))) c.in_ok-next.ensures.rebuilt
+          ∙ ap (λ sc. statements_joined done (statement_then (resolve_statement env c.loop-s.scope (statement_of c.s-item.result)) (resolve_statements env sc rest))) c.in_ok-next.ensures.scope
           ∙ ap (λ xs. statements_joined done (resolve_statements env c.loop-s.scope (statements_of xs))) (sym next)
           ∙ c.loop-s.invariant.rebuilt;
       scope =
-          ap (λ sc. scope_after env sc rest) c.in_ok-resolve_statement.ensures.scope
+          ap (λ sc. scope_after env sc rest) c.in_ok-next.ensures.scope
           ∙ ap (λ xs. scope_after env c.loop-s.scope (statements_of xs)) (sym next)
           ∙ c.loop-s.invariant.scope;
     }
@@ -64,14 +64,14 @@ resolve_handlers-loop-h-preserved t c =
     let new = c.resolve_handler.new.scope in
     record {
       rebuilt =
-          ap (λ xs. handlers_joined xs (resolve_handlers env new rest)) c.in_ok-push.ensures.items
-          ∙ handlers_push done c.in_ok-resolve_handler.field-0 (resolve_handlers env new rest)
-          ∙ ap (handlers_joined done) (handler_joined c.in_ok-resolve_handler.field-0 _ _ _ _ (resolve_handlers env new rest) c.in_ok-resolve_handler.ensures.rebuilt)
-          ∙ ap (λ sc. handlers_joined done (handler_then (resolve_caught env old h.ty) (bind_some h.name (Local old.next)) (resolve_statements env (handler_scope env h.ty h.name old) (statements_of h.body.items)) h.place (resolve_handlers env sc rest))) c.in_ok-resolve_handler.ensures.scope
+          ap (λ xs. handlers_joined xs (resolve_handlers env new rest)) c.in_ok-put.ensures
+          ∙ handlers_push done c.in_ok-next.next (resolve_handlers env new rest)
+          ∙ ap (handlers_joined done) (handler_joined c.in_ok-next.next _ _ _ _ (resolve_handlers env new rest) c.in_ok-next.ensures.rebuilt)
+          ∙ ap (λ sc. handlers_joined done (handler_then (resolve_caught env old h.ty) (bind_some h.name (Local old.next)) (resolve_statements env (handler_scope env h.ty h.name old) (statements_of h.body.items)) h.place (resolve_handlers env sc rest))) c.in_ok-next.ensures.scope
           ∙ ap (λ xs. handlers_joined done (resolve_handlers env c.loop-h.scope (handlers_of xs))) (sym next)
           ∙ c.loop-h.invariant.rebuilt;
       scope =
-          ap (after (locals_caught rest)) c.in_ok-resolve_handler.ensures.scope
+          ap (after (locals_caught rest)) c.in_ok-next.ensures.scope
           ∙ ap (λ n. record c.loop-h.scope { next = n }) (omega arith)
           ∙ ap (λ xs. after (locals_caught (handlers_of xs)) c.loop-h.scope) (sym next)
           ∙ c.loop-h.invariant.scope;

@@ -1,9 +1,9 @@
 use Rattle.std.proofs.Common.{◌≡◌, drop}
 use Rattle.cxx_ast.specs.Locals.{after, locals_caught}
 use Rattle.cxx_ast.specs.Resolve.{resolve_statements, resolve_handlers}
-use Rattle.cxx_ast.specs.View.{statements_of}
+use Rattle.cxx_ast.specs.View.{statements_of, handlers_of}
 use Rattle.cxx_check.specs.Joined.{statements_joined, handlers_joined}
-use Rattle.cxx_rules.specs.Walk.{handlers_of, scope_after}
+use Rattle.cxx_rules.specs.Walk.{scope_after}
 use Rattle.cxx_check.proofs.rebuilt_statement.+rebuilt.Given as goal
 
 abbrev pub invariant-resolve_all-loop-s : goal.invariant-resolve_all-loop-s

@@ -14,9 +14,9 @@ resolve_expressions-loop-e-preserved t c =
     let within : i < length c.args.es.now = omega arith in
     let next = drop_more c.args.es.now i c.e-item.result within ∙ ap (λ x. x ∷ drop (i + 1) c.args.es.now) (sym c.e-item.is) in
     let others = resolve_expressions c.args.env.now c.args.scope.now (expressions_of (drop (i + 1) c.args.es.now)) in
-    ap (λ xs. expressions_joined xs others) c.in_ok-push.ensures.items
-    ∙ joined_push given c.in_ok-resolve_expression.field-0 others
-    ∙ ap (λ x. expressions_joined given (expression_then x others)) c.in_ok-resolve_expression.ensures
+    ap (λ xs. expressions_joined xs others) c.in_ok-put.ensures
+    ∙ joined_push given c.in_ok-bound.bound others
+    ∙ ap (λ x. expressions_joined given (expression_then x others)) c.in_ok-bound.ensures
     ∙ ap (λ es. expressions_joined given (resolve_expressions c.args.env.now c.args.scope.now (expressions_of es))) (sym next)
     ∙ c.loop-e.invariant
 

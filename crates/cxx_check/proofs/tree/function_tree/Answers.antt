@@ -5,7 +5,8 @@ use Rattle.cxx_check.proofs.tree.function_tree.Goals as goal
 
 pub returns : goal.returns
 returns c head place env own e i =
+    let heading = c.in_ok-front.ensures.heading ∙ e in
     function_parts_are head place env own c.args.bound (function_of c.args.f.now) _
-    c.in_ok-name.ensures refl c.in_ok-outcome.ensures
-    (c.in_ok-params.ensures ∙ c.as_slice.ensures.value ∙ ap (λ p. p.parameters) e) (c.in_ok-spec.ensures ∙ ap (λ p. p.specification) e)
+    c.in_ok-front.ensures.name refl c.in_ok-front.ensures.outcome
+    (ap (λ p. p.parameters) heading) (ap (λ p. p.specification) heading)
     i.initialisers i.body refl

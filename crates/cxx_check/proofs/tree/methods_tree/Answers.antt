@@ -28,7 +28,7 @@ loop-i-preserved c head e =
     (ap function_of c.index-funcs-i.is ∙ sym (get_or-map function_of fs i fn f within)) in
     let y = resolve_function head (member_scope k f.name) env (function_scope env (Some k) f.result) (Method k i) f in
     let next = drop_more fs i fn within ∙ ap (λ x. x ∷ drop (i + 1) fs) (sym c.index-funcs-i.is) in
-    rebuilt_more function_of done c.push.new.self.items c.in_ok-method_tree.field-0 y (methods_tree head env k (i + 1) (map function_of (drop (i + 1) fs))) (methods_tree head env k 0 (map function_of fs))
-    (ap (map function_of) c.in_ok-push.ensures.items ∙ map_push function_of done c.in_ok-method_tree.field-0)
-    (head_same (function_of c.in_ok-method_tree.field-0) y (c.in_ok-method_tree.ensures head same))
+    rebuilt_more function_of done c.put.new.others.items c.in_ok-method.method y (methods_tree head env k (i + 1) (map function_of (drop (i + 1) fs))) (methods_tree head env k 0 (map function_of fs))
+    (ap (map function_of) c.in_ok-put.ensures ∙ map_push function_of done c.in_ok-method.method)
+    (head_same (function_of c.in_ok-method.method) y (c.in_ok-method.ensures head same))
     (ap (λ xs. map function_of done ++ methods_tree head env k i (map function_of xs)) (sym next) ∙ c.loop-i.invariant head e)

@@ -1,9 +1,8 @@
 use Rattle.std.proofs.Common.{◌≤◌, ap, ◌∙◌, sym, length, arith}
 use Rattle.std.proofs.lemmas.List.{drop_all}
-use Rattle.cxx_ast.specs.View.{statements_of}
+use Rattle.cxx_ast.specs.View.{statements_of, handlers_of}
 use Rattle.cxx_check.specs.Measured.{statements_behind, handlers_behind}
 use Rattle.cxx_check.proofs.MeasureLaws.{statements_behind_is, handlers_behind_is}
-use Rattle.cxx_rules.specs.Walk.{handlers_of}
 use Rattle.cxx_check.proofs.variables.+statements.Goals as goal
 
 pub statements-returns : goal.statements-returns

@@ -1,7 +1,6 @@
 use Rattle.std.proofs.Common.{◌≡◌, drop}
-use Rattle.cxx_ast.specs.View.{statements_of}
+use Rattle.cxx_ast.specs.View.{statements_of, handlers_of}
 use Rattle.cxx_check.specs.Measured.{statements_behind, handlers_behind}
-use Rattle.cxx_rules.specs.Walk.{handlers_of}
 use Rattle.cxx_check.proofs.variables.+statements.Given as goal
 
 abbrev pub invariant-statements-loop-s : goal.invariant-statements-loop-s

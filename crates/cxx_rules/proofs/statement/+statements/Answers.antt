@@ -1,8 +1,8 @@
 use Rattle.std.proofs.Common.{◌≤◌, ap, ◌∙◌, sym, length, false, arith}
 use Rattle.std.proofs.lemmas.List.{drop_all}
-use Rattle.cxx_ast.specs.View.{statements_of}
+use Rattle.cxx_ast.specs.View.{statements_of, handlers_of}
 use Rattle.cxx_rules.specs.ScopeOf.{closed}
-use Rattle.cxx_rules.specs.Walk.{handlers_of, scope_after, statements_behind, handlers_behind}
+use Rattle.cxx_rules.specs.Walk.{scope_after, statements_behind, handlers_behind}
 use Rattle.cxx_rules.proofs.ScopeLaws.{handler_left}
 use Rattle.cxx_rules.proofs.WalkLaws.{statements_behind_is, handlers_behind_is}
 use Rattle.cxx_rules.proofs.statement.+statements.Goals as goal

@@ -1,7 +1,7 @@
 use Rattle.std.proofs.Common.{◌≡◌, drop}
 use Rattle.cxx_ast.specs.Locals.{after, locals_caught}
-use Rattle.cxx_ast.specs.View.{statements_of}
-use Rattle.cxx_rules.specs.Walk.{handlers_of, scope_after, statements_behind, handlers_behind}
+use Rattle.cxx_ast.specs.View.{statements_of, handlers_of}
+use Rattle.cxx_rules.specs.Walk.{scope_after, statements_behind, handlers_behind}
 use Rattle.cxx_rules.proofs.statement.+statements.Given as goal
 
 abbrev pub invariant-statements-loop-s : goal.invariant-statements-loop-s

@@ -1,7 +1,6 @@
 use Rattle.std.proofs.Common.{◌≡◌, ◌+◌, ◌*◌, length}
 use Rattle.std.specs.Prelude.{nat_le}
-use Rattle.cxx_ast.specs.View.{statements_of}
-use Rattle.scope_world.specs.Inward.{handlers_of}
+use Rattle.cxx_ast.specs.View.{statements_of, handlers_of}
 use Rattle.scope_meaning.specs.Levels.{statements_levels, handlers_levels}
 use Rattle.scope_meaning.proofs.levels.+statements.Given as goal
 

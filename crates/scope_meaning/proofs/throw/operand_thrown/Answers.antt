@@ -5,7 +5,7 @@ use Rattle.meaning_forms.specs.Expression.{callee_bound}
 use Rattle.scope_world.specs.Inward.{context_of, frame_of}
 use Rattle.scope_world.specs.Seen.{world_of}
 use Rattle.scope_flow.specs.Always.{always}
-use Rattle.scope_meaning.proofs.Rows.{rows}
+use Rattle.cxx_ast.proofs.Rows.{rows}
 use Rattle.scope_meaning.proofs.Thrown.{thrown_call, thrown_std_call}
 use Rattle.scope_meaning.proofs.throw.operand_thrown.Goals as goal
 
