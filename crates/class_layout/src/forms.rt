@@ -1,14 +1,14 @@
 // Layouts.
 
 /// The size of a class, and the offsets of its members in order, in bytes.
-#[derive(Debug, Drop, PartialEq, Eq)]
+#[derive(Drop, PartialEq, Eq)]
 pub struct ClassLayout {
     pub size: u32,
     pub members: Vec<u32>,
 }
 
 /// The layouts of a program's classes, by number.
-#[derive(Debug, Drop, PartialEq, Eq)]
+#[derive(Drop, PartialEq, Eq)]
 pub struct Layout {
     pub classes: Vec<ClassLayout>,
 }

@@ -68,6 +68,7 @@ fn bases_and_members(rt: HostRuntime) -> Result<(), Fail> {
             laid(20, Vec::new(alloc)),
         ]?,
     };
-    assert_eq!(rt; layout(alloc, &classes)?, expected);
+    let found = layout(alloc, &classes)?;
+    assert!(rt; found == expected);
     Ok(())
 }

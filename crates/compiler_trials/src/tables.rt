@@ -45,7 +45,8 @@ fn of_small_functions(rt: HostRuntime) -> Result<(), Fail> {
             assert!(rt; false, "refused: {}", row.source);
             continue;
         };
-        assert_eq!(rt; found.sites, sites_of(alloc, row)?, "{}", row.source);
+        let sites = sites_of(alloc, row)?;
+        assert!(rt; found.sites == sites, "{}", row.source);
         assert_eq!(rt; found.types.as_slice(), row.types, "{}", row.source);
         assert_eq!(rt; found.lists, lists_of(alloc, row)?, "{}", row.source);
         assert_eq!(rt;

@@ -1,8 +1,9 @@
 // Copies of values and operations.
-ghost use Rattle.std.specs.Prelude.{◌≡◌, map, IfOk};
+ghost use Rattle.std.specs.Prelude.{◌≡◌, ◌++◌, ◌∷◌, [], map, IfOk, OnOk};
 ghost use Rattle.region_ir.specs.View.{argument_of, arguments_of, operation_of, value_of};
 
 use crate::NoMemory;
+use region_ir::held::{beside, boxed, put};
 use region_ir::operation::RegionOp;
 use region_ir::value::{Arg, Value};
 use std::alloc::Global;
@@ -18,13 +19,15 @@ pub fn value_copied(alloc: Global, value: &Value) -> Result<Value, NoMemory>
         Value::Load(place) => Ok(Value::Load(*place)),
         Value::Unary(op, operand) => {
             let operand = value_copied(alloc, operand)?;
-            Ok(Value::Unary(*op, Box::new(alloc, operand)?))
+            let operand = boxed(alloc, operand)?;
+            Ok(Value::Unary(*op, operand))
         }
         Value::Binary(op, left, right) => {
             let left = value_copied(alloc, left)?;
-            let right = value_copied(alloc, right)?;
-            let left = Box::new(alloc, left)?;
-            Ok(Value::Binary(*op, left, Box::new(alloc, right)?))
+            let (left, right) = beside(left, value_copied(alloc, right))?;
+            let (right, left) = beside(right, boxed(alloc, left))?;
+            let (left, right) = beside(left, boxed(alloc, right))?;
+            Ok(Value::Binary(*op, left, right))
         }
         Value::Call(callee, arguments) => {
             let arguments = arguments_copied(alloc, arguments.as_slice())?;
@@ -44,6 +47,16 @@ fn argument_copied(alloc: Global, argument: &Arg) -> Result<Arg, NoMemory>
     }
 }
 
+// A copy of an argument, behind others.
+#[cycle(copies)]
+fn put_copied(alloc: Global, argument: &Arg, copied: &mut Vec<Arg>) -> Result<(), NoMemory>
+    ensures { OnOk result (map argument_of copied.new.items ≡ map argument_of copied.old.items ++ argument_of argument.now ∷ []) }
+{
+    let copy = argument_copied(alloc, argument)?;
+    put(copy, copied)?;
+    Ok(())
+}
+
 #[cycle(copies)]
 #[tactic(auto, using(crate::proofs::Listed::same_arguments))]
 fn arguments_copied(alloc: Global, arguments: &[Arg]) -> Result<Vec<Arg>, NoMemory>
@@ -51,7 +64,7 @@ fn arguments_copied(alloc: Global, arguments: &[Arg]) -> Result<Vec<Arg>, NoMemo
 {
     let mut copied = Vec::new(alloc);
     for argument in arguments {
-        copied.push(argument_copied(alloc, argument)?)?;
+        put_copied(alloc, argument, &mut copied)?;
     }
     Ok(copied)
 }

@@ -34,13 +34,22 @@ pub fn guarded(alloc: Global, pad: u32, filters: Chain, cover: &Cover) -> Result
     Ok(Cover::Padded(pad, Rc::new(alloc, chain)?))
 }
 
-/// A chain of one filter.
-pub fn one_filter(alloc: Global, filter: i64) -> Result<Chain, NoMemory>
+// A chain of one filter.
+fn one_filter(alloc: Global, filter: i64) -> Result<Chain, NoMemory>
     ensures { IfOk result (λ chain. chain.items ≡ filter ∷ []) }
 {
     let mut chain = SmallVec::new(alloc);
     chain.push(filter)?;
     Ok(chain)
+}
+
+/// In the extent of a pad with a specification's filter.
+pub fn limit_cover(alloc: Global, pad: u32, filter: i64, cover: &Cover) -> Result<Cover, NoMemory>
+    ensures { IfOk result (λ c. cover_of c ≡ rules.guarded pad (filter ∷ []) (cover_of cover.now)) }
+{
+    let filters = one_filter(alloc, filter)?;
+    let made = guarded(alloc, pad, filters, cover)?;
+    Ok(made)
 }
 
 // Whether a chain has the filter of a cleanup.

@@ -10,16 +10,14 @@ ghost use Rattle.landing_pads.specs.Given.{emitting_of, exit_of, exits_of};
 ghost use Rattle.landing_pads.specs.View.{cover_of};
 
 use crate::NoMemory;
-use crate::copied::value_copied;
-use crate::covers::{cleaned, guarded, one_filter};
+use crate::covers::{cleaned, limit_cover};
 use crate::emitting::Emitting;
 use crate::exits::{Exit, exit_to, protect_exit};
-use crate::handling::{bind_object, clause_filters, put_clause_pad, put_limit_pad};
+use crate::handling::{bind_object, cover_of_clauses, put_clause_pad, put_limit_pad};
 use crate::numbers::behind;
-use crate::outs::outs_beyond;
 use crate::placed::{Cover, Placed};
-use crate::protecting::{put_exit_code, put_protect_pad};
-use crate::put::{next_place, put_operation, put_quiet};
+use crate::protecting::{put_exits, put_protect_pad};
+use crate::put::{pad_place, put_operation, put_quiet, put_test};
 use crate::unit::LinearOp;
 use crate::ways::leave_code;
 use region_ir::operation::Cleanup;
@@ -89,6 +87,24 @@ fn inside(
     Ok(next)
 }
 
+// A region inside another with an exit, in a cover of its own.
+#[cycle(emission)]
+fn covered(
+    e: &Emitting<'_>,
+    exit: Exit,
+    region: &Region,
+    cover: Cover,
+    exits: &mut Vec<Exit>,
+    label: u32,
+    code: &mut Vec<Placed>,
+) -> Result<u32, NoMemory>
+    ensures code { OnOk result (Emitted code.old.items code.new.items (rules.region_code (emitting_of e.now) (cover_of cover) (exit_of exit ∷ exits_of exits.old.items) label (length code.old.items) (region_of region.now))) }
+    ensures next { IfOk result (λ n. n ≡ label + rules.labels (region_of region.now)) }
+    ensures exits { OnOk result (exits.new.items ≡ exits.old.items) }
+{
+    inside(e, exit, region, &cover, exits, label, code)
+}
+
 // Regions one after the other.
 #[cycle(emission)]
 fn all_code(
@@ -150,8 +166,7 @@ fn branched(
     ensures exits { OnOk result (exits.new.items ≡ exits.old.items) }
 {
     let other_side = behind(label, 1)?;
-    let test = value_copied(e.alloc, test)?;
-    put_quiet(LinearOp::JumpZero(test, other_side), code)?;
+    put_test(e.alloc, test, other_side, code)?;
     let next = inside(
         e,
         exit_to(label),
@@ -186,8 +201,7 @@ fn repeated(
 {
     let start = behind(label, 1)?;
     put_quiet(LinearOp::Label(start), code)?;
-    let test = value_copied(e.alloc, test)?;
-    put_quiet(LinearOp::JumpZero(test, label), code)?;
+    put_test(e.alloc, test, label, code)?;
     let next = inside(
         e,
         exit_to(label),
@@ -218,21 +232,13 @@ fn protected(
     ensures next { IfOk result (λ n. n ≡ label + (rules.labels (region_of body.now) + 3)) }
     ensures exits { OnOk result (exits.new.items ≡ exits.old.items) }
 {
-    let pad = behind(next_place(code.as_slice())?, 1)?;
+    let pad = pad_place(code.as_slice())?;
     put_protect_pad(e, cleanup, cover, label, code)?;
-    let inner = cleaned(e.alloc, pad, cover)?;
     let exit = protect_exit(cleanup, label)?;
-    let next = inside(e, exit, body, &inner, exits, behind(label, 3)?, code)?;
-    let outs = outs_beyond(e.alloc, body)?;
-    put_exit_code(
-        e,
-        cleanup,
-        cover,
-        exits.as_slice(),
-        label,
-        outs.as_slice(),
-        code,
-    )?;
+    let first = behind(label, 3)?;
+    let inner = cleaned(e.alloc, pad, cover)?;
+    let next = covered(e, exit, body, inner, exits, first, code)?;
+    put_exits(e, cleanup, body, cover, exits.as_slice(), label, code)?;
     put_quiet(LinearOp::Label(label), code)?;
     Ok(next)
 }
@@ -304,13 +310,13 @@ fn caught(
     ensures next { IfOk result (λ n. n ≡ label + rules.labels (catch (region_of body.now) (clauses_of clauses.now))) }
     ensures exits { OnOk result (exits.new.items ≡ exits.old.items) }
 {
-    let pad = behind(next_place(code.as_slice())?, 1)?;
+    let pad = pad_place(code.as_slice())?;
     put_clause_pad(e, clauses, cover, label, code)?;
     let first = behind(label, 2)?;
     let next = handlers(e, clauses, cover, exits, label, first, code)?;
     put_quiet(LinearOp::Label(behind(label, 1)?), code)?;
-    let inner = guarded(e.alloc, pad, clause_filters(e, clauses)?, cover)?;
-    let next = inside(e, exit_to(label), body, &inner, exits, next, code)?;
+    let inner = cover_of_clauses(e, pad, clauses, cover)?;
+    let next = covered(e, exit_to(label), body, inner, exits, next, code)?;
     put_quiet(LinearOp::Label(label), code)?;
     Ok(next)
 }
@@ -331,19 +337,12 @@ fn limited(
     ensures next { IfOk result (λ n. n ≡ label + (rules.labels (region_of body.now) + 3)) }
     ensures exits { OnOk result (exits.new.items ≡ exits.old.items) }
 {
-    let pad = behind(next_place(code.as_slice())?, 1)?;
+    let pad = pad_place(code.as_slice())?;
     let filter = e.tables.list_filter(e.alloc, listed)?;
     put_limit_pad(e, filter, cover, label, code)?;
-    let inner = guarded(e.alloc, pad, one_filter(e.alloc, filter)?, cover)?;
-    let next = inside(
-        e,
-        exit_to(label),
-        body,
-        &inner,
-        exits,
-        behind(label, 3)?,
-        code,
-    )?;
+    let first = behind(label, 3)?;
+    let inner = limit_cover(e.alloc, pad, filter, cover)?;
+    let next = covered(e, exit_to(label), body, inner, exits, first, code)?;
     put_quiet(LinearOp::Label(label), code)?;
     Ok(next)
 }

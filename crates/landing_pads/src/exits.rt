@@ -10,7 +10,7 @@ use crate::numbers::behind;
 use region_ir::operation::Cleanup;
 
 /// A region that holds a part: the label of its cleanup at normal exits, if it has one, and the label of its end.
-#[derive(Debug, Drop, Clone, Copy, PartialEq, Eq)]
+#[derive(Drop, Clone, Copy)]
 pub struct Exit {
     pub cleanup: Option<u32>,
     pub end: u32,

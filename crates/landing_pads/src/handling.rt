@@ -11,6 +11,7 @@ ghost use Rattle.landing_pads.specs.Given.{emitting_of};
 ghost use Rattle.landing_pads.specs.View.{cover_of, linear_of};
 
 use crate::NoMemory;
+use crate::covers::guarded;
 use crate::emitting::Emitting;
 use crate::numbers::behind;
 use crate::placed::{Chain, Cover, Placed};
@@ -32,8 +33,8 @@ pub fn bind_object(e: &Emitting<'_>, slot: u32) -> LinearOp
     LinearOp::Op(RegionOp::Bind(slot, place))
 }
 
-/// The filters of clauses, in their order.
-pub fn clause_filters(e: &Emitting<'_>, clauses: &[Clause]) -> Result<Chain, NoMemory>
+// The filters of clauses, in their order.
+fn clause_filters(e: &Emitting<'_>, clauses: &[Clause]) -> Result<Chain, NoMemory>
     ensures { IfOk result (λ chain. chain.items ≡ rules.filters_of (emitting_of e.now) (types_of (clauses_of clauses.now))) }
 {
     let mut chain = SmallVec::new(e.alloc);
@@ -41,6 +42,20 @@ pub fn clause_filters(e: &Emitting<'_>, clauses: &[Clause]) -> Result<Chain, NoM
         chain.push(e.tables.clause_filter(clause.ty)?)?;
     }
     Ok(chain)
+}
+
+/// In the extent of a pad with clauses.
+pub fn cover_of_clauses(
+    e: &Emitting<'_>,
+    pad: u32,
+    clauses: &[Clause],
+    cover: &Cover,
+) -> Result<Cover, NoMemory>
+    ensures { IfOk result (λ c. cover_of c ≡ rules.guarded pad (rules.filters_of (emitting_of e.now) (types_of (clauses_of clauses.now))) (cover_of cover.now)) }
+{
+    let filters = clause_filters(e, clauses)?;
+    let made = guarded(e.alloc, pad, filters, cover)?;
+    Ok(made)
 }
 
 // A test for each clause, whose handlers begin at labels from the given one on.
@@ -93,6 +108,7 @@ fn put_unexpected(
 }
 
 /// The landing pad of a region with a specification, which normal code jumps over: it passes what the list does not allow to the runtime.
+#[tactic(auto, using(crate::proofs::Behind::five_emitted))]
 pub fn put_limit_pad(
     e: &Emitting<'_>,
     filter: i64,
@@ -102,12 +118,11 @@ pub fn put_limit_pad(
 ) -> Result<(), NoMemory>
     ensures { OnOk result (Emitted code.old.items code.new.items (rules.quiet (jump (label + 1)) ∷ rules.quiet (pad e.now.object e.now.selector) ∷ rules.quiet (jump_filter e.now.selector filter (label + 2)) ∷ rules.outward (resume e.now.object) (cover_of cover.now) ∷ rules.quiet (label_meant (label + 2)) ∷ rules.outward (unexpected e.now.object e.now.selector) (cover_of cover.now) ∷ rules.quiet (label_meant (label + 1)) ∷ [])) }
 {
-    put_quiet(LinearOp::Jump(behind(label, 1)?), code)?;
+    let end = behind(label, 1)?;
+    let refused = behind(label, 2)?;
+    put_quiet(LinearOp::Jump(end), code)?;
     put_quiet(LinearOp::Pad(e.object, e.selector), code)?;
-    put_quiet(
-        LinearOp::JumpFilter(e.selector, filter, behind(label, 2)?),
-        code,
-    )?;
+    put_quiet(LinearOp::JumpFilter(e.selector, filter, refused), code)?;
     put_outward(LinearOp::Resume(e.object), cover, code)?;
     put_unexpected(e, cover, label, code)
 }

@@ -1,5 +1,5 @@
 // The linear code of a program.
-ghost use Rattle.std.specs.Prelude.{◌≡◌, map, IfOk};
+ghost use Rattle.std.specs.Prelude.{◌≡◌, ◌++◌, ◌∷◌, [], map, IfOk, OnOk};
 ghost use Rattle.linear_forms.specs.Unit as rules;
 ghost use Rattle.region_ir.specs.View.{function_of, regions_view, row_of};
 ghost use Rattle.landing_pads.specs.View.{code_of, unit_view};
@@ -8,8 +8,18 @@ use crate::NoMemory;
 use crate::function::function_code;
 use crate::unit::{FuncCode, UnitCode};
 use eh_bytes::{RowName, TypeRow};
+use region_ir::held::{beside, put};
 use region_ir::program::{RegionFunc, Regions};
 use std::alloc::Global;
+
+// The code of a function, behind others.
+fn put_code(alloc: Global, function: &RegionFunc, codes: &mut Vec<FuncCode>) -> Result<(), NoMemory>
+    ensures { OnOk result (map code_of codes.new.items ≡ map code_of codes.old.items ++ rules.function_code (function_of function.now) ∷ []) }
+{
+    let code = function_code(alloc, function)?;
+    put(code, codes)?;
+    Ok(())
+}
 
 // The codes of functions, in their order.
 fn function_codes(alloc: Global, functions: &[RegionFunc]) -> Result<Vec<FuncCode>, NoMemory>
@@ -17,7 +27,7 @@ fn function_codes(alloc: Global, functions: &[RegionFunc]) -> Result<Vec<FuncCod
 {
     let mut codes = Vec::new(alloc);
     for function in functions {
-        codes.push(function_code(alloc, function)?)?;
+        put_code(alloc, function, &mut codes)?;
     }
     Ok(codes)
 }
@@ -48,10 +58,15 @@ fn rows_copied(alloc: Global, rows: &[TypeRow]) -> Result<Vec<TypeRow>, NoMemory
 pub fn pads(alloc: Global, regions: &Regions) -> Result<UnitCode, NoMemory>
     ensures { IfOk result (λ u. unit_view u ≡ rules.unit_of (regions_view regions.now)) }
 {
+    let functions = function_codes(alloc, regions.functions.as_slice())?;
+    let types = rows_copied(alloc, regions.types.as_slice());
+    let (functions, types) = beside(functions, types)?;
+    let globals = Vec::from_slice(alloc, regions.globals.as_slice());
+    let ((functions, types), globals) = beside((functions, types), globals)?;
     Ok(UnitCode {
-        functions: function_codes(alloc, regions.functions.as_slice())?,
-        types: rows_copied(alloc, regions.types.as_slice())?,
-        globals: Vec::from_slice(alloc, regions.globals.as_slice())?,
+        functions,
+        types,
+        globals,
         tokens: regions.tokens,
         main: regions.main,
     })

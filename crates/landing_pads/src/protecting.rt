@@ -1,8 +1,10 @@
 // Landing pads and exits of regions with a cleanup.
 ghost use Rattle.std.specs.Prelude.{◌≡◌, [], ◌∷◌, ◌+◌, OnOk};
+ghost use Rattle.linear_forms.specs.Distinct.{distinct};
 ghost use Rattle.linear_forms.specs.Emission as rules;
+ghost use Rattle.linear_forms.specs.Exits.{beyond, outs_of};
 ghost use Rattle.linear_forms.specs.Linear.{jump, label as label_meant, pad, resume};
-ghost use Rattle.region_ir.specs.View.{cleanup_of};
+ghost use Rattle.region_ir.specs.View.{cleanup_of, region_of};
 ghost use Rattle.landing_pads.specs.Emitted.{Emitted};
 ghost use Rattle.landing_pads.specs.Given.{emitting_of, exits_of};
 ghost use Rattle.landing_pads.specs.View.{cover_of};
@@ -11,11 +13,13 @@ use crate::NoMemory;
 use crate::emitting::Emitting;
 use crate::exits::Exit;
 use crate::numbers::behind;
+use crate::outs::outs_beyond;
 use crate::placed::{Cover, Placed};
 use crate::put::{put_outward, put_quiet};
 use crate::unit::LinearOp;
 use crate::ways::with_cleanup;
 use region_ir::operation::{Cleanup, RegionOp};
+use region_ir::region::Region;
 
 // The cleanup of a landing pad.
 fn pad_cleanup(cleanup: Cleanup, code: &mut Vec<Placed>) -> Result<(), NoMemory>
@@ -50,9 +54,9 @@ pub fn put_protect_pad(
     put_quiet(LinearOp::Label(begin), code)
 }
 
-/// The cleanup of normal exits, if there is one.
+// The cleanup of normal exits, if there is one.
 #[tactic(auto, using(crate::proofs::Behind::none_emitted))]
-pub fn put_exit_code(
+fn put_exit_code(
     e: &Emitting<'_>,
     cleanup: Cleanup,
     cover: &Cover,
@@ -71,4 +75,21 @@ pub fn put_exit_code(
         Cleanup::Leave => with_cleanup(e, &RegionOp::Leave, cover, exits, label, outs, code),
         Cleanup::Part(_, _) | Cleanup::Free(_) => Ok(()),
     }
+}
+
+/// The cleanup of a region's normal exits, if there is one: those to its end, and those out of it.
+pub fn put_exits(
+    e: &Emitting<'_>,
+    cleanup: Cleanup,
+    body: &Region,
+    cover: &Cover,
+    exits: &[Exit],
+    label: u32,
+    code: &mut Vec<Placed>,
+) -> Result<(), NoMemory>
+    ensures { OnOk result (Emitted code.old.items code.new.items (rules.exit_code (emitting_of e.now) (rules.exit_cleanup (cleanup_of cleanup)) (cover_of cover.now) (exits_of exits.now) label (distinct (beyond (outs_of (region_of body.now)))))) }
+{
+    let outs = outs_beyond(e.alloc, body)?;
+    put_exit_code(e, cleanup, cover, exits, label, outs.as_slice(), code)?;
+    Ok(())
 }

@@ -4,12 +4,13 @@ ghost use Rattle.meaning_forms.specs.Arithmetic.{int_equal};
 ghost use Rattle.linear_forms.specs.Linear.{CodeSite as CodeSiteMeant};
 ghost use Rattle.linear_forms.specs.Sites as rules;
 ghost use Rattle.landing_pads.specs.Joined.{joined_behind};
-ghost use Rattle.landing_pads.specs.View.{placed_of, site_of};
+ghost use Rattle.landing_pads.specs.View.{cover_of, placed_of, site_of};
 
 use crate::NoMemory;
 use crate::numbers::behind;
 use crate::placed::{Cover, Placed};
 use crate::unit::CodeSite;
+use region_ir::held::{beside, put};
 use std::alloc::Global;
 
 // Whether two chains have the same filters in the same order.
@@ -54,20 +55,59 @@ fn put_site(
 ) -> Result<CodeSite, NoMemory>
     ensures { (others : List CodeSiteMeant) → IfOk result (λ s. map site_of sites.new.items ++ rules.joined_from (site_of s) others ≡ map site_of sites.old.items ++ joined_behind last (record { start = place; end = place + 1; pad = pad; filters = chain.now } ∷ others)) }
 {
-    let end = behind(place, 1)?;
+    let (last, end) = beside(last, behind(place, 1))?;
     if let Some(mut site) = last {
         if joins(&site, place, pad, chain) {
             site.end = end;
             return Ok(site);
         }
-        sites.push(site)?;
+        put(site, sites)?;
     }
+    let filters = Vec::from_slice(alloc, chain)?;
     Ok(CodeSite {
         start: place,
         end,
         pad,
-        filters: Vec::from_slice(alloc, chain)?,
+        filters,
     })
+}
+
+// The site of one operation in a cover, which the site before it becomes, if they say the same; gives the last site.
+fn put_covered(
+    alloc: Global,
+    place: u32,
+    cover: &Cover,
+    last: Option<CodeSite>,
+    sites: &mut Vec<CodeSite>,
+) -> Result<Option<CodeSite>, NoMemory>
+    ensures { (others : List CodeSiteMeant) → IfOk result (λ s. map site_of sites.new.items ++ joined_behind s others ≡ map site_of sites.old.items ++ joined_behind last (rules.site_at place (cover_of cover.now) ++ others)) }
+{
+    match cover {
+        Cover::Bare => Ok(last),
+        Cover::Unpadded => {
+            let site = put_site(alloc, place, None, &[], last, sites)?;
+            Ok(Some(site))
+        }
+        Cover::Padded(pad, chain) => {
+            let site = put_site(alloc, place, Some(*pad), chain.as_slice(), last, sites)?;
+            Ok(Some(site))
+        }
+    }
+}
+
+// The sites of a function's code, behind others.
+fn put_sites(alloc: Global, code: &[Placed], sites: &mut Vec<CodeSite>) -> Result<(), NoMemory>
+    ensures { OnOk result (map site_of sites.new.items ≡ map site_of sites.old.items ++ rules.sites_of (map placed_of code.now)) }
+{
+    let mut last = None;
+    for (place, placed) in code.iter().enumerate() {
+        let (site, place) = beside(last, behind(0, place))?;
+        last = put_covered(alloc, place, &placed.cover, site, sites)?;
+    }
+    if let Some(site) = last {
+        put(site, sites)?;
+    }
+    Ok(())
 }
 
 /// The sites of a function's code.
@@ -75,20 +115,6 @@ pub fn sites_of(alloc: Global, code: &[Placed]) -> Result<Vec<CodeSite>, NoMemor
     ensures { IfOk result (λ sites. map site_of sites.items ≡ rules.sites_of (map placed_of code.now)) }
 {
     let mut sites = Vec::new(alloc);
-    let mut last = None;
-    for (place, placed) in code.iter().enumerate() {
-        let place = behind(0, place)?;
-        last = match &placed.cover {
-            Cover::Bare => last,
-            Cover::Unpadded => Some(put_site(alloc, place, None, &[], last, &mut sites)?),
-            Cover::Padded(pad, chain) => {
-                let chain = chain.as_slice();
-                Some(put_site(alloc, place, Some(*pad), chain, last, &mut sites)?)
-            }
-        };
-    }
-    if let Some(site) = last {
-        sites.push(site)?;
-    }
+    put_sites(alloc, code, &mut sites)?;
     Ok(sites)
 }

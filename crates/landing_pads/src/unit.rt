@@ -6,7 +6,7 @@ use region_ir::place::Slot;
 use region_ir::value::Value;
 
 /// One operation of linear code.
-#[derive(Debug, Drop, PartialEq, Eq)]
+#[derive(Drop)]
 pub enum LinearOp {
     Op(RegionOp),
     Label(u32),
@@ -28,7 +28,7 @@ pub enum LinearOp {
 }
 
 /// A call site: the operations from a place up to another, their landing pad, and its chain of filters.
-#[derive(Debug, Drop, PartialEq, Eq)]
+#[derive(Drop, PartialEq, Eq)]
 pub struct CodeSite {
     pub start: u32,
     pub end: u32,
@@ -37,7 +37,7 @@ pub struct CodeSite {
 }
 
 /// A function. A type is 0 for `catch (...)`, else one more than its number; lists hold indices of types.
-#[derive(Debug, Drop)]
+#[derive(Drop)]
 pub struct FuncCode {
     pub name: Text,
     pub params: u32,
@@ -50,7 +50,7 @@ pub struct FuncCode {
 }
 
 /// A program. Functions and types are named by their numbers.
-#[derive(Debug, Drop)]
+#[derive(Drop)]
 pub struct UnitCode {
     pub functions: Vec<FuncCode>,
     pub types: Vec<TypeRow>,

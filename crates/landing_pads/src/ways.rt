@@ -15,6 +15,7 @@ use crate::placed::{Cover, Placed};
 use crate::put::{put_operation, put_quiet};
 use crate::unit::LinearOp;
 use cxx_ast::expression::BinaryOp;
+use region_ir::held::{beside, boxed};
 use region_ir::operation::RegionOp;
 use region_ir::place::{Place, Root};
 use region_ir::value::Value;
@@ -64,9 +65,11 @@ fn way_test(
 ) -> Result<(), NoMemory>
     ensures { OnOk result (Emitted code.old.items code.new.items (rules.way_test (emitting_of e.now) (exits_of exits.now) region ∷ [])) }
 {
-    let held = Box::new(e.alloc, Value::Load(way_place(e)))?;
     let name = Value::Number(name_number(name_of(region, exits))?);
-    let differs = Value::Binary(BinaryOp::NotEqual, held, Box::new(e.alloc, name)?);
+    let held = boxed(e.alloc, Value::Load(way_place(e)));
+    let (name, held) = beside(name, held)?;
+    let (held, name) = beside(held, boxed(e.alloc, name))?;
+    let differs = Value::Binary(BinaryOp::NotEqual, held, name);
     put_quiet(
         LinearOp::JumpZero(differs, first_label(region, exits)),
         code,

@@ -23,6 +23,10 @@ both_behind old new last a b e f = f ∙ (ap (λ xs. xs ++ b) e ∙ append_assoc
 pub one_behind : (old now : List RegionTree) (x : RegionTree) (r : Region) → now ≡ old ++ x ∷ [] → region_of x ≡ r → map region_of now ≡ map region_of old ++ r ∷ []
 one_behind old now x r e h = ap (map region_of) e ∙ (map_push region_of old x ∙ ap (λ y. map region_of old ++ y ∷ []) h)
 
+-- a region is put behind, as a list of regions
+pub listed_behind : (old now : List RegionTree) (x : RegionTree) (rs : List Region) → now ≡ old ++ x ∷ [] → region_of x ∷ [] ≡ rs → map region_of now ≡ map region_of old ++ rs
+listed_behind old now x rs e h = ap (map region_of) e ∙ (map_push region_of old x ∙ ap (λ ys. map region_of old ++ ys) h)
+
 -- three regions are put behind
 pub three_behind : (old one two now : List RegionTree) (x y z : RegionTree) (r s t : Region) → one ≡ old ++ x ∷ [] → two ≡ one ++ y ∷ [] → now ≡ two ++ z ∷ [] →
     region_of x ≡ r → region_of y ≡ s → region_of z ≡ t → map region_of now ≡ map region_of old ++ r ∷ s ∷ t ∷ []

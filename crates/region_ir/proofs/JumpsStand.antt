@@ -25,7 +25,7 @@ use Rattle.cxx_ast.specs.ClassRules.{is_taken, base_found, field_found, method_n
 use Rattle.cxx_ast.specs.DeclaredNames.{once_only_found}
 use Rattle.cxx_ast.specs.Broken.{Valid, broken, declaration_found, declarations_found, has_main, function_name_found}
 use Rattle.cxx_ast.specs.Checked.{bad_exception, resolve_methods, resolve_class_tree, resolve_declarations, classes_of, functions_of, checked, IsChecked}
-use Rattle.cxx_rules.proofs.ScopeLaws.{behind_within}
+use Rattle.cxx_ast.proofs.ScopesBehind.{loop_behind}
 use Rattle.meaning_forms.specs.Call.{statements_in}
 use Rattle.region_forms.specs.WellFormed.{every}
 use Rattle.region_ir.specs.Exits.{jumps_stand, else_jumps_stand, all_jumps_stand, handler_jumps_stand, function_jumps_stand, class_jumps_stand, program_jumps_stand}
@@ -80,7 +80,7 @@ module _ (other : Environment) where
     statements_stand env sc there b (statement_then s ss) e h =
         let parts = sound_parts (statement_found env sc s) (statements_found env (scope_behind env sc s) ss) h in
         both_true (statement_stands env sc there b s e parts.0)
-        (statements_stand env (scope_behind env sc s) (scope_behind other there s) b ss ((behind_within env sc s).in_loop ∙ e) parts.1)
+        (statements_stand env (scope_behind env sc s) (scope_behind other there s) b ss (loop_behind env sc s ∙ e) parts.1)
 
     handlers_stand : (env : Environment) (sc there : Scope) (b all : Bool) (hs : Handlers) → sc.in_loop ≡ b → Sound (handlers_found env sc all hs) →
         handler_jumps_stand b (resolve_handlers other there hs) ≡ true

@@ -21,7 +21,7 @@ use Rattle.cxx_ast.specs.Declare.{at_the_start, definitions, declare_behind, bod
 use Rattle.cxx_ast.specs.DeclaredNames.{once_only_found}
 use Rattle.cxx_ast.specs.Broken.{Valid, broken, declaration_found, declarations_found, is_main, has_main}
 use Rattle.cxx_ast.specs.Checked.{resolve_declarations, functions_of, checked, IsChecked}
-use Rattle.cxx_rules.proofs.TextLaws.{position-cons}
+use Rattle.cxx_ast.proofs.Positions.{position-cons}
 use Rattle.region_forms.specs.Form.{RegionFunction}
 use Rattle.region_forms.specs.Layout.{Layout}
 use Rattle.region_forms.specs.LowerProgram.{declared_function, own_functions, functions_of_classes, regions_of}

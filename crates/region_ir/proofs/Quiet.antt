@@ -5,8 +5,12 @@ use Rattle.cxx_ast.specs.declared.expression.BinaryOp.{BinaryOp}
 use Rattle.cxx_ast.specs.declared.types.Ty.{Ty}
 use Rattle.cxx_ast.specs.Plain.{Expression, number, path, paren, unary, binary, call, std_call, Expressions, no_expressions, expression_then}
 use Rattle.meaning_forms.specs.Expression.{lvalue_of, names_of}
-use Rattle.region_forms.specs.Form.{Place, Value, binary as binary_value}
+use Rattle.region_forms.specs.Form.{Place, Region, Value, binary as binary_value}
 use Rattle.region_forms.specs.LowerExpression.{Lowering, Lowered, LoweredArguments, has_call, some_call, both, lower, lower_arguments, refers, place_of, address_passed, int_passed}
+use Rattle.region_ir.specs.declared.region.Region.{Region as RegionTree}
+use Rattle.region_ir.specs.declared.value.Value.{Value as ValueTree}
+use Rattle.region_ir.specs.Lowers.{Lowers}
+use Rattle.region_ir.specs.View.{value_of}
 
 pub left_quiet : (a b : Bool) → (a || b) ≡ false → a ≡ false
 left_quiet true b h = absurd (true≢false h)
@@ -34,6 +38,16 @@ quiet l (std_call n es place) t h = absurd (true≢false h)
 value_both : (o : BinaryOp) (c : Bool) (t : ℕ) (a : Lowered) (b : ℕ → Lowered) → c ≡ false → (both o c t a b).value ≡ binary_value o a.value (b a.next).value
 value_both o false t a b h = refl
 value_both o true t a b h = absurd (true≢false h)
+
+-- an operator whose right side makes no calls
+pub quiet_side : (o : BinaryOp) (c : Bool) (t : ℕ) (x : Lowered) (f : ℕ → Lowered) (others : List Region) (now : List RegionTree) (value left : ValueTree) (next free : ℕ) →
+    c ≡ false → Lowers x others now left next → free ≡ next → value_of value ≡ binary_value o (value_of left) (f x.next).value → Lowers (both o c t x f) others now value free
+quiet_side o false t x f others now value left next free e h n made = record {
+  put = h.put;
+  same = made ∙ ap (λ v. binary_value o v (f x.next).value) h.same;
+  behind = n ∙ h.behind;
+}
+quiet_side o true t x f others now value left next free e h n made = absurd (true≢false e)
 
 -- two operands without calls
 pub pure_both : (l : Lowering) (o : BinaryOp) (a b : Expression) (t : ℕ) (x y : Value) → (has_call a || has_call b) ≡ false → x ≡ (lower l a t).value →

@@ -3,7 +3,7 @@ use Rattle.std.proofs.Common.{◌≡◌, ◌∙◌, ℕ, Bool, true, false, not,
 use Rattle.std.proofs.lemmas.Bool.{and_parts}
 use Rattle.cxx_ast.specs.Finding.{Finding, breaks, uses, is_sound, breaks_if}
 use Rattle.cxx_ast.specs.Broken.{used_found, pairs}
-use Rattle.cxx_rules.proofs.FoundLaws.{sound-append}
+use Rattle.cxx_ast.proofs.FindingLaws.{sound-append}
 
 -- no rule is broken
 abbrev pub Sound : List Finding → Type 0

@@ -9,6 +9,7 @@ ghost use Rattle.region_ir.specs.Given.{lowering_of};
 ghost use Rattle.region_ir.specs.View.{argument_of, callee_of};
 
 use crate::NoMemory;
+use crate::held::put;
 use crate::lowering::Lowering;
 use crate::value::{Arg, Callee};
 use cxx_ast::expression::Expr;
@@ -44,7 +45,7 @@ pub fn receiver_argument(
 {
     let mut given = Vec::new(l.alloc);
     if let Bound::Method(_, _) = bound {
-        given.push(Arg::Address(l.place_of(object)?))?;
+        put(Arg::Address(l.place_of(object)?), &mut given)?;
     }
     Ok(given)
 }

@@ -11,6 +11,7 @@ ghost use Rattle.region_ir.specs.View.{argument_of, arguments_of, callee_of, pla
 
 use crate::NoMemory;
 use crate::expression::{Lowered, in_slot, stored_in};
+use crate::held::put;
 use crate::numbers::behind;
 use crate::operation::RegionOp;
 use crate::place::Place;
@@ -43,7 +44,7 @@ pub fn pass_handler(es: &[Expr], given: &mut Vec<Arg>) -> Result<(), NoMemory>
 {
     match function_named(es) {
         Some(function) => {
-            given.push(Arg::Handler(function))?;
+            put(Arg::Handler(function), given)?;
             Ok(())
         }
         None => Ok(()),
@@ -62,11 +63,11 @@ pub fn pass_int(
     ensures { (x : LoweredMeant) (others : List RegionMeant) → Lowers x others before.old.items a.value a.next → IfOk result (λ free. PassesOne (rules.int_passed stored slot x none_passed) others before.new.items (map argument_of given.old.items) given.new.items free) }
 {
     if !stored {
-        given.push(Arg::Int(a.value))?;
+        put(Arg::Int(a.value), given)?;
         return Ok(a.next);
     }
-    before.push(stored_in(slot, a.value))?;
-    given.push(Arg::Int(in_slot(slot)))?;
+    put(stored_in(slot, a.value), before)?;
+    put(Arg::Int(in_slot(slot)), given)?;
     behind(slot, 1)
 }
 
@@ -87,10 +88,12 @@ pub fn call_stored(
 ) -> Result<Lowered, NoMemory>
     ensures { (x : CallMeant) (others : List RegionMeant) → CallLowers x others before.old.items call.callee call.arguments.items → IfOk result (λ r. Lowers (rules.call_stored slot x) others before.new.items r.value r.next) }
 {
-    before.push(stored_in(slot, call_value(call.callee, call.arguments)))?;
+    let value = call_value(call.callee, call.arguments);
+    put(stored_in(slot, value), before)?;
+    let next = behind(slot, 1)?;
     Ok(Lowered {
         value: in_slot(slot),
-        next: behind(slot, 1)?,
+        next,
     })
 }
 
@@ -104,7 +107,7 @@ pub fn call_placed(
     ensures { (x : CallMeant) (others : List RegionMeant) → CallLowers x others before.old.items call.callee call.arguments.items → OnOk result (map region_of before.new.items ≡ others ++ rules.call_placed (place_of place) x) }
 {
     let value = call_value(call.callee, call.arguments);
-    before.push(Region::Op(RegionOp::Store(place, value)))?;
+    put(Region::Op(RegionOp::Store(place, value)), before)?;
     Ok(())
 }
 
@@ -112,6 +115,9 @@ pub fn call_placed(
 pub fn call_dropped(call: LoweredCall, before: &mut Vec<Region>) -> Result<(), NoMemory>
     ensures { (x : CallMeant) (others : List RegionMeant) → CallLowers x others before.old.items call.callee call.arguments.items → OnOk result (map region_of before.new.items ≡ others ++ rules.call_dropped x) }
 {
-    before.push(Region::Op(RegionOp::Call(call.callee, call.arguments)))?;
+    put(
+        Region::Op(RegionOp::Call(call.callee, call.arguments)),
+        before,
+    )?;
     Ok(())
 }

@@ -7,6 +7,7 @@ ghost use Rattle.region_ir.specs.Given.{lowering_of};
 ghost use Rattle.region_ir.specs.View.{place_of, region_of};
 
 use crate::NoMemory;
+use crate::held::boxed;
 use crate::lowering::{Lowering, slot_place, through_place};
 use crate::numbering::type_number;
 use crate::operation::RegionOp;
@@ -35,7 +36,8 @@ pub fn copied(
     ensures { IfOk result (λ r. region_of r ≡ rules.copied (lowering_of l.now) class (place_of target) (place_of source)) }
 {
     let copy = copy_built(l, class, target, source)?;
-    Ok(Region::Barrier(Box::new(l.alloc, copy)?))
+    let copy = boxed(l.alloc, copy)?;
+    Ok(Region::Barrier(copy))
 }
 
 /// A handler's parameter in a slot: by value it is a copy, and by reference it names the exception's object.

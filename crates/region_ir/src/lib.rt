@@ -8,6 +8,7 @@ mod catching;
 mod expression;
 mod function;
 mod handling;
+pub mod held;
 mod implicit;
 mod initialiser;
 pub mod laws;

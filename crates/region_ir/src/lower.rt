@@ -1,14 +1,14 @@
 // Expressions as values without calls, behind the calls that come before them.
-ghost use Rattle.std.specs.Prelude.{◌≡◌, ◌++◌, ◌∷◌, [], List, map, IfOk, OnOk};
+ghost use Rattle.std.specs.Prelude.{◌≡◌, ◌++◌, ◌∷◌, [], List, ℕ, false, map, IfOk, OnOk};
 ghost use Rattle.cxx_ast.specs.View.{expression_of, expressions_of};
 ghost use Rattle.scope_flow.specs.Asked.{parameter_types_of};
-ghost use Rattle.region_forms.specs.Form.{Region as RegionMeant, evaluate, in_order, op, store};
+ghost use Rattle.region_forms.specs.Form.{Region as RegionMeant, binary as binary_value, evaluate, in_order, op, store};
 ghost use Rattle.region_forms.specs.LowerExpression as rules;
 ghost use Rattle.region_forms.specs.LowerExpression.{Lowered as LoweredMeant};
 ghost use Rattle.region_ir.specs.Given.{lowering_of};
 ghost use Rattle.region_ir.specs.Lowers.{Lowers};
 ghost use Rattle.region_ir.specs.Passed.{CallLowers, Passes, PassesOne, named_call, named_std_call, one_passed};
-ghost use Rattle.region_ir.specs.View.{argument_of, place_of, region_of};
+ghost use Rattle.region_ir.specs.View.{argument_of, place_of, region_of, value_of};
 
 use crate::NoMemory;
 use crate::called::{callee_of, constructor_chosen, receiver_argument, refers};
@@ -17,8 +17,9 @@ use crate::calling::{
 };
 use crate::calls::{calls_among, calls_behind, has_call};
 use crate::expression::{
-    Lowered, binary, branched, in_slot, number_stored, stored_in, truth_stored, unary,
+    Lowered, binary, decided_and, decided_or, in_slot, stored_in, truth_stored, unary,
 };
+use crate::held::{beside, put};
 use crate::lowering::Lowering;
 use crate::numbers::behind;
 use crate::operation::RegionOp;
@@ -47,17 +48,19 @@ pub fn lower(
             value: Value::Number(*value),
             next: slot,
         }),
-        Expr::Path(it) => Ok(Lowered {
-            value: Value::Load(l.place_of(it.path.as_slice())?),
-            next: slot,
-        }),
+        Expr::Path(it) => {
+            let place = l.place_of(it.path.as_slice())?;
+            Ok(Lowered {
+                value: Value::Load(place),
+                next: slot,
+            })
+        }
         Expr::Paren(inner, _) => lower(l, inner, slot, before),
         Expr::Unary(op, inner, _) => {
             let operand = lower(l, inner, slot, before)?;
-            Ok(Lowered {
-                value: unary(l.alloc, *op, operand.value)?,
-                next: operand.next,
-            })
+            let next = operand.next;
+            let value = unary(l.alloc, *op, operand.value)?;
+            Ok(Lowered { value, next })
         }
         Expr::Binary(op, left, right) => {
             let left = lower(l, left, slot, before)?;
@@ -75,6 +78,24 @@ pub fn lower(
     }
 }
 
+// An operator, from its left side, whose right side makes no calls.
+#[inline(never)]
+fn with_quiet_side(
+    l: &Lowering<'_>,
+    right: &Expr,
+    op: BinaryOp,
+    left: Lowered,
+) -> Result<Lowered, NoMemory>
+    requires { rules.has_call (expression_of right.now) ≡ false }
+    ensures value { (t : ℕ) → IfOk result (λ r. value_of r.value ≡ binary_value op (value_of left.value) (rules.lower (lowering_of l.now) (expression_of right.now) t).value) }
+    ensures next { IfOk result (λ r. r.next ≡ left.next) }
+{
+    let next = left.next;
+    let (left, right) = beside(left.value, pure_value(l, right))?;
+    let value = binary(l.alloc, op, left, right)?;
+    Ok(Lowered { value, next })
+}
+
 // An operator, from its left side. What was computed before calls of its right side is stored before them.
 #[inline(never)]
 #[cycle(expressions)]
@@ -89,30 +110,24 @@ fn with_right_side(
     ensures { (x : LoweredMeant) (others : List RegionMeant) → Lowers x others before.old.items left.value left.next → IfOk result (λ r. Lowers (rules.both op (rules.has_call (expression_of right.now)) slot x (λ u. rules.lower (lowering_of l.now) (expression_of right.now) u)) others before.new.items r.value r.next) }
 {
     if !has_call(right) {
-        let value = pure_value(l, right)?;
-        return Ok(Lowered {
-            value: binary(l.alloc, op, left.value, value)?,
-            next: left.next,
-        });
+        let it = with_quiet_side(l, right, op, left)?;
+        return Ok(it);
     }
     match op {
         BinaryOp::And => {
-            let second = lower_stored(l, right, slot)?;
-            let known = number_stored(l.alloc, slot, 0)?;
-            branched(l.alloc, slot, left.value, second, known, before)
+            let (left, right) = beside(left.value, lower_stored(l, right, slot))?;
+            decided_and(l.alloc, slot, left, right, before)
         }
         BinaryOp::Or => {
-            let second = lower_stored(l, right, slot)?;
-            let known = number_stored(l.alloc, slot, 1)?;
-            branched(l.alloc, slot, left.value, known, second, before)
+            let (left, right) = beside(left.value, lower_stored(l, right, slot))?;
+            decided_or(l.alloc, slot, left, right, before)
         }
         _ => {
-            before.push(stored_in(slot, left.value))?;
+            put(stored_in(slot, left.value), before)?;
             let second = lower(l, right, behind(slot, 1)?, before)?;
-            Ok(Lowered {
-                value: binary(l.alloc, op, in_slot(slot), second.value)?,
-                next: second.next,
-            })
+            let next = second.next;
+            let value = binary(l.alloc, op, in_slot(slot), second.value)?;
+            Ok(Lowered { value, next })
         }
     }
 }
@@ -141,7 +156,8 @@ fn lower_argument(
     ensures { IfOk result (λ free. PassesOne (one_passed (lowering_of l.now) refers stored (expression_of e.now) slot) (map region_of before.old.items) before.new.items (map argument_of given.old.items) given.new.items free) }
 {
     if refers {
-        given.push(Arg::Address(l.place_of(names_of(e))?))?;
+        let place = l.place_of(names_of(e))?;
+        put(Arg::Address(place), given)?;
         return Ok(slot);
     }
     let it = lower(l, e, slot, before)?;
@@ -235,7 +251,7 @@ fn evaluated(
     ensures { OnOk result (map region_of before.new.items ≡ map region_of before.old.items ++ ((rules.lower (lowering_of l.now) (expression_of e.now) slot).before ++ op (evaluate (rules.lower (lowering_of l.now) (expression_of e.now) slot).value) ∷ [])) }
 {
     let it = lower(l, e, slot, before)?;
-    before.push(Region::Op(RegionOp::Evaluate(it.value)))?;
+    put(Region::Op(RegionOp::Evaluate(it.value)), before)?;
     Ok(())
 }
 
@@ -278,7 +294,7 @@ pub fn value_stored(
     ensures { OnOk result (map region_of before.new.items ≡ map region_of before.old.items ++ ((rules.lower (lowering_of l.now) (expression_of e.now) slot).before ++ op (store (place_of place) (rules.lower (lowering_of l.now) (expression_of e.now) slot).value) ∷ [])) }
 {
     let it = lower(l, e, slot, before)?;
-    before.push(Region::Op(RegionOp::Store(place, it.value)))?;
+    put(Region::Op(RegionOp::Store(place, it.value)), before)?;
     Ok(())
 }
 
@@ -322,9 +338,12 @@ pub fn lower_construct(
 {
     let which = constructor_chosen(l, class, arguments);
     let parameters = constructor_parameters(l.numbering.program, class, which);
+    let function = l.numbering.constructor(class, which)?;
     let mut given = Vec::new(l.alloc);
     lower_arguments(l, arguments, parameters, slot, before, &mut given)?;
-    let function = l.numbering.constructor(class, which)?;
-    before.push(Region::Op(RegionOp::Construct(place, function, given)))?;
+    put(
+        Region::Op(RegionOp::Construct(place, function, given)),
+        before,
+    )?;
     Ok(())
 }

@@ -1,5 +1,5 @@
 // The regions of a program.
-ghost use Rattle.std.specs.Prelude.{◌≡◌, ◌++◌, true, false, map, length, IfOk, OnOk};
+ghost use Rattle.std.specs.Prelude.{◌≡◌, ◌++◌, ◌∷◌, [], true, false, map, length, IfOk, OnOk};
 ghost use Rattle.cxx_ast.specs.View.{checked_of, class_of, function_of as function_meant};
 ghost use Rattle.class_layout.specs.View.{laid_out};
 ghost use Rattle.meaning_forms.specs.Class.{class_at};
@@ -9,6 +9,7 @@ ghost use Rattle.region_ir.specs.View.{function_of, regions_view};
 
 use crate::NoMemory;
 use crate::function::declared_function;
+use crate::held::{beside, put};
 use crate::implicit::{
     implicit_copy_function, implicit_default_function, implicit_destructor_function,
 };
@@ -22,6 +23,22 @@ use cxx_ast::declaration::{ClassDecl, Func};
 use cxx_ast::program::Checked;
 use std::alloc::Global;
 
+// A declared function, behind others.
+fn put_declared(
+    source: Source<'_>,
+    is_member: bool,
+    is_main: bool,
+    class: u32,
+    function: &Func,
+    functions: &mut Vec<RegionFunc>,
+) -> Result<(), NoMemory>
+    ensures { OnOk result (map function_of functions.new.items ≡ map function_of functions.old.items ++ rules.declared_function (checked_of source.entry.numbering.now.program.now) (laid_out source.entry.layout.now) is_member is_main class (function_meant function.now) ∷ []) }
+{
+    let made = declared_function(source, is_member, is_main, class, function)?;
+    put(made, functions)?;
+    Ok(())
+}
+
 // Functions that the program declares by themselves, in order of their numbers.
 fn own_functions(source: Source<'_>, declared: &[Func]) -> Result<Vec<RegionFunc>, NoMemory>
     ensures { IfOk result (λ fs. map function_of fs.items ≡ rules.own_functions (checked_of source.entry.numbering.now.program.now) (laid_out source.entry.layout.now) 0 (map function_meant declared.now)) }
@@ -30,7 +47,7 @@ fn own_functions(source: Source<'_>, declared: &[Func]) -> Result<Vec<RegionFunc
     let mut functions = Vec::new(source.alloc);
     for (number, function) in declared.iter().enumerate() {
         let is_main = number == main;
-        functions.push(declared_function(source, false, is_main, 0, function)?)?;
+        put_declared(source, false, is_main, 0, function, &mut functions)?;
     }
     Ok(functions)
 }
@@ -45,7 +62,7 @@ fn put_methods(
     ensures { OnOk result (map function_of functions.new.items ≡ map function_of functions.old.items ++ map (rules.declared_function (checked_of source.entry.numbering.now.program.now) (laid_out source.entry.layout.now) true false class) (map function_meant methods.now)) }
 {
     for method in methods {
-        functions.push(declared_function(source, true, false, class, method)?)?;
+        put_declared(source, true, false, class, method, functions)?;
     }
     Ok(())
 }
@@ -61,9 +78,12 @@ fn put_class(
     ensures { OnOk result (map function_of functions.new.items ≡ map function_of functions.old.items ++ rules.functions_of_class (checked_of source.entry.numbering.now.program.now) (laid_out source.entry.layout.now) number) }
 {
     put_methods(source, number, class.funcs.as_slice(), functions)?;
-    functions.push(implicit_default_function(source, number, class)?)?;
-    functions.push(implicit_copy_function(source, number, class)?)?;
-    functions.push(implicit_destructor_function(source, number, class)?)?;
+    let made = implicit_default_function(source, number, class)?;
+    put(made, functions)?;
+    let made = implicit_copy_function(source, number, class)?;
+    put(made, functions)?;
+    let made = implicit_destructor_function(source, number, class)?;
+    put(made, functions)?;
     Ok(())
 }
 
@@ -95,10 +115,13 @@ pub fn regions(alloc: Global, program: &Checked, layout: &Layout) -> Result<Regi
     };
     let mut functions = own_functions(source, program.functions.as_slice())?;
     put_classes(source, program.classes.as_slice(), &mut functions)?;
+    let (functions, types) = beside(functions, type_rows(alloc, program))?;
+    let globals = Vec::from_slice(alloc, program.globals.as_slice());
+    let ((functions, types), globals) = beside((functions, types), globals)?;
     Ok(Regions {
         functions,
-        types: type_rows(alloc, program)?,
-        globals: Vec::from_slice(alloc, program.globals.as_slice())?,
+        types,
+        globals,
         tokens: program.program.tokens,
         main: program.main,
     })

@@ -4,7 +4,7 @@ ghost use Rattle.std.specs.Prelude.{◌≡◌, ◌+◌, IfOk};
 use crate::NoMemory;
 
 /// Where the functions of a class begin: those that it declares, then the implicit ones; and its destructor.
-#[derive(Debug, Drop, Clone, Copy, PartialEq, Eq)]
+#[derive(Drop, Clone, Copy)]
 pub struct ClassNumbers {
     pub declared: u32,
     pub implicit: u32,

@@ -3,7 +3,7 @@ use crate::place::Place;
 use crate::value::{Arg, Callee, Value};
 
 /// One operation.
-#[derive(Debug, Drop, PartialEq, Eq)]
+#[derive(Drop, PartialEq, Eq)]
 pub enum RegionOp {
     /// Drops the value.
     Evaluate(Value),
@@ -29,7 +29,7 @@ pub enum RegionOp {
 }
 
 /// What is done where a region is left.
-#[derive(Debug, Drop, Clone, Copy, PartialEq, Eq)]
+#[derive(Drop, Clone, Copy, PartialEq, Eq)]
 pub enum Cleanup {
     /// Destroys a place at every exit.
     Scope(Place, u32),

@@ -11,6 +11,7 @@ ghost use Rattle.region_ir.specs.Planned.{building_of};
 ghost use Rattle.region_ir.specs.View.{place_of, region_of, value_of};
 
 use crate::NoMemory;
+use crate::held::put;
 use crate::initialiser::initialiser_for;
 use crate::lower::{lower_construct, value_stored};
 use crate::lowering::{Lowering, member_offset, through_place};
@@ -88,7 +89,7 @@ pub fn copy_built(
     let which = copy_constructor(l.numbering.program, class);
     let function = l.numbering.constructor(class, which)?;
     let mut given = Vec::new(l.alloc);
-    given.push(Arg::Address(source))?;
+    put(Arg::Address(source), &mut given)?;
     Ok(Region::Op(RegionOp::Construct(target, function, given)))
 }
 
@@ -127,7 +128,7 @@ fn initial_value(
 {
     match arguments.first() {
         None => {
-            before.push(store(target, Value::Number(0)))?;
+            put(store(target, Value::Number(0)), before)?;
             Ok(())
         }
         Some(first) => value_stored(l, first, target, l.first_temporary()?, before),
@@ -147,7 +148,8 @@ fn initial_part(
     match (initialiser, part.ty) {
         (None, ObjectType::Int) => Ok(()),
         (None, ObjectType::Class(class)) => {
-            before.push(default_built(l, class, target)?)?;
+            let built = default_built(l, class, target)?;
+            put(built, before)?;
             Ok(())
         }
         (Some(arguments), ObjectType::Int) => initial_value(l, target, arguments, before),
@@ -168,11 +170,13 @@ pub fn build_part(
 {
     match plan {
         Plan::Default => {
-            before.push(default_part(l, part)?)?;
+            let built = default_part(l, part)?;
+            put(built, before)?;
             Ok(())
         }
         Plan::Copy => {
-            before.push(copy_part(l, part)?)?;
+            let built = copy_part(l, part)?;
+            put(built, before)?;
             Ok(())
         }
         Plan::Declared(inits) => {

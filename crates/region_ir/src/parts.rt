@@ -11,6 +11,7 @@ ghost use Rattle.region_ir.specs.View.{cleanup_of, region_of};
 
 use crate::NoMemory;
 use crate::expression::in_order;
+use crate::held::{boxed, put};
 use crate::lowering::Lowering;
 use crate::numbers::behind;
 use crate::operation::Cleanup;
@@ -40,7 +41,7 @@ pub struct Destruction<'a> {
 fn protected(alloc: Global, regions: Vec<Region>, cleanup: Cleanup) -> Result<Region, NoMemory>
     ensures { IfOk result (λ r. region_of r ≡ protect (in_order (map region_of regions.items)) (cleanup_of cleanup)) }
 {
-    let body = Box::new(alloc, in_order(regions))?;
+    let body = boxed(alloc, in_order(regions))?;
     Ok(Region::Protect(body, cleanup))
 }
 
@@ -70,11 +71,13 @@ pub fn build_parts(
     match *ty {
         ObjectType::Int => build_parts(l, work, next, others, at, before),
         ObjectType::Class(class) => {
+            let deeper = at.inside(2)?;
             let mut more = Vec::new(l.alloc);
-            build_parts(l, work, next, others, at.inside(2)?, &mut more)?;
+            build_parts(l, work, next, others, deeper, &mut more)?;
             let built = part_place(l, work.class, 0, place);
             let cleanup = Cleanup::Part(built, l.numbering.destructor(class));
-            before.push(protected(l.alloc, more, cleanup)?)?;
+            let region = protected(l.alloc, more, cleanup)?;
+            put(region, before)?;
             Ok(())
         }
     }
@@ -100,11 +103,13 @@ pub fn destroy_parts(
     match *ty {
         ObjectType::Int => destroy_parts(l, work, next, others, at, before),
         ObjectType::Class(class) => {
+            let deeper = at.inside(2)?;
             let mut more = Vec::new(l.alloc);
-            destroy_parts(l, work, next, others, at.inside(2)?, &mut more)?;
+            destroy_parts(l, work, next, others, deeper, &mut more)?;
             let built = part_place(l, work.class, 0, place);
             let cleanup = Cleanup::Scope(built, l.numbering.destructor(class));
-            before.push(protected(l.alloc, more, cleanup)?)?;
+            let region = protected(l.alloc, more, cleanup)?;
+            put(region, before)?;
             Ok(())
         }
     }

@@ -20,7 +20,7 @@ pub struct Slot {
 }
 
 /// Where a place begins: at a slot, at the address that a slot holds, or at a global.
-#[derive(Debug, Drop, Clone, Copy, PartialEq, Eq)]
+#[derive(Drop, Clone, Copy, PartialEq, Eq)]
 pub enum Root {
     Slot(u32),
     Through(u32),
@@ -28,7 +28,7 @@ pub enum Root {
 }
 
 /// A place, so many bytes behind where it begins.
-#[derive(Debug, Drop, Clone, Copy, PartialEq, Eq)]
+#[derive(Drop, Clone, Copy, PartialEq, Eq)]
 pub struct Place {
     pub root: Root,
     pub offset: u32,

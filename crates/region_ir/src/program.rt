@@ -5,7 +5,7 @@ use cxx_ast::text::Text;
 use eh_bytes::TypeRow;
 
 /// A function. Its first slots hold its arguments, and one may hold its result.
-#[derive(Debug, Drop)]
+#[derive(Drop)]
 pub struct RegionFunc {
     pub name: Text,
     pub params: u32,
@@ -15,7 +15,7 @@ pub struct RegionFunc {
 }
 
 /// A program. Functions and types are named by their numbers.
-#[derive(Debug, Drop)]
+#[derive(Drop)]
 pub struct Regions {
     pub functions: Vec<RegionFunc>,
     pub types: Vec<TypeRow>,

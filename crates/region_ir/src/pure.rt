@@ -6,6 +6,8 @@ ghost use Rattle.region_ir.specs.Given.{lowering_of};
 ghost use Rattle.region_ir.specs.View.{value_of};
 
 use crate::NoMemory;
+use crate::expression::{binary, unary};
+use crate::held::beside;
 use crate::lowering::Lowering;
 use crate::value::Value;
 use cxx_ast::expression::Expr;
@@ -22,13 +24,14 @@ pub fn pure_value(l: &Lowering<'_>, e: &Expr) -> Result<Value, NoMemory>
         Expr::Paren(inner, _) => pure_value(l, inner),
         Expr::Unary(op, inner, _) => {
             let value = pure_value(l, inner)?;
-            Ok(Value::Unary(*op, Box::new(l.alloc, value)?))
+            let value = unary(l.alloc, *op, value)?;
+            Ok(value)
         }
         Expr::Binary(op, left, right) => {
             let left = pure_value(l, left)?;
-            let right = pure_value(l, right)?;
-            let left = Box::new(l.alloc, left)?;
-            Ok(Value::Binary(*op, left, Box::new(l.alloc, right)?))
+            let (left, right) = beside(left, pure_value(l, right))?;
+            let value = binary(l.alloc, *op, left, right)?;
+            Ok(value)
         }
         Expr::Call(_, _) | Expr::StdCall(_, _, _) => unreachable!(),
     }

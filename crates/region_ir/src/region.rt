@@ -3,7 +3,7 @@ use crate::operation::{Cleanup, RegionOp};
 use crate::value::Value;
 
 /// A clause of a try block: its type, none for `catch (...)`, and the slot that gets the exception object's address.
-#[derive(Debug, Drop, PartialEq, Eq)]
+#[derive(Drop, PartialEq, Eq)]
 #[cycle(regions)]
 pub struct Clause {
     pub ty: Option<u32>,
@@ -12,7 +12,7 @@ pub struct Clause {
 }
 
 /// A part of a function in which cleanups, handlers, barriers and exits are explicit.
-#[derive(Debug, Drop, PartialEq, Eq)]
+#[derive(Drop, PartialEq, Eq)]
 #[cycle(regions)]
 pub enum Region {
     Seq(Vec<Region>),

@@ -8,6 +8,7 @@ ghost use Rattle.region_ir.specs.Variables.{type_in};
 ghost use Rattle.region_ir.specs.View.{function_of, region_of};
 
 use crate::NoMemory;
+use crate::held::beside;
 use crate::lowering::Lowering;
 use crate::numbering::Numbering;
 use crate::program::RegionFunc;
@@ -54,10 +55,13 @@ pub fn with_body(
 ) -> Result<RegionFunc, NoMemory>
     ensures { IfOk result (λ f. function_of f ≡ rules.with_body (laid_out l.now.layout.now) is_member (map type_in l.now.variables.now) params name.now result_slot (region_of body)) }
 {
+    let slots = slots_for(l.alloc, l.layout, is_member, l.variables, &body);
+    let (body, slots) = beside(body, slots)?;
+    let ((body, slots), name) = beside((body, slots), Text::copied(l.alloc, name.as_bytes()))?;
     Ok(RegionFunc {
-        name: Text::copied(l.alloc, name.as_bytes())?,
+        name,
         params,
-        slots: slots_for(l.alloc, l.layout, is_member, l.variables, &body)?,
+        slots,
         result: result_slot,
         body,
     })

@@ -11,12 +11,12 @@ ghost use Rattle.region_ir.specs.View.{region_of};
 use crate::NoMemory;
 use crate::catching::with_try;
 use crate::expression::in_order;
-use crate::lower::lower_construct;
-use crate::lowering::{Lowering, slot_place};
+use crate::held::{beside, put};
+use crate::lowering::Lowering;
 use crate::numbers::behind;
-use crate::plain::{behind_unreached, leaves, with_plain};
+use crate::plain::{behind_unreached, leaves, with_int, with_other, with_reference};
 use crate::region::Region;
-use crate::simple::{bound_to, decided, in_scope, initialised, local_slot, loop_regions, looping};
+use crate::simple::{decided, loop_regions, looping, object_built, put_object_scope};
 use cxx_ast::expression::Expr;
 use cxx_ast::name::Name;
 use cxx_ast::statement::Stmt;
@@ -60,6 +60,15 @@ impl Standing {
             innermost_loop: behind(self.depth, 1)?,
             ..self.inside(regions)?
         })
+    }
+
+    // Behind the declaration of an object, in its scope.
+    fn in_scope(&self) -> Result<Self, NoMemory>
+        ensures { IfOk result (λ s. s ≡ record self.now { next_variable = self.now.next_variable + 1; depth = self.now.depth + 2 }) }
+    {
+        let variable = behind(self.next_variable, 1)?;
+        let inside = self.inside(2)?;
+        Ok(inside.at_variable(variable))
     }
 
     /// How many regions hold a statement inside its innermost loop.
@@ -133,13 +142,11 @@ fn with_object(
     ensures next { IfOk result (λ n. n ≡ at.next_variable + 1 + length (all_declared_in (statements_of rest.now))) }
 {
     let number = class_named(class);
-    let place = slot_place(local_slot(l, name)?);
-    let free = l.first_temporary()?;
-    lower_construct(l, number, arguments, place, free, before)?;
-    let inside = at.at_variable(behind(at.next_variable, 1)?).inside(2)?;
-    let inner = block(l, rest, inside)?;
-    before.push(in_scope(l, number, place, inner.region)?)?;
-    Ok(inner.next_variable)
+    object_built(l, number, name, arguments, before)?;
+    let inner = block(l, rest, at.in_scope()?)?;
+    let next_variable = inner.next_variable;
+    put_object_scope(l, number, name, inner.region, before)?;
+    Ok(next_variable)
 }
 
 /// The statements of a block as one region.
@@ -186,8 +193,9 @@ fn with_if(
     ensures next { IfOk result (λ n. n ≡ at.next_variable + length (declared_in (statement_of yes.now))) }
 {
     let yes = single(l, yes, at.inside(2)?)?;
+    let next_variable = yes.next_variable;
     decided(l, test, yes.region, in_order(Vec::new(l.alloc)), before)?;
-    Ok(yes.next_variable)
+    Ok(next_variable)
 }
 
 // `if` and `else`, behind other regions.
@@ -207,9 +215,11 @@ fn with_if_else(
 {
     let inside = at.inside(2)?;
     let yes = single(l, yes, inside)?;
-    let no = single(l, no, inside.at_variable(yes.next_variable))?;
-    decided(l, test, yes.region, no.region, before)?;
-    Ok(no.next_variable)
+    let behind_yes = inside.at_variable(yes.next_variable);
+    let (yes, no) = beside(yes.region, single(l, no, behind_yes))?;
+    let next_variable = no.next_variable;
+    decided(l, test, yes, no.region, before)?;
+    Ok(next_variable)
 }
 
 // `while`, behind other regions: a test that makes calls is evaluated inside the loop.
@@ -226,14 +236,15 @@ fn with_while(
     ensures next { IfOk result (λ n. n ≡ at.next_variable + length (declared_in (statement_of body.now))) }
 {
     let body = single(l, body, at.in_loop(loop_regions(test))?)?;
+    let next_variable = body.next_variable;
     looping(l, test, body.region, before)?;
-    Ok(body.next_variable)
+    Ok(next_variable)
 }
 
 // A statement with nothing behind it in its block, behind other regions, and the number of the next variable behind its own.
 #[inline(never)]
 #[cycle(statements)]
-#[tactic(auto, using(cxx_rules::proofs::Rows::statement_rows, crate::proofs::Stated::alone))]
+#[tactic(auto, using(cxx_ast::proofs::Rows::statement_rows, crate::proofs::Stated::alone))]
 fn with_statement(
     l: &Lowering<'_>,
     s: &Stmt,
@@ -252,18 +263,11 @@ fn with_statement(
         Stmt::LocalObject(class, name, es) => {
             with_object(l, class, name, es.as_slice(), &[], at, before)
         }
-        Stmt::LocalInt(name, e) => {
-            initialised(l, name, e, before)?;
-            behind(at.next_variable, 1)
-        }
+        Stmt::LocalInt(name, e) => with_int(l, name, e, at, before),
         Stmt::LocalRef(reference, it) => {
-            bound_to(l, &reference.name, l.place_of(it.path.as_slice())?, before)?;
-            behind(at.next_variable, 1)
+            with_reference(l, reference, it.path.as_slice(), at, before)
         }
-        _ => {
-            with_plain(l, s, at, before)?;
-            Ok(at.next_variable)
-        }
+        _ => with_other(l, s, at, before),
     }
 }
 
@@ -280,6 +284,7 @@ fn with_block(
     ensures next { IfOk result (λ n. n ≡ at.next_variable + length (all_declared_in (statements_of ss.now))) }
 {
     let inner = block(l, ss, at.inside(1)?)?;
-    before.push(inner.region)?;
-    Ok(inner.next_variable)
+    let next_variable = inner.next_variable;
+    put(inner.region, before)?;
+    Ok(next_variable)
 }

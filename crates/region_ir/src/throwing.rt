@@ -13,6 +13,7 @@ use crate::NoMemory;
 use crate::called::lvalue_type;
 use crate::expression::in_order;
 use crate::handling::{copied, thrown_place};
+use crate::held::{beside, boxed, put};
 use crate::lower::{lower_construct, value_stored};
 use crate::lowering::Lowering;
 use crate::numbering::type_number;
@@ -33,12 +34,13 @@ fn thrown_as(
 ) -> Result<(), NoMemory>
     ensures { OnOk result (map region_of before.new.items ≡ map region_of before.old.items ++ rules.thrown_as (lowering_of l.now) (type_of ty) (map region_of build.items)) }
 {
-    let object = l.exception_slot()?;
-    let build = Box::new(l.alloc, in_order(build))?;
-    let thrown = RegionOp::Throw(object, type_number(ty)?, l.numbering.destructor_of(ty));
-    before.push(Region::Op(RegionOp::Make(object)))?;
-    before.push(Region::Protect(build, Cleanup::Free(object)))?;
-    before.push(Region::Op(thrown))?;
+    let (build, object) = beside(build, l.exception_slot())?;
+    let (build, number) = beside(build, type_number(ty))?;
+    let build = boxed(l.alloc, in_order(build))?;
+    let (build, _) = beside(build, put(Region::Op(RegionOp::Make(object)), before))?;
+    put(Region::Protect(build, Cleanup::Free(object)), before)?;
+    let thrown = RegionOp::Throw(object, number, l.numbering.destructor_of(ty));
+    put(Region::Op(thrown), before)?;
     Ok(())
 }
 
@@ -46,9 +48,10 @@ fn thrown_as(
 fn int_thrown(l: &Lowering<'_>, e: &Expr, before: &mut Vec<Region>) -> Result<(), NoMemory>
     ensures { OnOk result (map region_of before.new.items ≡ map region_of before.old.items ++ rules.int_thrown (lowering_of l.now) (expression_of e.now)) }
 {
-    let mut build = Vec::new(l.alloc);
     let object = thrown_place(l)?;
-    value_stored(l, e, object, l.first_temporary()?, &mut build)?;
+    let free = l.first_temporary()?;
+    let mut build = Vec::new(l.alloc);
+    value_stored(l, e, object, free, &mut build)?;
     thrown_as(l, ObjectType::Int, build, before)
 }
 
@@ -61,9 +64,10 @@ fn object_thrown(
 ) -> Result<(), NoMemory>
     ensures { OnOk result (map region_of before.new.items ≡ map region_of before.old.items ++ rules.object_thrown (lowering_of l.now) class (expressions_of arguments.now)) }
 {
-    let mut build = Vec::new(l.alloc);
+    let object = thrown_place(l)?;
     let free = l.first_temporary()?;
-    lower_construct(l, class, arguments, thrown_place(l)?, free, &mut build)?;
+    let mut build = Vec::new(l.alloc);
+    lower_construct(l, class, arguments, object, free, &mut build)?;
     thrown_as(l, ObjectType::Class(class), build, before)
 }
 
@@ -93,8 +97,9 @@ fn copy_thrown(
 ) -> Result<(), NoMemory>
     ensures { OnOk result (map region_of before.new.items ≡ map region_of before.old.items ++ rules.thrown_as (lowering_of l.now) (class_type class) (rules.copied (lowering_of l.now) class (rules.thrown_place (lowering_of l.now)) (place_of (lowering_of l.now) names.now) ∷ [])) }
 {
+    let copy = copied(l, class, thrown_place(l)?, l.place_of(names)?)?;
     let mut build = Vec::new(l.alloc);
-    build.push(copied(l, class, thrown_place(l)?, l.place_of(names)?)?)?;
+    put(copy, &mut build)?;
     thrown_as(l, ObjectType::Class(class), build, before)
 }
 
@@ -124,7 +129,7 @@ fn lvalue_thrown(l: &Lowering<'_>, e: &Expr, before: &mut Vec<Region>) -> Result
 }
 
 // The operand of a throw.
-#[tactic(auto, using(cxx_rules::proofs::Rows::rows))]
+#[tactic(auto, using(cxx_ast::proofs::Rows::rows))]
 fn operand_thrown(l: &Lowering<'_>, e: &Expr, before: &mut Vec<Region>) -> Result<(), NoMemory>
     ensures { OnOk result (map region_of before.new.items ≡ map region_of before.old.items ++ rules.operand_thrown (lowering_of l.now) (expression_of e.now)) }
 {
@@ -149,7 +154,7 @@ pub fn throwing(
 {
     match operand {
         None => {
-            before.push(Region::Op(RegionOp::Rethrow))?;
+            put(Region::Op(RegionOp::Rethrow), before)?;
             Ok(())
         }
         Some(operand) => operand_thrown(l, operand, before),

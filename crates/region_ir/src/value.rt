@@ -4,14 +4,14 @@ use cxx_ast::expression::{BinaryOp, UnaryOp};
 use cxx_ast::name::Builtin;
 
 /// What can be called: a function by its number, or a built-in function.
-#[derive(Debug, Drop, Clone, Copy, PartialEq, Eq)]
+#[derive(Drop, Clone, Copy, PartialEq, Eq)]
 pub enum Callee {
     Func(u32),
     Builtin(Builtin),
 }
 
 /// A value. A call stands only at the top of an operation.
-#[derive(Debug, Drop, PartialEq, Eq)]
+#[derive(Drop, PartialEq, Eq)]
 #[cycle(values)]
 pub enum Value {
     Number(i32),
@@ -22,7 +22,7 @@ pub enum Value {
 }
 
 /// An int, the address of a place, or the function that is given to `set_terminate` or `set_unexpected`.
-#[derive(Debug, Drop, PartialEq, Eq)]
+#[derive(Drop, PartialEq, Eq)]
 #[cycle(values)]
 pub enum Arg {
     Int(Value),

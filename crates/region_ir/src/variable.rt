@@ -1,7 +1,6 @@
 // The variables of a function, in order of declaration.
 ghost use Rattle.std.specs.Prelude.{◌≡◌, ◌++◌, ◌∷◌, [], map, IfOk, OnOk};
-ghost use Rattle.cxx_ast.specs.View.{function_of, statement_of, statements_of};
-ghost use Rattle.cxx_rules.specs.Walk.{handlers_of};
+ghost use Rattle.cxx_ast.specs.View.{function_of, statement_of, statements_of, handlers_of};
 ghost use Rattle.meaning_forms.specs.Class.{object_type};
 ghost use Rattle.scope_world.specs.Objects.{type_of};
 ghost use Rattle.region_forms.specs.Numbering as rules;
@@ -61,7 +60,7 @@ fn with_variable<'a>(variables: &mut Vec<Variable<'a>>, it: Variable<'a>) -> Res
 }
 
 // The variables that a statement declares, behind others.
-#[tactic(auto, using(cxx_rules::proofs::Rows::statement_rows))]
+#[tactic(auto, using(cxx_ast::proofs::Rows::statement_rows))]
 #[cycle(variables)]
 fn with_statement<'a>(variables: &mut Vec<Variable<'a>>, s: &'a Stmt) -> Result<(), NoMemory>
     ensures { OnOk result (map type_in variables.new.items ≡ map type_in variables.old.items ++ rules.declared_in (statement_of s.now)) }

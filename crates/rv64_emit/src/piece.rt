@@ -2,7 +2,7 @@
 use rv64_isa::{Instr, Register};
 
 /// A function of the unit by its number, or one of the runtime's own.
-#[derive(Debug, Drop, Clone, Copy)]
+#[derive(Drop, Clone, Copy)]
 pub enum Function {
     Compiled(u32),
     EndCatch,
@@ -10,7 +10,7 @@ pub enum Function {
 }
 
 /// What code reaches outside its function.
-#[derive(Debug, Drop, Clone, Copy)]
+#[derive(Drop, Clone, Copy)]
 pub enum Target {
     /// The first word of a function.
     Entry(Function),
@@ -21,7 +21,7 @@ pub enum Target {
 }
 
 /// One word to be. Its registers come as in an instruction: what is written, then what is read.
-#[derive(Debug, Drop, Clone, Copy)]
+#[derive(Drop, Clone, Copy)]
 pub enum Piece {
     Instruction(Instr),
     /// Jumps to a label of the function.

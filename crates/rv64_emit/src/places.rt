@@ -11,7 +11,7 @@ const END_CATCH: u32 = 12;
 const CALL_UNEXPECTED: u32 = 40;
 
 /// What a unit's code reaches outside its functions.
-#[derive(Debug, Drop, Clone, Copy)]
+#[derive(Drop, Clone, Copy)]
 pub struct Targets<'a> {
     pub functions: &'a [EmittedFunc],
     /// The first word behind the last function.

@@ -1,6 +1,6 @@
 // Where the operations of a function begin.
 /// The first word of each operation of a function, and how many words the function has.
-#[derive(Debug, Drop)]
+#[derive(Drop)]
 pub struct Starts {
     pub words: Vec<u32>,
     pub end: u32,

@@ -21,7 +21,7 @@ use region_ir::value::Value;
 use rv64_isa::{Instr, JumpOffset, Register};
 
 /// The registers of two operands.
-#[derive(Debug, Drop, Clone, Copy)]
+#[derive(Drop, Clone, Copy)]
 pub struct Operands {
     pub left: Register,
     pub right: Register,

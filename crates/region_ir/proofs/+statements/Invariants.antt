@@ -1,6 +1,5 @@
 use Rattle.std.proofs.Common.{◌≡◌, ◌≤◌, ◌+◌, ◌++◌, drop, length, map}
-use Rattle.cxx_ast.specs.View.{statement_of, statements_of}
-use Rattle.cxx_rules.specs.Walk.{handlers_of}
+use Rattle.cxx_ast.specs.View.{statement_of, statements_of, handlers_of}
 use Rattle.region_forms.specs.LowerStatement.{clauses, statements}
 use Rattle.region_forms.specs.Numbering.{all_declared_in, declared_in_handlers}
 use Rattle.region_ir.specs.Given.{lowering_of}
@@ -41,6 +40,9 @@ decreases-catching::with_try l = weight_all (statements_of l.ss.now) + weight_ha
 
 abbrev pub decreases-catching::clauses : goal.decreases-catching::clauses
 decreases-catching::clauses l = weight_handlers (handlers_of l.hs.now) + 5
+
+abbrev pub decreases-catching::clause : goal.decreases-catching::clause
+decreases-catching::clause l = weight_all (statements_of l.h.now.body.items) + 5
 
 abbrev pub decreases-catching::handler : goal.decreases-catching::handler
 decreases-catching::handler l = weight_all (statements_of l.h.now.body.items) + 4

@@ -1,11 +1,13 @@
 use Rattle.std.proofs.Common.{◌≡◌, ◌∙◌, ◌<◌, ◌+◌, [], ◌∷◌, ◌++◌, drop, length, map, ap, sym, refl, subst, arith, rules}
 use Rattle.std.proofs.lemmas.List.{drop_all, drop_more}
-use Rattle.region_forms.specs.Form.{barrier, bind, branch, catch, limit, protect, regions_from, region_then, clause_then, through}
+use Rattle.region_forms.specs.Form.{barrier, bind, branch, catch, limit, loop, protect, seq, regions_from, region_then, clause_then, through}
 use Rattle.linear_forms.specs.Linear.{jump, jump_filter, jump_zero, label, pad, plain, resume, unexpected}
 use Rattle.linear_forms.specs.Code.{labels, labels_all, labels_clauses, region_code, all_code, clauses_code}
-use Rattle.linear_forms.specs.Emission.{guarded, quiet, outward}
+use Rattle.region_forms.specs.Guard.{types_of}
+use Rattle.linear_forms.specs.Emission.{filters_of, guarded, quiet, outward}
 use Rattle.linear_forms.specs.Tables.{bare}
-use Rattle.linear_forms.specs.Exits.{exit_to}
+use Rattle.linear_forms.specs.Distinct.{distinct}
+use Rattle.linear_forms.specs.Exits.{beyond, exit_to, outs_of}
 use Rattle.region_ir.specs.View.{cleanup_of, clauses_of, region_of, value_of}
 use Rattle.landing_pads.specs.Emitted.{Emitted}
 use Rattle.landing_pads.specs.Given.{emitting_of, exit_of, exits_of}
@@ -13,7 +15,7 @@ use Rattle.landing_pads.specs.View.{cover_of, placed_of}
 use Rattle.landing_pads.proofs.Weight.{weight, weight_all, weight_clauses}
 use Rattle.landing_pads.proofs.Composed.{all_done, clauses_done, types_counted, branch_emitted, catch_emitted, clauses_onward, all_onward, handlers_moved, closed_emitted, limit_emitted, loop_emitted, protect_emitted, sequence_emitted}
 use Rattle.landing_pads.proofs.Stack.{exits_pushed, popped}
-use Rattle.std.specs.Prelude.{OnOk}
+use Rattle.std.specs.Prelude.{IfOk, OnOk}
 use Rattle.std.specs.Vec.{vec_len}
 use Rattle.region_ir.proofs.Rows.{region_rows}
 use Rattle.std.proofs.lemmas.Int.{to_z-of_z}
@@ -31,21 +33,20 @@ branched-returns-clause-code t c =
     let b = region_of c.args.second.now in
     let xs = exits_of c.args.exits.now.items in
     let s0 = c.args.code.now.items in
-    let s1 = c.put_quiet.new.code.items in
+    let s1 = c.put_test.new.code.items in
     let s2 = c.inside.new.code.items in
-    let s3 = c.put_quiet-2.new.code.items in
-    let s4 = c.put_quiet-3.new.code.items in
+    let s3 = c.put_quiet.new.code.items in
+    let s4 = c.put_quiet-2.new.code.items in
     let s5 = c.inside-2.new.code.items in
-    let s6 = c.put_quiet-4.new.code.items in
-    let other = c.in_ok-other_side.other_side in
+    let s6 = c.put_quiet-3.new.code.items in
     let test : Emitted s0 s1 (quiet (jump_zero v (l + 1)) ∷ []) =
     subst (λ m. Emitted s0 s1 (quiet (jump_zero v m) ∷ [])) c.in_ok-other_side.ensures
-    (subst (λ x. Emitted s0 s1 (quiet (jump_zero x other) ∷ [])) c.in_ok-test.ensures c.in_ok-put_quiet.ensures) in
-    let side : Emitted s3 s4 (quiet (label (l + 1)) ∷ []) = subst (λ m. Emitted s3 s4 (quiet (label m) ∷ [])) c.in_ok-other_side.ensures c.in_ok-put_quiet-3.ensures in
+    c.in_ok-put_test.ensures in
+    let side : Emitted s3 s4 (quiet (label (l + 1)) ∷ []) = subst (λ m. Emitted s3 s4 (quiet (label m) ∷ [])) c.in_ok-other_side.ensures c.in_ok-put_quiet-2.ensures in
     branch_emitted em cover xs (exit_of c.exit_to.result ∷ xs) (exit_of c.exit_to-2.result ∷ exits_of c.inside.new.exits.items) l c.in_ok-behind.field-0 c.in_ok-next.next v a b
     s0 s1 s2 s3 s4 s5 s6 (ap (λ x. x ∷ xs) c.exit_to.ensures)
     (ap (λ x. x ∷ exits_of c.inside.new.exits.items) c.exit_to-2.ensures ∙ ap (λ ys. exit_to l ∷ exits_of ys) c.in_ok-next.ensures.exits)
-    c.in_ok-behind.ensures c.in_ok-next.ensures.next test c.in_ok-next.ensures.code c.in_ok-put_quiet-2.ensures side c.in_ok-next-2.ensures.code c.in_ok-put_quiet-4.ensures
+    c.in_ok-behind.ensures c.in_ok-next.ensures.next test c.in_ok-next.ensures.code c.in_ok-put_quiet.ensures side c.in_ok-next-2.ensures.code c.in_ok-put_quiet-3.ensures
 
 pub repeated-returns-clause-code : goal.repeated-returns-clause-code
 repeated-returns-clause-code t c =
@@ -56,15 +57,15 @@ repeated-returns-clause-code t c =
     let xs = exits_of c.args.exits.now.items in
     let s0 = c.args.code.now.items in
     let s1 = c.put_quiet.new.code.items in
-    let s2 = c.put_quiet-2.new.code.items in
+    let s2 = c.put_test.new.code.items in
     let s3 = c.inside.new.code.items in
-    let s4 = c.put_quiet-3.new.code.items in
-    let s5 = c.put_quiet-4.new.code.items in
+    let s4 = c.put_quiet-2.new.code.items in
+    let s5 = c.put_quiet-3.new.code.items in
     let front : Emitted s0 s1 (quiet (label (l + 1)) ∷ []) = subst (λ m. Emitted s0 s1 (quiet (label m) ∷ [])) c.in_ok-start.ensures c.in_ok-put_quiet.ensures in
-    let test : Emitted s1 s2 (quiet (jump_zero v l) ∷ []) = subst (λ x. Emitted s1 s2 (quiet (jump_zero x l) ∷ [])) c.in_ok-test.ensures c.in_ok-put_quiet-2.ensures in
-    let back : Emitted s3 s4 (quiet (jump (l + 1)) ∷ []) = subst (λ m. Emitted s3 s4 (quiet (jump m) ∷ [])) c.in_ok-start.ensures c.in_ok-put_quiet-3.ensures in
+    let test : Emitted s1 s2 (quiet (jump_zero v l) ∷ []) = c.in_ok-put_test.ensures in
+    let back : Emitted s3 s4 (quiet (jump (l + 1)) ∷ []) = subst (λ m. Emitted s3 s4 (quiet (jump m) ∷ [])) c.in_ok-start.ensures c.in_ok-put_quiet-2.ensures in
     loop_emitted em cover xs (exit_of c.exit_to.result ∷ xs) l c.in_ok-behind.field-0 v (region_of c.args.body.now) s0 s1 s2 s3 s4 s5 (ap (λ x. x ∷ xs) c.exit_to.ensures)
-    c.in_ok-behind.ensures front test c.in_ok-next.ensures.code back c.in_ok-put_quiet-4.ensures
+    c.in_ok-behind.ensures front test c.in_ok-next.ensures.code back c.in_ok-put_quiet-3.ensures
 
 pub protected-returns-clause-code : goal.protected-returns-clause-code
 protected-returns-clause-code t c =
@@ -73,10 +74,10 @@ protected-returns-clause-code t c =
     let l = c.args.label in
     let xs = exits_of c.args.exits.now.items in
     protect_emitted em (cleanup_of c.args.cleanup) cover (cover_of c.in_ok-inner.inner) xs (exit_of c.in_ok-exit.exit ∷ xs) (exits_of c.as_slice-2.result.now) l
-    c.in_ok-behind.field-0 c.in_ok-pad.pad c.as_slice-3.result.now (region_of c.args.body.now) c.args.code.now.items c.put_protect_pad.new.code.items c.inside.new.code.items
-    c.put_exit_code.new.code.items c.put_quiet.new.code.items c.in_ok-inner.ensures (c.in_ok-pad.ensures ∙ ap (λ n. n + 1) (c.in_ok-next_place.ensures ∙ ap length c.as_slice.ensures.value))
-    (ap (λ x. x ∷ xs) c.in_ok-exit.ensures) (ap exits_of (c.as_slice-2.ensures.value ∙ c.in_ok-next.ensures.exits)) c.in_ok-behind.ensures (c.as_slice-3.ensures.value ∙ c.in_ok-outs.ensures) c.in_ok-put_protect_pad.ensures
-    c.in_ok-next.ensures.code c.in_ok-put_exit_code.ensures c.in_ok-put_quiet.ensures
+    c.in_ok-first.first c.in_ok-pad.pad (distinct (beyond (outs_of (region_of c.args.body.now)))) (region_of c.args.body.now) c.args.code.now.items c.put_protect_pad.new.code.items c.covered.new.code.items
+    c.put_exits.new.code.items c.put_quiet.new.code.items c.in_ok-inner.ensures (c.in_ok-pad.ensures ∙ ap (λ ys. length ys + 1) c.as_slice.ensures.value)
+    (ap (λ x. x ∷ xs) c.in_ok-exit.ensures) (ap exits_of (c.as_slice-2.ensures.value ∙ c.in_ok-next.ensures.exits)) c.in_ok-first.ensures refl c.in_ok-put_protect_pad.ensures
+    c.in_ok-next.ensures.code c.in_ok-put_exits.ensures c.in_ok-put_quiet.ensures
 
 pub limited-returns-clause-code : goal.limited-returns-clause-code
 limited-returns-clause-code t c =
@@ -91,14 +92,14 @@ limited-returns-clause-code t c =
     let fits : SFits w64 n = search rules in
     let plain = to_z-of_z w64 n fits in
     let chain : cover_of c.in_ok-inner.inner ≡ guarded q (n ∷ []) cover =
-    c.in_ok-inner.ensures ∙ ap (λ z. guarded q z cover) (c.in_ok-one_filter.ensures ∙ ap (λ z. z ∷ []) plain) in
+    c.in_ok-inner.ensures ∙ ap (λ z. guarded q (z ∷ []) cover) plain in
     let front = subst
     (λ z. Emitted s0 s1 (quiet (jump (l + 1)) ∷ quiet (pad em.object em.selector) ∷ quiet (jump_filter em.selector z (l + 2)) ∷ outward (resume em.object) cover ∷
     quiet (label (l + 2)) ∷ outward (unexpected em.object em.selector) cover ∷ quiet (label (l + 1)) ∷ []))
     plain c.in_ok-put_limit_pad.ensures in
-    limit_emitted em cover (cover_of c.in_ok-inner.inner) xs (exit_of c.exit_to.result ∷ xs) l c.in_ok-behind.field-0 q n c.args.listed.now (region_of c.args.body.now)
-    s0 s1 c.inside.new.code.items c.put_quiet.new.code.items chain (c.in_ok-pad.ensures ∙ ap (λ m. m + 1) (c.in_ok-next_place.ensures ∙ ap length c.as_slice.ensures.value))
-    c.in_ok-filter.ensures (ap (λ x. x ∷ xs) c.exit_to.ensures) c.in_ok-behind.ensures front c.in_ok-next.ensures.code c.in_ok-put_quiet.ensures
+    limit_emitted em cover (cover_of c.in_ok-inner.inner) xs (exit_of c.exit_to.result ∷ xs) l c.in_ok-first.first q n c.args.listed.now (region_of c.args.body.now)
+    s0 s1 c.covered.new.code.items c.put_quiet.new.code.items chain (c.in_ok-pad.ensures ∙ ap (λ ys. length ys + 1) c.as_slice.ensures.value)
+    c.in_ok-filter.ensures (ap (λ x. x ∷ xs) c.exit_to.ensures) c.in_ok-first.ensures front c.in_ok-next.ensures.code c.in_ok-put_quiet.ensures
 
 pub closed-returns-clause-code : goal.closed-returns-clause-code
 closed-returns-clause-code t c cover =
@@ -237,11 +238,11 @@ caught-returns-clause-code t c =
     let s2 = c.handlers.new.code.items in
     let s3 = c.put_quiet.new.code.items in
     let after = exits_of c.handlers.new.exits.items in
-    let chain = c.in_ok-clause_filters.field-0.items in
+    let chain = filters_of em (types_of cs) in
     let side : Emitted s2 s3 (quiet (label (l + 1)) ∷ []) = subst (λ m. Emitted s2 s3 (quiet (label m) ∷ [])) c.in_ok-behind.ensures c.in_ok-put_quiet.ensures in
     catch_emitted em cover (cover_of c.in_ok-inner.inner) xs (exit_of c.exit_to.result ∷ after) l c.in_ok-first.first c.in_ok-next.next c.in_ok-pad.pad (length given) chain
-    (region_of c.args.body.now) cs c.args.code.now.items c.put_clause_pad.new.code.items s2 s3 c.inside.new.code.items c.put_quiet-2.new.code.items
-    c.in_ok-inner.ensures (c.in_ok-pad.ensures ∙ ap (λ m. m + 1) (c.in_ok-next_place.ensures ∙ ap length c.as_slice.ensures.value)) c.in_ok-clause_filters.ensures
+    (region_of c.args.body.now) cs c.args.code.now.items c.put_clause_pad.new.code.items s2 s3 c.covered.new.code.items c.put_quiet-2.new.code.items
+    c.in_ok-inner.ensures (c.in_ok-pad.ensures ∙ ap (λ ys. length ys + 1) c.as_slice.ensures.value) refl
     (ap (λ x. x ∷ after) c.exit_to.ensures ∙ ap (λ ys. exit_to l ∷ exits_of ys) c.in_ok-next.ensures.exits) c.in_ok-first.ensures (sym (types_counted given))
     c.in_ok-next.ensures.next c.in_ok-put_clause_pad.ensures c.in_ok-next.ensures.code side c.in_ok-next-2.ensures.code c.in_ok-put_quiet-2.ensures
 
@@ -288,3 +289,54 @@ region_code-returns-in-Barrier-clause-code t c =
     let meant : barrier (region_of c.deref-in-Barrier.result.now) ≡ region_of c.args.region.now = search (rules, region_rows, c.in-Barrier.is, c.deref-in-Barrier.ensures) in
     subst (λ r. OnOk c.closed.result (Emitted s c.closed.new.code.items (region_code em (cover_of c.args.cover.now) (exits_of c.args.exits.now.items) c.args.label (length s) r)))
     meant (c.closed.ensures.code (cover_of c.args.cover.now))
+
+pub region_code-returns-in-Branch-clause-next : goal.region_code-returns-in-Branch-clause-next
+region_code-returns-in-Branch-clause-next t c =
+    let meant : branch (value_of c.in-Branch.test) (region_of c.deref.result.now) (region_of c.deref-in-Branch.result.now) ≡ region_of c.args.region.now = search (rules, region_rows, c.in-Branch.is, c.deref.ensures, c.deref-in-Branch.ensures) in
+    subst (λ r. IfOk c.branched.result (λ n. n ≡ c.args.label + labels r)) meant c.branched.ensures.next
+
+pub region_code-returns-in-Protect-clause-next : goal.region_code-returns-in-Protect-clause-next
+region_code-returns-in-Protect-clause-next t c =
+    let meant : protect (region_of c.deref-in-Protect.result.now) (cleanup_of c.in-Protect.cleanup) ≡ region_of c.args.region.now = search (rules, region_rows, c.in-Protect.is, c.deref-in-Protect.ensures) in
+    subst (λ r. IfOk c.protected.result (λ n. n ≡ c.args.label + labels r)) meant c.protected.ensures.next
+
+pub region_code-returns-in-Catch-clause-next : goal.region_code-returns-in-Catch-clause-next
+region_code-returns-in-Catch-clause-next t c =
+    let meant : catch (region_of c.deref-in-Catch.result.now) (clauses_of c.as_slice-in-Catch.result.now) ≡ region_of c.args.region.now = search (rules, region_rows, c.in-Catch.is, c.deref-in-Catch.ensures, c.as_slice-in-Catch.ensures.value) in
+    subst (λ r. IfOk c.caught.result (λ n. n ≡ c.args.label + labels r)) meant c.caught.ensures.next
+
+pub region_code-returns-in-Limit-clause-next : goal.region_code-returns-in-Limit-clause-next
+region_code-returns-in-Limit-clause-next t c =
+    let meant : limit (region_of c.deref-in-Limit.result.now) c.as_slice-in-Limit.result.now ≡ region_of c.args.region.now = search (rules, region_rows, c.in-Limit.is, c.deref-in-Limit.ensures, c.as_slice-in-Limit.ensures.value) in
+    subst (λ r. IfOk c.limited.result (λ n. n ≡ c.args.label + labels r)) meant c.limited.ensures.next
+
+pub region_code-returns-in-Barrier-clause-next : goal.region_code-returns-in-Barrier-clause-next
+region_code-returns-in-Barrier-clause-next t c =
+    let meant : barrier (region_of c.deref-in-Barrier.result.now) ≡ region_of c.args.region.now = search (rules, region_rows, c.in-Barrier.is, c.deref-in-Barrier.ensures) in
+    subst (λ r. IfOk c.closed.result (λ n. n ≡ c.args.label + labels r)) meant c.closed.ensures.next
+
+pub region_code-returns-in-Loop-clause-code : goal.region_code-returns-in-Loop-clause-code
+region_code-returns-in-Loop-clause-code t c =
+    let em = emitting_of c.args.e.now in
+    let s = c.args.code.now.items in
+    let meant : loop (value_of c.in-Loop.test) (region_of c.deref-in-Loop.result.now) ≡ region_of c.args.region.now = search (rules, region_rows, c.in-Loop.is, c.deref-in-Loop.ensures) in
+    subst (λ r. OnOk c.repeated.result (Emitted s c.repeated.new.code.items (region_code em (cover_of c.args.cover.now) (exits_of c.args.exits.now.items) c.args.label (length s) r)))
+    meant c.repeated.ensures.code
+
+pub region_code-returns-in-Loop-clause-next : goal.region_code-returns-in-Loop-clause-next
+region_code-returns-in-Loop-clause-next t c =
+    let meant : loop (value_of c.in-Loop.test) (region_of c.deref-in-Loop.result.now) ≡ region_of c.args.region.now = search (rules, region_rows, c.in-Loop.is, c.deref-in-Loop.ensures) in
+    subst (λ r. IfOk c.repeated.result (λ n. n ≡ c.args.label + labels r)) meant c.repeated.ensures.next
+
+pub region_code-returns-in-Seq-clause-code : goal.region_code-returns-in-Seq-clause-code
+region_code-returns-in-Seq-clause-code t c =
+    let em = emitting_of c.args.e.now in
+    let s = c.args.code.now.items in
+    let meant : seq (regions_from (map region_of c.as_slice.result.now)) ≡ region_of c.args.region.now = search (rules, region_rows, c.in-Seq.is, c.as_slice.ensures.value) in
+    subst (λ r. OnOk c.sequence.result (Emitted s c.sequence.new.code.items (region_code em (cover_of c.args.cover.now) (exits_of c.args.exits.now.items) c.args.label (length s) r)))
+    meant c.sequence.ensures.code
+
+pub region_code-returns-in-Seq-clause-next : goal.region_code-returns-in-Seq-clause-next
+region_code-returns-in-Seq-clause-next t c =
+    let meant : seq (regions_from (map region_of c.as_slice.result.now)) ≡ region_of c.args.region.now = search (rules, region_rows, c.in-Seq.is, c.as_slice.ensures.value) in
+    subst (λ r. IfOk c.sequence.result (λ n. n ≡ c.args.label + labels r)) meant c.sequence.ensures.next

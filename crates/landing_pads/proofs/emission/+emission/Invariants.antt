@@ -13,6 +13,9 @@ decreases-region_code l = weight (region_of l.region.now)
 abbrev pub decreases-inside : goal.decreases-inside
 decreases-inside l = weight (region_of l.region.now) + 1
 
+abbrev pub decreases-covered : goal.decreases-covered
+decreases-covered l = weight (region_of l.region.now) + 2
+
 abbrev pub decreases-all_code : goal.decreases-all_code
 decreases-all_code l = weight_all (regions_from (map region_of l.regions.now))
 
@@ -26,13 +29,13 @@ abbrev pub decreases-repeated : goal.decreases-repeated
 decreases-repeated l = weight (region_of l.body.now) + 2
 
 abbrev pub decreases-protected : goal.decreases-protected
-decreases-protected l = weight (region_of l.body.now) + 2
+decreases-protected l = weight (region_of l.body.now) + 3
 
 abbrev pub decreases-closed : goal.decreases-closed
 decreases-closed l = weight (region_of l.body.now) + 2
 
 abbrev pub decreases-limited : goal.decreases-limited
-decreases-limited l = weight (region_of l.body.now) + 2
+decreases-limited l = weight (region_of l.body.now) + 3
 
 abbrev pub decreases-clauses_code : goal.decreases-clauses_code
 decreases-clauses_code l = weight_clauses (clauses_of l.clauses.now)
@@ -41,7 +44,7 @@ abbrev pub decreases-handlers : goal.decreases-handlers
 decreases-handlers l = weight_clauses (clauses_of l.clauses.now) + 1
 
 abbrev pub decreases-caught : goal.decreases-caught
-decreases-caught l = weight_clauses (clauses_of l.clauses.now) + weight (region_of l.body.now) + 2
+decreases-caught l = weight_clauses (clauses_of l.clauses.now) + weight (region_of l.body.now) + 3
 
 -- what is put so far, and the code of what is left
 abbrev pub invariant-all_code-loop-region : goal.invariant-all_code-loop-region

@@ -11,5 +11,5 @@ returns c x others h =
     let called = call_value x.callee (arguments_from x.arguments) in
     let value : value_of c.call_value-value.result ≡ called =
     c.call_value-value.ensures ∙ called_so Value call_value x others old c.args.call.callee c.args.call.arguments.items h in
-    rw c.in_ok-push.ensures.items (put_behind others x.before (op (store (place_of c.args.place) called)) old _ h.put
+    rw c.in_ok-put.ensures (put_behind others x.before (op (store (place_of c.args.place) called)) old _ h.put
     (ap {B = Region} (λ y. op (store (place_of c.args.place) y)) value))

@@ -10,11 +10,11 @@ pub returns : goal.returns
 returns c x others h =
     let old = c.args.before.now.items in
     let called = call_value x.callee (arguments_from x.arguments) in
-    let value : value_of c.call_value.result ≡ called =
-    c.call_value.ensures ∙ called_so Value call_value x others old c.args.call.callee c.args.call.arguments.items h in
+    let value : value_of c.call_value-value.result ≡ called =
+    c.call_value-value.ensures ∙ called_so Value call_value x others old c.args.call.callee c.args.call.arguments.items h in
     record {
-      put = rw c.in_ok-push.ensures.items (put_behind others x.before (stored_in c.args.slot called) old c.stored_in.result h.put
+      put = rw c.in_ok-put.ensures (put_behind others x.before (stored_in c.args.slot called) old c.stored_in.result h.put
           (c.stored_in.ensures ∙ ap (stored_in c.args.slot) value));
       same = c.in_slot.ensures;
-      behind = c.in_ok-behind.ensures;
+      behind = c.in_ok-next.ensures;
     }

@@ -1,16 +1,17 @@
-use Rattle.std.proofs.Common.{◌≡◌, ◌∙◌, ◌<◌, ◌≤◌, ◌+◌, ◌∷◌, ap, sym, subst, drop, length, map, arith, rules}
+use Rattle.std.proofs.Common.{◌≡◌, ◌∙◌, ◌<◌, ◌≤◌, ◌+◌, ◌∷◌, false, ap, sym, subst, drop, length, map, arith, rules}
 use Rattle.std.proofs.lemmas.List.{drop_all, drop_more}
 use Rattle.std.specs.Prelude.{IfOk, nat_lt}
 use Rattle.cxx_ast.specs.Plain.{call, expression_then, std_call}
 use Rattle.cxx_ast.specs.View.{expression_of, expressions_of}
-use Rattle.cxx_rules.proofs.Rows.{rows}
+use Rattle.cxx_ast.proofs.Rows.{rows}
 use Rattle.scope_flow.specs.Asked.{parameter_types_of}
-use Rattle.region_forms.specs.LowerExpression.{lower, lower_arguments}
+use Rattle.region_forms.specs.LowerExpression.{has_call, lower, lower_arguments}
 use Rattle.region_ir.specs.Given.{lowering_of}
 use Rattle.region_ir.specs.Lowers.{Lowers}
 use Rattle.region_ir.specs.Passed.{CallLowers, calls_among, named_call, named_std_call}
 use Rattle.region_ir.specs.View.{argument_of, region_of}
 use Rattle.region_ir.proofs.Callees.{named_so}
+use Rattle.region_ir.proofs.Quiet.{quiet_side}
 use Rattle.region_ir.proofs.Onward.{PassedSoFar, all_so_far, one_so_far, some_among}
 use Rattle.region_ir.proofs.lower.+expressions.Goals as goal
 
@@ -78,3 +79,12 @@ lower-returns-in_ok-call-in-StdCall t c =
     c.as_slice-in-StdCall.ensures.value c.in_ok-call-in-StdCall.ensures in
     subst (λ x. IfOk c.call_stored-in-StdCall.result (λ r. Lowers (lower l x c.args.slot) others c.call_stored-in-StdCall.new.before.items r.value r.next)) (sym meant)
     (c.call_stored-in-StdCall.ensures (named_std_call l name.bound es c.args.slot) others given)
+
+pub with_right_side-returns-then-not-has_call : goal.with_right_side-returns-then-not-has_call
+with_right_side-returns-then-not-has_call t c x others h =
+    let l = lowering_of c.args.l.now in
+    let e = expression_of c.args.right.now in
+    let it = c.in_ok-it.it in
+    let none : has_call e ≡ false = search (rules, c.has_call.ensures, c.if-not-has_call.true) in
+    quiet_side c.args.op (has_call e) c.args.slot x (λ u. lower l e u) others c.args.before.now.items it.value c.args.left.value c.args.left.next it.next none h c.in_ok-it.ensures.next
+    (c.in_ok-it.ensures.value x.next)

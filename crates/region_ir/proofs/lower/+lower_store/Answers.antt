@@ -2,7 +2,7 @@ use Rattle.std.proofs.Common.{◌≡◌, ◌++◌, sym, subst, map, rules}
 use Rattle.std.specs.Prelude.{OnOk}
 use Rattle.cxx_ast.specs.Plain.{call, std_call}
 use Rattle.cxx_ast.specs.View.{expression_of, expressions_of}
-use Rattle.cxx_rules.proofs.Rows.{rows}
+use Rattle.cxx_ast.proofs.Rows.{rows}
 use Rattle.region_forms.specs.LowerExpression.{lower_store}
 use Rattle.region_ir.specs.Given.{lowering_of}
 use Rattle.region_ir.specs.Passed.{CallLowers, named_call, named_std_call}

@@ -1,8 +1,7 @@
 use Rattle.std.proofs.Common.{◌≡◌, ◌++◌, map, rules, ap, ◌∙◌, sym, append_assoc}
 use Rattle.cxx_ast.specs.Plain.{try}
-use Rattle.cxx_ast.specs.View.{statement_of, statements_of}
-use Rattle.cxx_rules.specs.Walk.{handlers_of}
-use Rattle.cxx_rules.proofs.Rows.{statement_rows}
+use Rattle.cxx_ast.specs.View.{statement_of, statements_of, handlers_of}
+use Rattle.cxx_ast.proofs.Rows.{statement_rows}
 use Rattle.region_forms.specs.Numbering.{declared_in, all_declared_in, declared_in_handlers}
 use Rattle.region_ir.specs.Variables.{type_in}
 use Rattle.region_ir.proofs.variable.+variables.Goals as goal

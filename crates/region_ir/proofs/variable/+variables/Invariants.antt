@@ -1,6 +1,5 @@
 use Rattle.std.proofs.Common.{◌≡◌, ◌++◌, drop, map}
-use Rattle.cxx_ast.specs.View.{statements_of}
-use Rattle.cxx_rules.specs.Walk.{handlers_of}
+use Rattle.cxx_ast.specs.View.{statements_of, handlers_of}
 use Rattle.region_forms.specs.Numbering.{all_declared_in, declared_in_handlers}
 use Rattle.region_ir.specs.Variables.{type_in}
 use Rattle.region_ir.proofs.variable.+variables.Given as goal
