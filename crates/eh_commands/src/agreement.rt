@@ -9,12 +9,11 @@ ghost use Rattle.eh_commands.specs.Frames.{agreement_lines, row_text};
 use debug_frames::Agreement;
 use std::alloc::{AllocError, Global};
 use table_dump::row::put_rules;
-use table_dump::text::{put_text, register, signed};
+use table_dump::text::{put_register, put_signed, put_text};
 use table_forms::{Row, Rule};
 
 // A row from its canonical frame address on.
 fn put_row(
-    alloc: Global,
     out: &mut Vec<u8>,
     cfa_register: u8,
     cfa_offset: i64,
@@ -22,11 +21,10 @@ fn put_row(
 ) -> Result<(), AllocError>
     ensures { OnOk result (out.new.items ≡ out.old.items ++ row_text (record { cfa_register = cfa_register; cfa_offset = cfa_offset; rules = rules })) }
 {
-    let register = register(alloc, cfa_register)?;
-    let offset = signed(alloc, cfa_offset)?;
-    let text = format!(in alloc; "cfa {register}{offset}")?;
-    put_text(out, text.as_str())?;
-    put_rules(alloc, out, rules.as_slice())
+    put_text(out, "cfa ")?;
+    put_register(out, cfa_register)?;
+    put_signed(out, cfa_offset)?;
+    put_rules(out, rules.as_slice())
 }
 
 // A line of a text.
@@ -43,13 +41,7 @@ fn row_line(alloc: Global, front: &str, row: &Row) -> Result<Vec<u8>, AllocError
     ensures { IfOk result (λ line. line.items ≡ front.now ++ row_text row.now ++ codes "\n") }
 {
     let mut line = text_line(alloc, front)?;
-    put_row(
-        alloc,
-        &mut line,
-        row.cfa_register,
-        row.cfa_offset,
-        row.rules,
-    )?;
+    put_row(&mut line, row.cfa_register, row.cfa_offset, row.rules)?;
     put_text(&mut line, "\n")?;
     Ok(line)
 }

@@ -16,7 +16,7 @@ pub const INPUT_LIMIT: u64 = 0x10_0000;
 
 /// What is asked of a file: its name, or the size of a source that is generated; that of the image to be stored, or of the schedule; that of
 /// its input if it has one, and those of all inputs; the most turns or steps, the standard, whether events are printed, and whether steps are counted.
-#[derive(Clone, Copy, Debug)]
+#[derive(Clone, Copy)]
 pub struct Question<'a> {
     pub source: &'a str,
     pub image: &'a str,
@@ -29,7 +29,7 @@ pub struct Question<'a> {
 }
 
 /// How a command ended, and the file that it could not read, where it ended so.
-#[derive(Clone, Copy, Debug)]
+#[derive(Clone, Copy)]
 pub struct Ended<'a> {
     pub status: Status,
     pub file: &'a str,

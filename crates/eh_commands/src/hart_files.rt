@@ -14,7 +14,7 @@ use std::alloc::Global;
 const SCHEDULE_LIMIT: u64 = 0x10_0000;
 
 /// The files of several harts: their image, their schedule, and an input for each.
-#[derive(Debug, Drop)]
+#[derive(Drop)]
 pub struct HartFiles {
     pub image: Vec<u8>,
     pub schedule: Vec<u8>,

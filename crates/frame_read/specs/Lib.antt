@@ -6,6 +6,7 @@ pub mod Texts
 pub mod SeenCie
 pub mod SeenFde
 pub mod SeenRow
+pub mod Plain
 pub mod SeenSpan
 pub mod SpanRest
 pub mod SeenPart

@@ -37,6 +37,7 @@ mod order;
 pub mod overlap;
 mod part;
 mod parts;
+mod plain;
 mod read;
 pub mod refusal;
 mod row;

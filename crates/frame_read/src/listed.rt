@@ -6,7 +6,7 @@ use eh_bytes::Region64;
 use std::marker::Model;
 
 /// The bytes of an augmentation. Contracts see it as the list of them.
-#[derive(Debug, Drop)]
+#[derive(Drop)]
 pub struct Augmentation {
     bytes: Vec<u8>,
 }
@@ -36,7 +36,7 @@ impl Augmentation {
 
 /// A common information entry: its version 1 or 3, its augmentation, the factors of its
 /// instructions, the number of the return register, and its place in the file.
-#[derive(Debug, Drop)]
+#[derive(Drop)]
 pub struct Cie {
     pub version: u8,
     pub augmentation: Augmentation,

@@ -12,6 +12,7 @@ use crate::cie_part::CiePart;
 use crate::fde_part::FdePart;
 use crate::folding::Folding;
 use crate::instruction::Coding;
+use crate::plain::plain_row_of;
 use crate::step::instruction_of;
 use eh_bytes::Segment;
 use table_forms::Row;
@@ -70,10 +71,9 @@ fn goes_on_over(
     }
 }
 
-/// The row of a pc in the region of an FDE, of whose instructions and those of its CIE none is
-/// refused. The count of states in the CIE is not used.
+// The row of a pc, with the rows that are remembered on the way.
 #[tactic(auto, unfolding(table_forms::specs::Row::row_of))]
-pub fn row_of(cie: &CiePart<'_>, fde: &FdePart, segment: &Segment, pc: u64) -> Row
+fn full_row_of(cie: &CiePart<'_>, fde: &FdePart, segment: &Segment, pc: u64) -> Row
     requires stop { cie.now.stop ≤ vec_len segment.now.bytes }
     requires first { cie.now.first ≤ cie.now.stop }
     requires own_stop { fde.now.stop ≤ vec_len segment.now.bytes }
@@ -89,4 +89,23 @@ pub fn row_of(cie: &CiePart<'_>, fde: &FdePart, segment: &Segment, pc: u64) -> R
     folding.keeps_initial();
     goes_on_over(&mut folding, pc, cie.coding, segment, fde.stop, fde.first);
     folding.row.into_row()
+}
+
+/// The row of a pc in the region of an FDE, of whose instructions and those of its CIE none is
+/// refused. The count of states in the CIE is not used.
+pub fn row_of(cie: &CiePart<'_>, fde: &FdePart, segment: &Segment, pc: u64) -> Row
+    requires stop { cie.now.stop ≤ vec_len segment.now.bytes }
+    requires first { cie.now.first ≤ cie.now.stop }
+    requires own_stop { fde.now.stop ≤ vec_len segment.now.bytes }
+    requires own_first { fde.now.first ≤ fde.now.stop }
+    requires region { fde.now.region.start ≤ pc }
+    requires whole { IsOk (instructions_at (coding_seen cie.now.coding) (part_of segment.now) cie.now.stop cie.now.first 0) }
+    requires own { (n : ℕ) → states_of (instructions_at (coding_seen cie.now.coding) (part_of segment.now) cie.now.stop cie.now.first 0) ≡ Ok n → IsOk (instructions_at (coding_seen cie.now.coding) (part_of segment.now) fde.now.stop fde.now.first n) }
+    ensures { (is own : Instructions) → instructions_at (coding_seen cie.now.coding) (part_of segment.now) cie.now.stop cie.now.first 0 ≡ Ok is →
+        instructions_at (coding_seen cie.now.coding) (part_of segment.now) fde.now.stop fde.now.first is.states ≡ Ok own → result ≡ row_of fde.now.region.start is.list own.list pc }
+{
+    match plain_row_of(cie, fde, segment, pc) {
+        Some(row) => row,
+        None => full_row_of(cie, fde, segment, pc),
+    }
 }

@@ -11,8 +11,6 @@ mod file_shared;
 mod filter;
 mod gathered;
 mod image;
-#[cfg(test)]
-mod image_tests;
 mod indices;
 mod joined;
 mod kept_types;
@@ -31,8 +29,6 @@ mod rewrite;
 mod rewriting;
 mod rule;
 mod shared;
-#[cfg(test)]
-mod tests;
 
 pub use image::pack_image;
 pub use packed::pack_lists;

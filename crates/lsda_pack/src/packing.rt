@@ -91,8 +91,12 @@ pub fn packed_from(
     }
     let read = read_lists(alloc, table, at.region.start)?;
     let packed = pack_lists(alloc, &read)?;
+    // Few tables get shorter, and of the others nothing else need be known.
+    let Some(fewer) = shorter(alloc, &packed, at.first, size)? else {
+        return Ok(None);
+    };
     if !may_be(alloc, bytes, table, lists, shape, at, end, &packed)? {
         return Ok(None);
     }
-    shorter(alloc, &packed, at.first, size)
+    Ok(Some(fewer))
 }

@@ -21,3 +21,4 @@ mod Asking
 mod Coded
 mod Moved
 mod Suited
+mod KnownHead

@@ -1,5 +1,5 @@
 // A table that was read.
-ghost use Rattle.std.specs.Prelude.{◌≡◌, ◌+◌, ◌≤◌, ◌<◌, ◌^◌, [], IfOk, Contains, length, vec_len};
+ghost use Rattle.std.specs.Prelude.{◌≡◌, ◌+◌, ◌≤◌, ◌<◌, ◌^◌, [], Ok, IfOk, IsOk, Contains, length, vec_len};
 ghost use Rattle.eh_bytes.specs.Memory.{memory_of, part_of};
 ghost use Rattle.table_forms.specs.Keys.{value_at};
 ghost use Rattle.table_forms.specs.Lsda.{lsda, lsda_in, table_of};
@@ -107,6 +107,29 @@ fn judged_in<'a>(
     }
 }
 
+// The table at a place of a segment, of which nothing is refused.
+fn known_in<'a>(
+    memory: &'a Segments,
+    segment: &'a Segment,
+    region: Region64,
+    place: usize,
+) -> Lsda<'a>
+    requires place { place ≤ vec_len segment.now.bytes }
+    requires region { region.start + region.length < 2 ^ 64 }
+    requires known { IsOk (lsda_in (memory_of memory.now) region place (part_of segment.now)) }
+    ensures { lsda_in (memory_of memory.now) region place (part_of segment.now) ≡ Ok result }
+{
+    match head_of(segment, region, place) {
+        Err(_) => unreachable!(),
+        Ok(head) => Lsda {
+            memory,
+            segment,
+            region,
+            head,
+        },
+    }
+}
+
 // The table at an address.
 #[tactic(auto, unfolding(table_forms::specs::Lsda::lsda))]
 fn read_from<'a>(memory: &'a Segments, address: u64, region: Region64) -> Result<Lsda<'a>, Refusal>
@@ -160,6 +183,25 @@ impl<'a> Lsda<'a> {
         ensures { ReadsTable result (lsda (memory_of memory.now) address region) }
     {
         Ok(read_from(memory, address, region)?)
+    }
+
+    /// The table at an address of which nothing is refused, as `read_at` gives it: its head alone is
+    /// read, and no memory is taken.
+    #[tactic(auto, unfolding(table_forms::specs::Lsda::lsda))]
+    pub fn known_at(memory: &'a Segments, address: u64, region: Region64) -> Lsda<'a>
+        requires region { region.start + region.length < 2 ^ 64 }
+        requires known { IsOk (lsda (memory_of memory.now) address region) }
+        ensures { lsda (memory_of memory.now) address region ≡ Ok result }
+    {
+        match memory.segment_with(address) {
+            None => unreachable!(),
+            Some(segment) => known_in(
+                memory,
+                segment,
+                region,
+                (address - segment.address) as usize,
+            ),
+        }
     }
 
     /// The same table or refusal as `read_at` gives, in time proportional to the call-site table and

@@ -36,10 +36,7 @@ fn table_named<'a>(memory: &'a Segments, fde: &Fde) -> Option<Lsda<'a>>
     if fde.lsda == 0 {
         return None;
     }
-    match Lsda::read_at(memory, fde.lsda, fde.region) {
-        Err(_) => unreachable!(),
-        Ok(table) => Some(table),
-    }
+    Some(Lsda::known_at(memory, fde.lsda, fde.region))
 }
 
 // The exception table of a frame, if its function has one.

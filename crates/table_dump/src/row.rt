@@ -3,7 +3,7 @@ ghost use Rattle.std.specs.Prelude.{◌≡◌, ◌++◌, ◌+◌, ◌<◌, ◌�
 ghost use Rattle.table_dump.specs.Rows.{frame_line, rule_text, rules_text, cfa_text, row_line};
 ghost use Rattle.table_dump.specs.Texts.{register, signed};
 
-use crate::text::{put_text, register, signed};
+use crate::text::{put_register, put_signed, put_text};
 use std::alloc::{AllocError, Global};
 use table_forms::{Row, Rule};
 
@@ -23,62 +23,53 @@ pub fn put_frame(
 }
 
 // A register and what is said of it.
-fn put_said(alloc: Global, out: &mut Vec<u8>, number: u8, said: &str) -> Result<(), AllocError>
+fn put_said(out: &mut Vec<u8>, number: u8, said: &str) -> Result<(), AllocError>
     ensures { OnOk result (out.new.items ≡ out.old.items ++ codes " " ++ register number ++ said.now) }
 {
-    let name = register(alloc, number)?;
     put_text(out, " ")?;
-    put_text(out, name.as_str())?;
+    put_register(out, number)?;
     put_text(out, said)
 }
 
 // The same with an offset behind it.
-fn put_offset(
-    alloc: Global,
-    out: &mut Vec<u8>,
-    number: u8,
-    said: &str,
-    offset: i64,
-) -> Result<(), AllocError>
+fn put_offset(out: &mut Vec<u8>, number: u8, said: &str, offset: i64) -> Result<(), AllocError>
     ensures { OnOk result (out.new.items ≡ out.old.items ++ codes " " ++ register number ++ said.now ++ signed offset) }
 {
-    let offset = signed(alloc, offset)?;
-    put_said(alloc, out, number, said)?;
-    put_text(out, offset.as_str())
+    put_said(out, number, said)?;
+    put_signed(out, offset)
 }
 
 // A register, and another that holds its value.
-fn put_held(alloc: Global, out: &mut Vec<u8>, number: u8, other: u8) -> Result<(), AllocError>
+fn put_held(out: &mut Vec<u8>, number: u8, other: u8) -> Result<(), AllocError>
     ensures { OnOk result (out.new.items ≡ out.old.items ++ codes " " ++ register number ++ codes "=" ++ register other) }
 {
-    let other = register(alloc, other)?;
-    put_said(alloc, out, number, "=")?;
-    put_text(out, other.as_str())
+    put_said(out, number, "=")?;
+    put_register(out, other)
 }
 
 // The rule of a register, if it has one.
-fn put_rule(alloc: Global, out: &mut Vec<u8>, number: u8, rule: Rule) -> Result<(), AllocError>
+fn put_rule(out: &mut Vec<u8>, number: u8, rule: Rule) -> Result<(), AllocError>
     ensures { OnOk result (out.new.items ≡ out.old.items ++ rule_text number rule) }
 {
     match rule {
         Rule::Unspecified => Ok(()),
-        Rule::Undefined => put_said(alloc, out, number, "=u"),
-        Rule::Same => put_said(alloc, out, number, "=s"),
-        Rule::Offset(offset) => put_offset(alloc, out, number, "=c", offset),
-        Rule::ValOffset(offset) => put_offset(alloc, out, number, "=v", offset),
-        Rule::Register(other) => put_held(alloc, out, number, other),
+        Rule::Undefined => put_said(out, number, "=u"),
+        Rule::Same => put_said(out, number, "=s"),
+        Rule::Offset(offset) => put_offset(out, number, "=c", offset),
+        Rule::ValOffset(offset) => put_offset(out, number, "=v", offset),
+        Rule::Register(other) => put_held(out, number, other),
     }
 }
 
 /// The rules of the registers from x0 on.
-pub fn put_rules(alloc: Global, out: &mut Vec<u8>, rules: &[Rule]) -> Result<(), AllocError>
+pub fn put_rules(out: &mut Vec<u8>, rules: &[Rule]) -> Result<(), AllocError>
     requires { length rules.now ≤ 64 }
     ensures { OnOk result (out.new.items ≡ out.old.items ++ rules_text 0 rules.now) }
 {
     let mut number = 0;
     let mut rest = rules;
     'rules: while let Some((rule, others)) = rest.split_first() {
-        put_rule(alloc, out, number, *rule)?;
+        put_rule(out, number, *rule)?;
         number += 1;
         rest = others;
     }
@@ -89,10 +80,10 @@ pub fn put_rules(alloc: Global, out: &mut Vec<u8>, rules: &[Rule]) -> Result<(),
 fn put_cfa(alloc: Global, out: &mut Vec<u8>, pc: u64, row: &Row) -> Result<(), AllocError>
     ensures { OnOk result (out.new.items ≡ out.old.items ++ cfa_text pc row.now) }
 {
-    let register = register(alloc, row.cfa_register)?;
-    let offset = signed(alloc, row.cfa_offset)?;
-    let text = format!(in alloc; "  row 0x{pc:x} cfa {register}{offset}")?;
-    put_text(out, text.as_str())
+    let text = format!(in alloc; "  row 0x{pc:x} cfa ")?;
+    put_text(out, text.as_str())?;
+    put_register(out, row.cfa_register)?;
+    put_signed(out, row.cfa_offset)
 }
 
 /// The line of the row of a place.
@@ -100,7 +91,6 @@ pub fn put_row(alloc: Global, out: &mut Vec<u8>, pc: u64, row: Row) -> Result<()
     ensures { OnOk result (out.new.items ≡ out.old.items ++ row_line pc row) }
 {
     put_cfa(alloc, out, pc, &row)?;
-    let rules = row.rules;
-    put_rules(alloc, out, rules.as_slice())?;
+    put_rules(out, row.rules.as_slice())?;
     put_text(out, "\n")
 }

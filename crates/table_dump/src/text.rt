@@ -3,6 +3,7 @@ ghost use Rattle.std.specs.Prelude.{◌≡◌, ◌+◌, ◌<◌, ◌≤◌, ◌^
 ghost use Rattle.std.specs.String.{string_bytes};
 ghost use Rattle.table_dump.specs.Texts.{hex, register, signed};
 
+use itoa::Buffer;
 use std::alloc::{AllocError, Global};
 
 /// Appends a text.
@@ -24,15 +25,29 @@ pub fn register(alloc: Global, number: u8) -> Result<String, AllocError>
     }
 }
 
-/// An offset with its sign.
-pub fn signed(alloc: Global, offset: i64) -> Result<String, AllocError>
-    ensures { IfOk result (λ text. string_bytes text ≡ signed offset) }
+/// Appends x0 to x31 and f0 to f31.
+pub fn put_register(out: &mut Vec<u8>, number: u8) -> Result<(), AllocError>
+    ensures { OnOk result (out.new.items ≡ out.old.items ++ register number) }
 {
-    if offset < 0 {
-        format!(in alloc; "{offset}")
+    let mut buffer = Buffer::new();
+    if number < 32 {
+        put_text(out, "x")?;
+        put_text(out, buffer.format(number))
     } else {
-        format!(in alloc; "+{offset}")
+        put_text(out, "f")?;
+        put_text(out, buffer.format(number - 32))
     }
+}
+
+/// Appends an offset with its sign.
+pub fn put_signed(out: &mut Vec<u8>, offset: i64) -> Result<(), AllocError>
+    ensures { OnOk result (out.new.items ≡ out.old.items ++ signed offset) }
+{
+    let mut buffer = Buffer::new();
+    if offset >= 0 {
+        put_text(out, "+")?;
+    }
+    put_text(out, buffer.format(offset))
 }
 
 /// The end of a range that may end with the address space.

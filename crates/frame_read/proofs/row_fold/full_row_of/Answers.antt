@@ -8,7 +8,7 @@ use Rattle.frame_read.specs.Seen.{coding_seen}
 use Rattle.frame_read.specs.SeenRow.{folding_seen}
 use Rattle.frame_read.specs.States.{list_of, states_of}
 use Rattle.frame_read.proofs.Folds.{same_off, states_read}
-use Rattle.frame_read.proofs.row_fold.row_of.Goals as goal
+use Rattle.frame_read.proofs.row_fold.full_row_of.Goals as goal
 
 pub returns : goal.returns
 unfolding row_of
