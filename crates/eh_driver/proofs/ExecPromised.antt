@@ -19,6 +19,7 @@ use Rattle.eh_commands.specs.RunEnd.{run_lines, status_of_run}
 use Rattle.eh_commands.specs.Exec.{RunsThis, RefusesToRun, ExecCause}
 use Rattle.eh_driver.specs.Promise.{ExecUndisturbed, ShowsRun, ExecPromise}
 use Rattle.eh_driver.proofs.MeanPromised.{both_of, both_read, both_short}
+use Rattle.eh_driver.proofs.RunsOn.{RunLaws, runs_on}
 
 -- an image that was read is one image
 pub ok_same : {i j : CleanImage} → ◌≡◌ {A = Result CleanImage Fault} (Ok i) (Ok j) → i ≡ j
@@ -36,7 +37,7 @@ pub refused_is : (read : Result CleanImage Fault) (f : Fault) (status : Status) 
 refused_is (Ok j) f status e h = absurd h
 refused_is (Err k) f status e h = let same : k ≡ f = cc e in subst (λ x. status ≡ status_of (reported x)) same h
 
-module _ (a : Asked) (file input : List ℕ) (old new : StoreView) (out out' : SinkView) (u : ExecUndisturbed a file input old new out out') where
+module _ (laws : RunLaws) (a : Asked) (file input : List ℕ) (old new : StoreView) (out out' : SinkView) (u : ExecUndisturbed a file input old new out out') where
   -- what holds of the told image and the told input
   told_so : (P : List ℕ → List ℕ → Type 0) → ToldBoth image_limit a old P → P file input
   told_so P told = both_of image_limit a old u.calm.files file input P u.calm.told u.calm.there u.given told
@@ -50,7 +51,8 @@ module _ (a : Asked) (file input : List ℕ) (old new : StoreView) (out out' : S
 
     shown : (status : Status) (r : Ran) → ToldBoth image_limit a old (RunsThis a r) → (status ≡ status_of_run r.end) × TakesAll (run_lines a.trace a.count r) out out' →
         (status ≡ NoMemory) ⊎ ShowsRun a i input out out' status
-    shown status r told (ended, took) = inr (r, run_so r (told_so (RunsThis a r) told), ended, took.gains)
+    shown status r told (ended, took) =
+        let run = run_so r (told_so (RunsThis a r) told) in inr (r, run, runs_on laws (program_of i) input a.modules a.turns r run, ended, took.gains)
 
     shows_so : (status : Status) → ExecCause a old new out out' status → (status ≡ NoMemory) ⊎ ShowsRun a i input out out' status
     shows_so Done (r, told, h) = shown Done r told h
@@ -90,8 +92,8 @@ module _ (a : Asked) (file input : List ℕ) (old new : StoreView) (out out' : S
     refuses_so Undefined (r, told, h) = absurd (no_run r told)
     refuses_so Differs (r, told, h) = absurd (no_run r told)
 
-pub exec_promised : (a : Asked) (old new : StoreView) (out out' : SinkView) (status : Status) → ExecCause a old new out out' status → ExecPromise a old new out out' status
-exec_promised a old new out out' status cause = record {
-  shows = λ file input i u is. shows_so a file input old new out out' u i is status cause;
-  refuses = λ file input fault u is. refuses_so a file input old new out out' u fault is status cause;
+pub exec_promised : RunLaws → (a : Asked) (old new : StoreView) (out out' : SinkView) (status : Status) → ExecCause a old new out out' status → ExecPromise a old new out out' status
+exec_promised laws a old new out out' status cause = record {
+  shows = λ file input i u is. shows_so laws a file input old new out out' u i is status cause;
+  refuses = λ file input fault u is. refuses_so laws a file input old new out out' u fault is status cause;
 }

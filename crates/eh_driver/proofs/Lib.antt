@@ -1,6 +1,9 @@
 pub mod MeanPromised
 pub mod ExecPromised
 pub mod EventsHeld
+pub mod CleanImages
+pub mod AreCompiled
+pub mod RunsOn
 pub mod MeantShown
 pub mod CompilePromised
 pub mod RunPromised

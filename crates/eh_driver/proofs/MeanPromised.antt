@@ -8,7 +8,7 @@ use Rattle.cxx_ast.specs.Broken.{Valid}
 use Rattle.cxx_ast.specs.Checked.{checked}
 use Rattle.cxx_front.specs.Source.{IsProgram, IsRefused}
 use Rattle.cxx_front.specs.Fate.{HasOnly, refused, valid}
-use Rattle.run_items.specs.Output.{TakesAll, bytes_of}
+use Rattle.run_items.specs.Output.{FailsAmong, TakesAll, bytes_of}
 use Rattle.scope_meaning.specs.Modules.{rests_of}
 use Rattle.meaning_forms.specs.Meaning.{Meaning}
 use Rattle.scope_meaning.specs.Mean.{meant}
@@ -17,7 +17,7 @@ use Rattle.eh_commands.specs.declared.status.Status.TheVariants.{Done, Usage, So
 use Rattle.eh_commands.specs.File.{Asked, ToldInput, ToldBoth, UnreadInput, UnreadEither, input_limit, source_limit}
 use Rattle.eh_commands.specs.Mean.{MeanCause, MeansThis, mean_lines, status_of_end}
 use Rattle.eh_driver.proofs.EventsHeld.{LawsOfEvents, meaning_holds}
-use Rattle.eh_driver.specs.Promise.{MeanUndisturbed, InputIs, MeanPromise, Shows}
+use Rattle.eh_driver.specs.Promise.{MeanTold, MeanUndisturbed, InputIs, MeanPromise, MeansUpTo, Shows}
 use Rattle.eh_commands.proofs.Sources.{told_of, valid_same, not_refused, same_refusal}
 
 -- the input of which something is told
@@ -48,6 +48,17 @@ pub both_short : (limit : ℕ) (a : Asked) (old new : StoreView) → (Rose old.f
 both_short limit a old new calm (inl (n, above, why, long)) = calm why.rose
 both_short limit a old new calm (inr (told, why)) = not_long a.input old new calm why
 
+-- what a source means is the meaning of its valid program
+meaning_of : (a : Asked) (source input : List ℕ) (m : Meaning) (p : Program) → MeansThis a m source input → IsProgram source p → Valid a.std p → m ≡ meant (checked a.std p) input a.modules a.turns
+meaning_of a source input m p (q, only, is) program holds = is ∙ ap (λ x. meant (checked a.std x) input a.modules a.turns) (valid_same (only.only (valid p) (program, holds)))
+
+-- and up to a line that fails
+broken_off : LawsOfEvents → (a : Asked) (source input : List ℕ) (p : Program) → IsProgram source p → Valid a.std p → (old new : StoreView) (out out' : SinkView) → MeanTold a source input old →
+    MeanCause a old new out out' WriteFault → MeansUpTo a.trace (meant (checked a.std p) input a.modules a.turns) out out'
+broken_off laws a source input p program holds old new out out' u (m, told, fails) =
+    let is = meaning_of a source input m p (both_of source_limit a old u.files source input (MeansThis a m) u.told u.there u.given told) program holds in
+    (subst (λ x. FailsAmong (mean_lines a.trace x.items x.end) out out') is fails, meaning_holds laws (checked a.std p) input (rests_of a.modules) a.turns 128)
+
 module _ (laws : LawsOfEvents) (a : Asked) (source input : List ℕ) (old new : StoreView) (out out' : SinkView) (u : MeanUndisturbed a source input old new out out') where
   -- what holds of the told source and the told input
   told_so : (P : List ℕ → List ℕ → Type 0) → ToldBoth source_limit a old P → P source input
@@ -55,10 +66,7 @@ module _ (laws : LawsOfEvents) (a : Asked) (source input : List ℕ) (old new : 
 
   -- what it means is the meaning of the valid program
   meaning_so : (m : Meaning) (p : Program) → ToldBoth source_limit a old (MeansThis a m) → IsProgram source p → Valid a.std p → m ≡ meant (checked a.std p) input a.modules a.turns
-  meaning_so m p told program holds = go (told_so (MeansThis a m) told)
-    where
-      go : MeansThis a m source input → m ≡ meant (checked a.std p) input a.modules a.turns
-      go (q, only, is) = is ∙ ap (λ x. meant (checked a.std x) input a.modules a.turns) (valid_same (only.only (valid p) (program, holds)))
+  meaning_so m p told program holds = meaning_of a source input m p (told_so (MeansThis a m) told) program holds
 
   shown : (m : Meaning) (p : Program) (status : Status) → ToldBoth source_limit a old (MeansThis a m) → IsProgram source p → Valid a.std p → status ≡ status_of_end m.end → TakesAll (mean_lines a.trace m.items m.end) out out' →
       (status ≡ NoMemory) ⊎ Shows a.trace (meant (checked a.std p) input a.modules a.turns) out out' status
@@ -116,4 +124,5 @@ pub mean_promised : LawsOfEvents → (a : Asked) (old new : StoreView) (out out'
 mean_promised laws a old new out out' status cause = record {
   shows = λ source input p u program holds. shows_so laws a source input old new out out' u p status program holds cause;
   refuses = λ source input number place u is. refuses_so laws a source input old new out out' u number place status is cause;
+  breaks = λ source input p u program holds is. broken_off laws a source input p program holds old new out out' u (subst (λ s. MeanCause a old new out out' s) is cause);
 }

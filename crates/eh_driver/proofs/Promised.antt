@@ -61,9 +61,9 @@ module _ (laws : CompilerLaws) where
   command_promised : (verb : Verb) (a : Asked) → IsAsked a → (old new : StoreView) (out out' : SinkView) (status : Status) → CommandCause verb a old new out out' status → CommandPromise verb a old new out out' status
   command_promised Compile a is old new out out' status cause = compile_promised laws a old new out out' status cause.0
   command_promised Run a is old new out out' status cause = run_promised laws a is old new out out' status cause
-  command_promised Exec a is old new out out' status cause = exec_promised a old new out out' status cause
-  command_promised Harts a is old new out out' status cause = harts_promised laws.apart (harts_asked a) old new out out' status cause
-  command_promised Mean a is old new out out' status cause = mean_promised laws.events a old new out out' status cause
+  command_promised Exec a is old new out out' status cause = exec_promised laws.runs a old new out out' status cause
+  command_promised Harts a is old new out out' status cause = harts_promised laws.images.apart (harts_asked a) old new out out' status cause
+  command_promised Mean a is old new out out' status cause = mean_promised laws.images.events a old new out out' status cause
   command_promised Check a is old new out out' status cause = image_kept check_lines a.source old new out out' status cause
   command_promised Dump a is old new out out' status cause = image_kept dump_lines a.source old new out out' status cause
   command_promised Frames a is old new out out' status cause = frames_promised a.source old new out out' status cause

@@ -14,10 +14,14 @@ use Rattle.eh_commands.specs.declared.status.Status.TheVariants.{Done, Usage, So
 use Rattle.eh_commands.specs.File.{Asked, ToldBoth, source_limit}
 use Rattle.eh_commands.specs.RunEnd.{run_lines, status_of_run}
 use Rattle.eh_commands.specs.RunSource.{CompiledRunsThis, SourceRunsThis, RunCause}
-use Rattle.eh_driver.specs.Promise.{MeanUndisturbed, ShowsImage, ShowsMeant, ShowsEnd, ShowsAll, RunPromise}
-use Rattle.eh_driver.proofs.MeantShown.{CompilerLaws, IsAsked, meant_shown, end_shown, all_shown}
+use Rattle.eh_driver.specs.Promise.{MeanTold, MeanUndisturbed, BreaksOff, ShowsImage, ShowsMeant, ShowsEnd, ShowsAll, RunPromise}
+use Rattle.eh_driver.proofs.MeantShown.{CompilerLaws, IsAsked, are_compiled, is_meant, meant_shown, end_shown, all_shown}
 use Rattle.eh_commands.proofs.Sources.{valid_same, not_refused, same_refusal}
 use Rattle.eh_driver.proofs.MeanPromised.{both_of, both_read, both_short}
+
+-- the run of a source is one of its valid program
+runs_of : (a : Asked) (source input : List ℕ) (p : Program) → IsProgram source p → Valid a.std p → (r : Ran) → SourceRunsThis a r source input → CompiledRunsThis a r (checked a.std p) input
+runs_of a source input p program holds r (q, only, runs) = subst (λ x. CompiledRunsThis a r (checked a.std x) input) (valid_same (only.only (valid p) (program, holds))) runs
 
 module _ (a : Asked) (source input : List ℕ) (old new : StoreView) (out out' : SinkView) (u : MeanUndisturbed a source input old new out out') where
   -- what holds of the told source and the told input
@@ -30,10 +34,7 @@ module _ (a : Asked) (source input : List ℕ) (old new : StoreView) (out out' :
   module _ (p : Program) (program : IsProgram source p) (holds : Valid a.std p) where
     -- the run is one of the valid program
     program_so : (r : Ran) → ToldBoth source_limit a old (SourceRunsThis a r) → CompiledRunsThis a r (checked a.std p) input
-    program_so r told = go (told_so (SourceRunsThis a r) told)
-      where
-        go : SourceRunsThis a r source input → CompiledRunsThis a r (checked a.std p) input
-        go (q, only, runs) = subst (λ x. CompiledRunsThis a r (checked a.std x) input) (valid_same (only.only (valid p) (program, holds))) runs
+    program_so r told = runs_of a source input p program holds r (told_so (SourceRunsThis a r) told)
 
     -- a valid source is not refused
     not_refused_so : (number place : ℕ) → RunCause a old new out out' (SourceRefused number place) → ⊥
@@ -86,15 +87,22 @@ module _ (a : Asked) (source input : List ℕ) (old new : StoreView) (out out' :
     refuses_so Undefined (r, told, h) = absurd (valid_not number place r told is)
     refuses_so Differs (r, told, h) = absurd (valid_not number place r told is)
 
--- what a run of a program's image shows
-image_shown : (a : Asked) (p : Program) (input : List ℕ) (out out' : SinkView) (status : Status) (r : Ran) → CompiledRunsThis a r (checked a.std p) input → status ≡ status_of_run r.end →
-    TakesAll (run_lines a.trace a.count r) out out' → ShowsImage a p input out out' status
-image_shown a p input out out' status r (stands, this) ended took = (r, this, ended, took.gains)
+module _ (laws : CompilerLaws) (a : Asked) (source input : List ℕ) (p : Program) (program : IsProgram source p) (holds : Valid a.std p) where
+  -- what a run of a program's image shows
+  image_shown : (out out' : SinkView) (status : Status) (r : Ran) → CompiledRunsThis a r (checked a.std p) input → status ≡ status_of_run r.end →
+      TakesAll (run_lines a.trace a.count r) out out' → ShowsImage a p input out out' status
+  image_shown out out' status r (stands, this) ended took = (are_compiled laws a.std source p program holds stands, r, this, ended, took.gains)
+
+  -- and up to a line that fails
+  broken_off : IsAsked a → (old new : StoreView) (out out' : SinkView) → MeanTold a source input old → RunCause a old new out out' WriteFault → BreaksOff a p input out out'
+  broken_off asked old new out out' u (r, told, fails) =
+      let this = runs_of a source input p program holds r (both_of source_limit a old u.files source input (SourceRunsThis a r) u.told u.there u.given told) in
+      (are_compiled laws a.std source p program holds this.0, r, this.1, is_meant laws a source p program holds asked input r this, fails)
 
 pub run_promised : CompilerLaws → (a : Asked) → IsAsked a → (old new : StoreView) (out out' : SinkView) (status : Status) → RunCause a old new out out' status → RunPromise a old new out out' status
 run_promised laws a asked old new out out' status cause = record {
   shows = λ source input p u program holds.
-      printed_so a source input old new out out' u p program holds (ShowsImage a p input out out') (image_shown a p input out out') status cause;
+      printed_so a source input old new out out' u p program holds (ShowsImage a p input out out') (image_shown laws a source input p program holds out out') status cause;
   means = λ source input p u program holds ints defined.
       printed_so a source input old new out out' u p program holds (ShowsMeant a p input out out') (meant_shown laws a source p program holds asked input ints defined out out') status cause;
   ends = λ source input p turns u program holds ints many some.
@@ -104,4 +112,5 @@ run_promised laws a asked old new out out' status cause = record {
       printed_so a source input old new out out' u p program holds (ShowsAll a p turns input out out')
       (λ status r this end took. all_shown laws a source p program holds asked input ints turns many out out' status r this end took gone defined) status cause;
   refuses = λ source input number place u is. refuses_so a source input old new out out' u number place is status cause;
+  breaks = λ source input p u program holds is. broken_off laws a source input p program holds asked old new out out' u (subst (λ s. RunCause a old new out out' s) is cause);
 }

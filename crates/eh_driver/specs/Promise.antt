@@ -1,11 +1,10 @@
 -- What the commands promise where nothing fails.
-use Rattle.std.specs.Prelude.{◌≡◌, ◌≤◌, ◌<◌, ◌+◌, ◌*◌, ◌⊎◌, ⊤, ℕ, Bool, List, [], length, Option, Some, None, Ok, Err}
-use Rattle.std.specs.List.{AllByRecursion}
+use Rattle.std.specs.Prelude.{◌≡◌, ◌≤◌, ◌+◌, ◌*◌, ◌⊎◌, ⊤, ℕ, Bool, List, [], length, Option, Some, None, Ok, Err}
 use Rattle.std.specs.FinMap.{get, insert}
-use Rattle.eh_outer.specs.Store.{Files, StoreView, Rose}
+use Rattle.eh_outer.specs.Store.{Files, StoreView, Rose, Stores}
 use Rattle.eh_outer.specs.Sink.{SinkView, Gains}
 use Rattle.eh_commands.specs.declared.status.Status.{Status}
-use Rattle.eh_commands.specs.declared.status.Status.TheVariants.{Done, SourceRefused, NoMemory}
+use Rattle.eh_commands.specs.declared.status.Status.TheVariants.{Done, SourceRefused, WriteFault, NoMemory}
 use Rattle.command_line.specs.declared.command.Verb.{Verb}
 use Rattle.command_line.specs.declared.command.Verb.TheVariants.{Compile, Run, Exec, Harts, Mean, Check, Dump, Frames, Pack, Gen}
 use Rattle.command_line.specs.Command.{CommandView, source_size}
@@ -15,19 +14,18 @@ use Rattle.meaning_forms.specs.Meaning.{Meaning, program_meaning}
 use Rattle.scope_meaning.specs.Mean.{meant}
 use Rattle.eh_commands.specs.Words.{asked}
 use Rattle.eh_commands.specs.Mean.{mean_lines, status_of_end}
+use Rattle.cxx_ast.specs.declared.standard.Std.{Std}
 use Rattle.cxx_ast.specs.declared.standard.Std.TheVariants.{Cxx03}
-use Rattle.cxx_ast.specs.Plain.{Program, Checked}
+use Rattle.cxx_ast.specs.Plain.{Program}
 use Rattle.cxx_ast.specs.Broken.{Valid}
 use Rattle.cxx_ast.specs.Checked.{checked}
 use Rattle.cxx_front.specs.Source.{IsProgram, IsRefused}
 use Rattle.cxx_image.specs.Image.{image_for}
-use Rattle.image_forms.specs.Placed.{all_code}
-use Rattle.source_bounds.specs.Compiled.{emitted_for}
 use Rattle.gen_source.specs.Source.{generated}
 use Rattle.eh_commands.specs.Exec.{RunsThis}
 use Rattle.eh_commands.specs.Generate.{RunsAlone, gen_lines}
-use Rattle.run_items.specs.Output.{bytes_of}
-use Rattle.eh_commands.specs.File.{Asked, input_limit, source_limit}
+use Rattle.run_items.specs.Output.{FailsAmong, bytes_of}
+use Rattle.eh_commands.specs.File.{Asked, Told, input_limit, source_limit}
 use Rattle.table_forms.specs.Fault.{Fault}
 use Rattle.elf_image.specs.Clean.{CleanImage}
 use Rattle.elf_image.specs.Reports.{reported}
@@ -36,16 +34,17 @@ use Rattle.cxa_runtime.specs.Kept.{replies_of}
 use Rattle.cxa_runtime.specs.Run.{Ran}
 use Rattle.cxa_runtime.specs.declared.effect.End.TheVariants as ends
 use Rattle.linear_simulation.specs.ProgramRuns.{BeginsWith}
-use Rattle.compiled_runs.specs.Compiled.{Compiled, EndsAs, IsCut, RunMeans}
-use Rattle.compiled_runs.specs.Enough.{HasEnd, HasEnough, enough_for}
-use Rattle.eh_outer.specs.declared.module.Reply.{Reply}
+use Rattle.compiled_runs.specs.Compiled.{EndsAs, IsCut, RunMeans}
+use Rattle.compiled_runs.specs.Enough.{HasEnd, enough_for}
 use Rattle.eh_run.specs.Program.{program_of}
 use Rattle.eh_run.specs.Runs.{IsRun}
 use Rattle.eh_commands.specs.Image.{ImagePromise, check_lines, dump_lines, image_limit, status_of}
 use Rattle.eh_commands.specs.Frames.{FramesPromise}
 use Rattle.eh_commands.specs.HartFiles.{harts_asked}
 use Rattle.eh_commands.specs.RunEnd.{run_lines, status_of_run}
+use Rattle.eh_driver.specs.Compiled.{AreBytes, AreCompiled}
 use Rattle.eh_driver.specs.Events.{EventsHold}
+use Rattle.eh_driver.specs.Exec.{RunsOn}
 use Rattle.eh_driver.specs.Harts.{HartsPromise}
 use Rattle.eh_driver.specs.Pack.{PackPromise}
 
@@ -58,25 +57,19 @@ pub record Undisturbed (limit : ℕ) (name source : List ℕ) (old new : StoreVi
   pub store : Rose old.faults new.faults → ⊥
   pub sink : Rose out.faults out'.faults → ⊥
 
--- The bytes are an image that can be run, with so many words of code and so many bytes for its program's tokens at most, and that is the compiled program:
--- what its runs show, and how they end, is what the program means; and so many instructions are enough for them. So the exceptions of each run that is what the
--- program means are handled as promised.
-pub record AreCompiled (p : Checked) (bytes : List ℕ) : Type 0 where
-  pub image : CleanImage
-  pub read : runnable bytes ≡ Ok image
-  pub words : length (all_code (emitted_for p)) ≤ 128 * p.program.tokens + 4096
-  pub small : length bytes ≤ 768 * p.program.tokens + 131072
-  pub compiled : Compiled p image
-  pub enough : HasEnough p image
-  pub events : (input : List ℕ) (replies : List (List Reply)) (n : ℕ) (r : Ran) → let m = program_meaning p input replies n (n + 1) in RunMeans m r → EventsHold m r.items (IsCut r.end → ⊥)
+-- the source is a valid program, and the bytes are its image, which is the compiled program
+abbrev pub IsCompiled : Std → List ℕ → List ℕ → Type 0
+IsCompiled std source bytes = (p : Program) × IsProgram source p × Valid std p × (bytes ≡ image_for (checked std p)) × AreCompiled (checked std p) bytes
 
 -- Where nothing disturbs: the image of a valid source, which is the compiled program, is stored under its name, and the told files are else as before; a
--- source that is refused is refused by its number and place, and nothing is stored. Or memory ran out, and nothing is stored either.
+-- source that is refused is refused by its number and place, and nothing is stored. Or memory ran out, and nothing is stored either. Where the status is Done,
+-- what is stored of a told source is the compiled program, whatever the store and the sink refused besides.
 pub record CompilePromise (a : Asked) (old new : StoreView) (out out' : SinkView) (status : Status) : Type 0 where
   pub stores : (source : List ℕ) (p : Program) (u : Undisturbed source_limit a.source source old new out out') → IsProgram source p → Valid a.std p →
       ((status ≡ NoMemory) × (new.files ≡ old.files)) ⊎ ((status ≡ Done) × (new.files ≡ Some (insert u.files a.image (image_for (checked a.std p)))) × AreCompiled (checked a.std p) (image_for (checked a.std p)))
   pub refuses : (source : List ℕ) (number place : ℕ) → Undisturbed source_limit a.source source old new out out' → IsRefused a.std source number place →
       ((status ≡ NoMemory) ⊎ (status ≡ SourceRefused number place)) × (new.files ≡ old.files)
+  pub keeps : status ≡ Done → (bytes : List ℕ) × Told source_limit old a.source (λ source. IsCompiled a.std source bytes) × Stores a.image bytes old new
 
 -- the input is that of the file, or empty where none is named
 abbrev pub InputIs : Option (List ℕ) → Files → List ℕ → Type 0
@@ -88,14 +81,17 @@ pub record MeanUndisturbed (a : Asked) (source input : List ℕ) (old new : Stor
   pub calm : Undisturbed source_limit a.source source old new out out'
   pub given : InputIs a.input calm.files input
 
--- the lines of a run of the program's image went out, and the status is that of its end
+-- a told source and its told input, whatever the store and the sink refuse
+pub record MeanTold (a : Asked) (source input : List ℕ) (old : StoreView) : Type 0 where
+  pub files : Files
+  pub told : old.files ≡ Some files
+  pub there : get files a.source ≡ Some source
+  pub given : InputIs a.input files input
+
+-- the program's image is the compiled program, the lines of a run of it went out, and the status is that of its end
 abbrev pub ShowsImage : Asked → Program → List ℕ → SinkView → SinkView → Status → Type 0
 ShowsImage a p input out out' status =
-    (r : Ran) × RunsThis a r (image_for (checked a.std p)) input × (status ≡ status_of_run r.end) × Gains (bytes_of (run_lines a.trace a.count r)) out out'
-
--- the input is one of bytes
-abbrev pub AreBytes : List ℕ → Type 0
-AreBytes input = AllByRecursion (λ b. b < 256) input
+    AreCompiled (checked a.std p) (image_for (checked a.std p)) × (r : Ran) × RunsThis a r (image_for (checked a.std p)) input × (status ≡ status_of_run r.end) × Gains (bytes_of (run_lines a.trace a.count r)) out out'
 
 -- what the program means with the input and the modules, and with as many turns as its run may have steps
 abbrev pub meaning_for : Asked → Program → List ℕ → Meaning
@@ -125,10 +121,19 @@ ShowsAll a p turns input out out' status =
     (BeginsWith (shorter_meaning a p turns input).items r.items ⊎ ((r.end ≡ ends.Stack) × (4096 ≤ (meaning_for a p input).deepest))) ×
     (status ≡ status_of_run r.end) × Gains (bytes_of (run_lines a.trace a.count r)) out out'
 
--- Where nothing disturbs: of a valid source the lines of a run of its image go out, and the status is that of its end. While what the program means is
+-- a run that is what the program means, where that is defined and the input is one of bytes, and what it tells of exceptions is as promised
+abbrev pub IsMeant : Asked → Program → List ℕ → Ran → Type 0
+IsMeant a p input r = AreBytes input → ((meaning_for a p input).end ≡ Undefined → ⊥) → RunMeans (meaning_for a p input) r × EventsHold (meaning_for a p input) r.items (IsCut r.end → ⊥)
+
+-- the program's image is the compiled program, and the lines of a run of it went out up to one that failed
+abbrev pub BreaksOff : Asked → Program → List ℕ → SinkView → SinkView → Type 0
+BreaksOff a p input out out' =
+    AreCompiled (checked a.std p) (image_for (checked a.std p)) × (r : Ran) × RunsThis a r (image_for (checked a.std p)) input × IsMeant a p input r × FailsAmong (run_lines a.trace a.count r) out out'
+
+-- Where nothing disturbs: the image of a valid source is the compiled program, the lines of a run of it go out, and the status is that of its end. While what the program means is
 -- defined, these are the lines of a front of its items, and unless the run is cut short they are all, and it ends as the meaning does. Where the run may have
 -- enough steps for a meaning with fewer turns, it is not cut short before that ends, or before it runs out of its turns. One that is refused is refused by its
--- number and place. Or memory ran out.
+-- number and place. Or memory ran out. Where a line fails, those before it are a front of the lines of such a run.
 pub record RunPromise (a : Asked) (old new : StoreView) (out out' : SinkView) (status : Status) : Type 0 where
   pub shows : (source input : List ℕ) (p : Program) → MeanUndisturbed a source input old new out out' → IsProgram source p → Valid a.std p →
       (status ≡ NoMemory) ⊎ ShowsImage a p input out out' status
@@ -140,28 +145,36 @@ pub record RunPromise (a : Asked) (old new : StoreView) (out out' : SinkView) (s
       (shorter_meaning a p turns input).end ≡ OutOfTurns → ((meaning_for a p input).end ≡ Undefined → ⊥) → (status ≡ NoMemory) ⊎ ShowsAll a p turns input out out' status
   pub refuses : (source input : List ℕ) (number place : ℕ) → MeanUndisturbed a source input old new out out' → IsRefused a.std source number place →
       (status ≡ NoMemory) ⊎ (status ≡ SourceRefused number place)
+  pub breaks : (source input : List ℕ) (p : Program) → MeanTold a source input old → IsProgram source p → Valid a.std p → status ≡ WriteFault → BreaksOff a p input out out'
 
 -- the lines of a meaning went out, and the status is that of its end; and what it tells of exceptions is as promised
 abbrev pub Shows : Bool → Meaning → SinkView → SinkView → Status → Type 0
 Shows trace m out out' status = (status ≡ status_of_end m.end) × Gains (bytes_of (mean_lines trace m.items m.end)) out out' × EventsHold m m.items ⊤
 
+-- so up to a line that failed
+abbrev pub MeansUpTo : Bool → Meaning → SinkView → SinkView → Type 0
+MeansUpTo trace m out out' = FailsAmong (mean_lines trace m.items m.end) out out' × EventsHold m m.items ⊤
+
 -- Where nothing disturbs: what a valid source means goes out, and the status is that of its end; one that is refused is refused by
--- its number and place. Or memory ran out.
+-- its number and place. Or memory ran out. Where a line fails, those before it are a front of the lines of what the source means.
 pub record MeanPromise (a : Asked) (old new : StoreView) (out out' : SinkView) (status : Status) : Type 0 where
   pub shows : (source input : List ℕ) (p : Program) → MeanUndisturbed a source input old new out out' → IsProgram source p → Valid a.std p →
       (status ≡ NoMemory) ⊎ Shows a.trace (meant (checked a.std p) input a.modules a.turns) out out' status
   pub refuses : (source input : List ℕ) (number place : ℕ) → MeanUndisturbed a source input old new out out' → IsRefused a.std source number place →
       (status ≡ NoMemory) ⊎ (status ≡ SourceRefused number place)
+  pub breaks : (source input : List ℕ) (p : Program) → MeanTold a source input old → IsProgram source p → Valid a.std p → status ≡ WriteFault →
+      MeansUpTo a.trace (meant (checked a.std p) input a.modules a.turns) out out'
 
 -- a told image and its told input, where neither the store nor the sink fails
 pub record ExecUndisturbed (a : Asked) (file input : List ℕ) (old new : StoreView) (out out' : SinkView) : Type 0 where
   pub calm : Undisturbed image_limit a.source file old new out out'
   pub given : InputIs a.input calm.files input
 
--- the lines of a run of the program went out, and the status is that of its end
+-- The lines of a run of the program went out, and the status is that of its end. In it each foreign exception is cleaned at most once, and a run of more steps
+-- goes on where it stopped.
 abbrev pub ShowsRun : Asked → CleanImage → List ℕ → SinkView → SinkView → Status → Type 0
 ShowsRun a i input out out' status =
-    (r : Ran) × IsRun (program_of i) input a.modules a.turns r × (status ≡ status_of_run r.end) × Gains (bytes_of (run_lines a.trace a.count r)) out out'
+    (r : Ran) × IsRun (program_of i) input a.modules a.turns r × RunsOn (program_of i) input a.modules a.turns r × (status ≡ status_of_run r.end) × Gains (bytes_of (run_lines a.trace a.count r)) out out'
 
 -- Where nothing disturbs: the lines of a run of a runnable image go out, and the status is that of its end; any other image is refused by
 -- its first refusal, and nothing is written. Or memory ran out.

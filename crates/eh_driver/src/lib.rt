@@ -3,5 +3,7 @@
 
 mod top;
 
+pub use command_line::{Command, read_words, scripts};
 pub use eh_commands::Status;
+pub use gen_source::generate;
 pub use top::ehc;

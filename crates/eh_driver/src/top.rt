@@ -7,15 +7,20 @@ ghost use Rattle.eh_commands.specs.Status.{text_of_status};
 ghost use Rattle.eh_commands.specs.Words.{texts};
 ghost use Rattle.eh_driver.specs.Promise.{Promise};
 
+use cxa_runtime::foreign_exceptions_are_cleaned_once;
 use cxx_image::laws::checked_images_are_small;
 use eh_commands::{Status, answer};
 use eh_outer::{Module, Sink, Store};
+use eh_run::a_greater_budget_goes_on;
 use gen_source::generated_sources_are_valid;
 use hart_sched::harts_run_apart;
 use image_link::laws::images_are_small;
 use lsda_pack::laws::{packed_images_keep_their_verdicts, packed_images_pack_nothing};
 use meaning_events::laws::{allowed_events_are_counted, events_are_right, fronts_are_allowed};
-use source_bounds::laws::checked_is_linkable;
+use source_bounds::laws::{
+    checked_is_linkable, kept_frames_are_small, kept_registers_are_saved,
+    kept_variables_are_unbound,
+};
 use std::alloc::Global;
 use step_law::laws::{checked_images_are_compiled, checked_images_have_enough};
 
@@ -56,11 +61,16 @@ pub fn ehc<St: Store, Out: Sink, Er: Sink>(
     checked_is_linkable();
     images_are_small();
     checked_images_are_small();
+    kept_variables_are_unbound();
+    kept_registers_are_saved();
+    kept_frames_are_small();
     events_are_right();
     allowed_events_are_counted();
     fronts_are_allowed();
     generated_sources_are_valid();
     harts_run_apart();
+    foreign_exceptions_are_cleaned_once();
+    a_greater_budget_goes_on();
     packed_images_keep_their_verdicts();
     packed_images_pack_nothing();
     answer(alloc, words, store, out, err, modules)

@@ -1,5 +1,6 @@
 pub mod Positions
 pub mod Own
+pub mod Few
 pub mod Lines
 pub mod Joins
 pub mod Steps

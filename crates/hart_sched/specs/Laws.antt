@@ -1,5 +1,5 @@
 -- What holds of every schedule and of every run of several harts.
-use Rattle.std.specs.Prelude.{ℕ, ◌≡◌, ◌≤◌, ◌<◌, ◌^◌, ◌==◌, ◌++◌, ◌+◌, true, Bool, List, [], ◌∷◌, map, unwrap_or, slice_get, slice_set, replicate, Option, Some, None, Ok, if◌then◌else◌}
+use Rattle.std.specs.Prelude.{ℕ, ◌≡◌, ◌≤◌, ◌<◌, ◌^◌, ◌==◌, ◌++◌, ◌+◌, true, Bool, List, [], ◌∷◌, map, unwrap_or, slice_get, slice_set, replicate, sum_by, Option, Some, None, Ok, if◌then◌else◌}
 use Rattle.run_items.specs.Line as plain
 use Rattle.rv64_isa.specs.State.{State, reg_of}
 use Rattle.rv64_isa.specs.declared.step.Step.TheVariants as steps
@@ -11,7 +11,7 @@ use Rattle.cxa_runtime.specs.NextCall.{next_call}
 use Rattle.cxa_runtime.specs.Raising.{Image}
 use Rattle.cxa_runtime.specs.Run as machine
 use Rattle.cxa_runtime.specs.World.{World, begins, a7}
-use Rattle.hart_sched.specs.Schedule.{Slice, schedule, text_of, IsSchedule}
+use Rattle.hart_sched.specs.Schedule.{Slice, schedule, text_of, turns_among, IsSchedule}
 use Rattle.hart_sched.specs.Hart.{Hart, live_of, live_over, has_to_wait}
 use Rattle.hart_sched.specs.Turn.{Told, shown, ended}
 use Rattle.hart_sched.specs.Run.{Ran, Runs}
@@ -61,6 +61,26 @@ RunsApart image s inputs trace r =
 abbrev pub EachRunsAlone : Type 0
 EachRunsAlone =
     (image : Image) (s : State) (inputs : List (List ℕ)) (slices : List Slice) (trace : Bool) (r : Ran) → IsRun image s inputs slices r → RunsApart image s inputs trace r
+
+-- ---- the turns of a hart
+-- how many turns of a hart a slice is
+abbrev pub own_turns : ℕ → Slice → ℕ
+own_turns k (j, n) = if j == k then n else 0
+
+-- and all slices
+abbrev pub turns_for : ℕ → List Slice → ℕ
+turns_for k slices = sum_by (own_turns k) slices
+
+-- it took a step, or waited, in no more than the turns of its slices
+pub record HadTurns (k : ℕ) (slices : List Slice) (hart : Hart) : Type 0 where
+  pub own : hart.taken + hart.waits ≤ turns_for k slices
+  pub all : turns_for k slices ≤ turns_among slices
+
+-- so for the hart of each input
+abbrev pub OwnTurnsAreFew : Type 0
+OwnTurnsAreFew =
+    (image : Image) (s : State) (inputs : List (List ℕ)) (slices : List Slice) (r : Ran) → IsRun image s inputs slices r →
+    (k : ℕ) (input : List ℕ) → slice_get inputs k ≡ Some input → (hart : Hart) × (slice_get r.harts k ≡ Some hart) × HadTurns k slices hart
 
 -- ---- all harts
 -- however slots are chosen there is a run

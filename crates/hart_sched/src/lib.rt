@@ -8,8 +8,6 @@ mod line;
 mod number;
 mod schedule;
 mod seat;
-#[cfg(test)]
-mod tests;
 mod told;
 
 pub use cxa_runtime::End;
