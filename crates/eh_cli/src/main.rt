@@ -1,41 +1,17 @@
 //! The program: real files, standard output and standard error, and the top call over them.
 #![tactic(auto)]
 
-mod files;
-#[cfg(test)]
-mod given;
 mod modules;
-mod replace;
-mod streams;
-#[cfg(test)]
-mod tests;
-mod whole;
+
+ghost use Rattle.std.specs.Prelude.{◌≡◌, true, false};
+ghost use Rattle.eh_commands.specs.declared.status.Status.TheVariants.{Done, WriteFault};
 
 use eh_driver::{Status, ehc};
+use eh_host::{FileStore, StreamSink, words_of};
 use eh_outer::{Module, Once, Runs, Sink};
-use files::FileStore;
 use modules::{Script, scripts_of};
-use std::env;
-use std::io::{BufWriter, ErrorKind};
+use std::io::BufWriter;
 use std::process::ExitCode;
-use std::rt::Env;
-use streams::StreamSink;
-
-// The words behind the program's name; none where memory ran out. A word that is no UTF-8 is no command's, so there are no words then.
-fn words_of<R: Env + AllocGlobal>(rt: &R) -> Option<Vec<String>> {
-    let args = match env::args(rt) {
-        Ok(args) => args,
-        Err(e) if e.kind() == ErrorKind::InvalidData => return Some(Vec::new(rt.alloc())),
-        Err(_) => return None,
-    };
-    let mut words = Vec::new(rt.alloc());
-    for word in args.skip(1) {
-        if words.push(word).is_err() {
-            return None;
-        }
-    }
-    Some(words)
-}
 
 // Does what the words say, over real files and streams; none where memory ran out before that.
 fn done<Out: Sink, Er: Sink>(
@@ -59,7 +35,7 @@ fn done<Out: Sink, Er: Sink>(
             }
         }
     }
-    let mut store = FileStore::new(rt);
+    let mut store = FileStore::new(alloc, rt);
     Some(ehc(alloc, words, &mut store, out, err, modules))
 }
 
@@ -72,7 +48,11 @@ fn is_dump(words: &[String]) -> bool {
 }
 
 // The status after the last lines were written out, or could not be.
-fn finished<Er: Sink>(status: Status, written: bool, err: &mut Er) -> Status {
+fn finished<Er: Sink>(status: Status, written: bool, err: &mut Er) -> Status
+    ensures whole { written ≡ true → result ≡ status }
+    ensures other { (status ≡ Done → ⊥) → result ≡ status }
+    ensures cut { written ≡ false → status ≡ Done → result ≡ WriteFault }
+{
     if written || status != Status::Done {
         return status;
     }

@@ -5,7 +5,7 @@ use command_line::{Reply, WordsError, scripts};
 use std::alloc::{AllocError, Global};
 
 /// What a module replies: each reply once, or each so many times.
-#[derive(Debug, Drop)]
+#[derive(Drop)]
 pub enum Script {
     Once(Vec<Reply>),
     Runs(Vec<(Reply, u32)>),

@@ -1,7 +1,7 @@
 -- What came of reading, within a limit.
 use Rattle.std.specs.Prelude.{◌≡◌, ◌<◌, ◌≤◌, ℕ, List, length, Option, IfSome}
-use Rattle.eh_cli.specs.declared.whole.Got.{Got}
-use Rattle.eh_cli.specs.declared.whole.Got.TheVariants.{Whole, Long, Failed, NoMemory}
+use Rattle.eh_host.specs.declared.whole.Got.{Got}
+use Rattle.eh_host.specs.declared.whole.Got.TheVariants.{Whole, Long, Failed, NoMemory}
 
 -- all of the reader's bytes, where they are known, or more of them than the limit
 abbrev pub IsGot : ℕ → Option (List ℕ) → Got → Type 0

@@ -1,8 +1,8 @@
 use native.Mathlib.Omega.{arith}
 use Rattle.std.proofs.Common.{◌≡◌, ◌≤◌, ◌<◌, ◌++◌, length, subst, IfSome}
 use Rattle.std.specs.Io.Take.{take_limit, take_remaining}
-use Rattle.eh_cli.proofs.Reading.{all_read}
-use Rattle.eh_cli.proofs.whole.read_whole.Goals as goal
+use Rattle.eh_host.proofs.Reading.{all_read}
+use Rattle.eh_host.proofs.whole.read_whole.Goals as goal
 
 pub returns : goal.returns
 returns g c =

@@ -2,7 +2,7 @@
 ghost use Rattle.std.specs.Prelude.{OnOk};
 ghost use Rattle.std.specs.Io.KnownBytes.{Appends, Keeps};
 ghost use Rattle.eh_outer.specs.Sink.{Puts};
-ghost use Rattle.eh_cli.specs.Seen.{seen};
+ghost use Rattle.eh_host.specs.Seen.{seen};
 
 use crate::whole::write_whole;
 use eh_outer::{Sink, SinkError};

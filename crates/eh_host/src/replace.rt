@@ -8,7 +8,7 @@ use std::io::{self, ErrorKind};
 use std::rt::Files;
 
 // How many names are tried for a file beside: a call that was cut off may have left its own.
-const TRIES: u32 = 16;
+const TRIES: u32 = 64;
 
 // The new file and its name.
 #[derive(Drop)]
@@ -17,14 +17,23 @@ struct Beside<F: Drop> {
     name: String,
 }
 
-// A new file in the folder of the one of that name.
+// The folder of a name, with the stroke behind it.
+fn folder_of(name: &str) -> &str {
+    match name.rsplit_once('/') {
+        Some((folder, _)) => name.get(..folder.len().saturating_add(1)).unwrap_or(""),
+        None => "",
+    }
+}
+
+// A new file in the folder of the one of that name. Its own name is short, so that each name has room for one beside it.
 fn new_beside<R: Files>(
     files: &R,
     alloc: Global,
     name: &str,
 ) -> Result<Beside<R::File>, StoreError> {
+    let folder = folder_of(name);
     for number in 0..TRIES {
-        let beside = format!(in alloc; "{name}.ehc-{number}")?;
+        let beside = format!(in alloc; "{folder}.ehc-{number}")?;
         match File::create_new(files, beside.as_str()) {
             Ok(file) => return Ok(Beside { file, name: beside }),
             Err(e) if e.kind() == ErrorKind::AlreadyExists => {}

@@ -1,5 +1,5 @@
 // All of a reader up to a limit, and all of a piece to a writer.
-ghost use Rattle.eh_cli.specs.Got.{IsGot};
+ghost use Rattle.eh_host.specs.Got.{IsGot};
 ghost use Rattle.std.specs.Prelude.{IsTrue};
 ghost use Rattle.std.specs.Io.KnownBytes.{Appends};
 
@@ -7,7 +7,7 @@ use std::alloc::Global;
 use std::io::{ErrorKind, Read, Write};
 
 /// What came of reading a file.
-#[derive(Debug, Drop)]
+#[derive(Drop)]
 pub enum Got {
     Whole(Vec<u8>),
     /// So many bytes were seen, more than the limit.

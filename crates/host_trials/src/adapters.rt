@@ -1,9 +1,6 @@
 // The adapters over real files and writers, of which no clause tells the contents.
-use crate::files::FileStore;
 use crate::given::{FullDisk, Words};
-use crate::streams::StreamSink;
-use crate::{finished, words_of};
-use eh_driver::Status;
+use eh_host::{FileStore, StreamSink, words_of};
 use eh_outer::{Sink, SinkError, Store, StoreError};
 use std::io::{self, BufWriter, Write};
 use std::rt::Files;
@@ -35,7 +32,7 @@ fn adapters(rt: HostRuntime) -> Result<(), Fail> {
     let folder = folder.to_str().ok_or("the folder's name is no text")?;
     let here = format!(in alloc; "{folder}/ehc-adapters")?;
     let nowhere = format!(in alloc; "{folder}/ehc-no-folder/file")?;
-    let mut store = FileStore::new(&rt);
+    let mut store = FileStore::new(alloc, &rt);
     store.write_all(alloc, here.as_str(), b"old and long")?;
     store.write_all(alloc, here.as_str(), b"seven b")?;
     let read = store.read_all(alloc, here.as_str(), 7)?;
@@ -66,26 +63,58 @@ fn replaced_at_once(rt: HostRuntime) -> Result<(), Fail> {
     let alloc = rt.alloc();
     let folder = env::temp_dir(&rt)?;
     let folder = folder.to_str().ok_or("the folder's name is no text")?;
-    let here = format!(in alloc; "{folder}/ehc-replaced")?;
-    let mut store = FileStore::new(&rt);
-    store.write_all(alloc, here.as_str(), b"old")?;
-    for number in 0..16 {
-        let beside = format!(in alloc; "{here}.ehc-{number}")?;
+    let folder = format!(in alloc; "{folder}/ehc-replaced")?;
+    let here = format!(in alloc; "{folder}/here")?;
+    fs::create_dir(&rt, folder.as_str())?;
+    let mut written = FileStore::new(alloc, &rt);
+    written.write_all(alloc, here.as_str(), b"old")?;
+    for number in 0..64 {
+        let beside = format!(in alloc; "{folder}/.ehc-{number}")?;
         fs::write(&rt, beside.as_str(), b"taken".as_slice())?;
     }
-    let refused = store.write_all(alloc, here.as_str(), b"new");
+    let refused = written.write_all(alloc, here.as_str(), b"new");
     assert_eq!(rt; refused, Err(StoreError::Failed));
-    let kept = store.read_all(alloc, here.as_str(), 9)?;
+    let kept = FileStore::new(alloc, &rt).read_all(alloc, here.as_str(), 9)?;
     assert_eq!(rt; kept.as_slice(), b"old".as_slice());
-    for number in 0..16 {
-        let beside = format!(in alloc; "{here}.ehc-{number}")?;
+    for number in 0..64 {
+        let beside = format!(in alloc; "{folder}/.ehc-{number}")?;
         fs::remove_file(&rt, beside.as_str())?;
     }
-    store.write_all(alloc, here.as_str(), b"new")?;
-    let beside = format!(in alloc; "{here}.ehc-0")?;
-    let none = store.read_all(alloc, beside.as_str(), 9);
+    written.write_all(alloc, here.as_str(), b"new")?;
+    let beside = format!(in alloc; "{folder}/.ehc-0")?;
+    let none = FileStore::new(alloc, &rt).read_all(alloc, beside.as_str(), 9);
     assert_eq!(rt; none.err(), Some(StoreError::Failed));
-    fs::remove_file(&rt, here.as_str())?;
+    rt.remove_dir_all(alloc, folder.as_str())?;
+    Ok(())
+}
+
+// A file that was read is never written, under whatever name: through a link, by another path, or by another name of it.
+#[test]
+fn what_was_read_stays(rt: HostRuntime) -> Result<(), Fail> {
+    let alloc = rt.alloc();
+    let folder = env::temp_dir(&rt)?;
+    let folder = folder.to_str().ok_or("the folder's name is no text")?;
+    let here = format!(in alloc; "{folder}/ehc-source")?;
+    let link = format!(in alloc; "{folder}/ehc-source-link")?;
+    let other = format!(in alloc; "{folder}/ehc-source-other")?;
+    let apart = format!(in alloc; "{folder}/./ehc-source")?;
+    fs::write(&rt, here.as_str(), b"source".as_slice())?;
+    rt.symlink(here.as_str(), link.as_str())?;
+    fs::write(&rt, other.as_str(), b"other".as_slice())?;
+    let mut store = FileStore::new(alloc, &rt);
+    store.read_all(alloc, here.as_str(), 9)?;
+    for name in [here.as_str(), link.as_str(), apart.as_str()] {
+        let refused = store.write_all(alloc, name, b"image");
+        assert_eq!(rt; refused, Err(StoreError::Failed), "{name}");
+        let kept = fs::read(&rt, here.as_str())?;
+        assert_eq!(rt; kept.as_slice(), b"source".as_slice(), "{name}");
+    }
+    store.write_all(alloc, other.as_str(), b"image")?;
+    let stored = fs::read(&rt, other.as_str())?;
+    assert_eq!(rt; stored.as_slice(), b"image".as_slice());
+    for name in [here.as_str(), link.as_str(), other.as_str()] {
+        fs::remove_file(&rt, name)?;
+    }
     Ok(())
 }
 
@@ -97,13 +126,13 @@ fn a_full_disk(rt: HostRuntime) -> Result<(), Fail> {
     let folder = folder.to_str().ok_or("the folder's name is no text")?;
     let here = format!(in alloc; "{folder}/ehc-full")?;
     let link = format!(in alloc; "{folder}/ehc-full-link")?;
-    let beside = format!(in alloc; "{here}.ehc-0")?;
-    let mut files = FileStore::new(&rt);
-    files.write_all(alloc, here.as_str(), b"old")?;
+    let beside = format!(in alloc; "{folder}/.ehc-0")?;
+    let mut files = FileStore::new(alloc, &rt);
+    fs::write(&rt, here.as_str(), b"old".as_slice())?;
     rt.symlink(here.as_str(), link.as_str())?;
     for name in [here.as_str(), link.as_str()] {
         for room in 0..7 {
-            let mut full = FileStore::new(FullDisk { rt: &rt, room });
+            let mut full = FileStore::new(alloc, FullDisk { rt: &rt, room });
             let refused = full.write_all(alloc, name, b"new one");
             assert_eq!(rt; refused, Err(StoreError::Failed), "{name} {room}");
             let kept = files.read_all(alloc, here.as_str(), 9)?;
@@ -112,7 +141,7 @@ fn a_full_disk(rt: HostRuntime) -> Result<(), Fail> {
             assert_eq!(rt; none.err(), Some(StoreError::Failed), "{name} {room}");
         }
     }
-    let mut full = FileStore::new(FullDisk { rt: &rt, room: 7 });
+    let mut full = FileStore::new(alloc, FullDisk { rt: &rt, room: 7 });
     full.write_all(alloc, link.as_str(), b"new one")?;
     let kept = files.read_all(alloc, here.as_str(), 9)?;
     assert_eq!(rt; kept.as_slice(), b"new one".as_slice());
@@ -152,10 +181,5 @@ fn held_back(rt: HostRuntime) -> Result<(), Fail> {
         assert_eq!(rt; sink.put(b"abc"), Ok(()));
         assert_eq!(rt; sink.finish(), whole);
     }
-    let mut err = StreamSink::new(Narrow { room: 99 });
-    let cut = finished(Status::Done, false, &mut err);
-    assert_eq!(rt; cut, Status::WriteFault);
-    assert_eq!(rt; finished(Status::Done, true, &mut err), Status::Done);
-    assert_eq!(rt; finished(Status::Usage, false, &mut err), Status::Usage);
     Ok(())
 }
