@@ -1,6 +1,5 @@
 // Modules that note what is done to them: each call, each cleanup with its token, and the drop.
-use crate::compiled::{answered, holding as holding_source};
-use crate::outside::{Outside, answer_with, holding};
+use crate::outside::{Outside, answer_with, holding, image_of};
 use eh_driver::Status;
 use eh_outer::{Module, Once, Reply};
 use std::alloc::Global;
@@ -149,9 +148,7 @@ fn file_of(alloc: Global, command: &str, source: &str) -> Result<Vec<u8>, Fail> 
     if command != "exec" {
         return Ok(source.as_bytes().to_vec(alloc)?);
     }
-    let mut store = holding_source(alloc, source, b"", &[])?;
-    answered(alloc, &["compile", "SRC", "IMG"], &mut store)?;
-    Ok(store.file("IMG").unwrap_or(b"").to_vec(alloc)?)
+    image_of(alloc, source)
 }
 
 #[test]

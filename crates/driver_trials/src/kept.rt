@@ -1,6 +1,6 @@
 // Variables that live in registers, as `dump` shows them: behind the saves a row has the register of each, and where its frame keeps what the
 // register held.
-use crate::compiled::{answered, holding};
+use crate::outside::{answer, holding, image_of};
 use eh_driver::Status;
 use std::test::Fail;
 
@@ -24,18 +24,10 @@ fn has(text: &[u8], part: &[u8]) -> bool {
 fn rows_of_kept_variables(rt: HostRuntime) -> Result<(), Fail> {
     let alloc = rt.alloc();
     for (source, row) in ROWS.iter() {
-        let mut store = holding(alloc, source, b"", &[])?;
-        for (words, part) in [
-            (["compile", "SRC", "IMG"].as_slice(), ""),
-            (["dump", "IMG"].as_slice(), *row),
-        ] {
-            let seen = answered(alloc, words, &mut store)?;
-            assert_eq!(rt; seen.status, Status::Done, "{words:?} {source}");
-            assert!(rt;
-                has(seen.out.bytes(), part.as_bytes()),
-                "{words:?} {source}"
-            );
-        }
+        let image = image_of(alloc, source)?;
+        let seen = answer(alloc, &["dump", "SRC"], &holding(image.as_slice()))?;
+        assert_eq!(rt; seen.status, Status::Done, "{source}");
+        assert!(rt; has(seen.out.bytes(), row.as_bytes()), "{source}");
     }
     Ok(())
 }
