@@ -2,7 +2,7 @@
 use crate::image::{Code, Function};
 use crate::op::{Op, START};
 use crate::run::runs_as;
-use crate::{call_faults, table_faults, walk_faults};
+use crate::{call_faults, no_object, table_faults, walk_faults};
 use cxa_runtime::End;
 use rv64_isa::FaultKind;
 use std::alloc::{AllocError, Global};
@@ -43,6 +43,8 @@ fn wrong_among(
 #[test]
 fn of_an_object(rt: HostRuntime) -> Result<(), Fail> {
     let wrong = wrong_among(rt.alloc(), call_faults::rows(), FaultKind::Call)?;
+    assert_eq!(rt; wrong, None);
+    let wrong = wrong_among(rt.alloc(), no_object::rows(), FaultKind::Call)?;
     assert_eq!(rt; wrong, None);
     Ok(())
 }

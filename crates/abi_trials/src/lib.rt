@@ -14,7 +14,11 @@ mod image;
 #[cfg(test)]
 mod linked_runs;
 #[cfg(test)]
+mod no_object;
+#[cfg(test)]
 mod op;
+#[cfg(test)]
+mod plain_calls;
 #[cfg(test)]
 mod run;
 #[cfg(test)]

@@ -27,6 +27,15 @@ static TABLES: &[Row] = &[
         lines: "",
     },
     Row {
+        name: "a type record that is not aligned",
+        functions: &[Function {
+            ops: &[Op::Enter, Op::Make(1, INT + 4), Op::Runtime(5)],
+            sites: &[(2, 3, CATCHES_INT)],
+        }],
+        at: 0x44,
+        lines: "! make 1\n",
+    },
+    Row {
         name: "a type that is a base of its own",
         functions: &[Function {
             ops: &[Op::Enter, Op::Make(1, ENDLESS), Op::Runtime(5)],

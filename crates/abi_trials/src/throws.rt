@@ -1,5 +1,7 @@
 // Exceptions that leave functions.
-use crate::image::{CATCHES_ALL, CATCHES_INT, CLEANUP, Code, Function, INT, PRINTS};
+use crate::image::{
+    CATCHES_ALL, CATCHES_INT, CLEANUP, Code, DERIVED, Function, INT, OTHER, PRINTS,
+};
 use crate::op::Op;
 use crate::trials::Trial;
 use cxa_runtime::End;
@@ -142,6 +144,45 @@ static THROWS: &[Trial] = &[
                     sites: &[(2, 3, CLEANUP), (4, 0, None)],
                 },
             ],
+            stub: PRINTS,
+            list: &[],
+        },
+        lines: "! make 1\n! enter 1\n0\n",
+        end: End::Aborted,
+    },
+    Trial {
+        name: "a handler of the base catches",
+        code: Code {
+            functions: &[Function {
+                ops: &[
+                    Op::Enter,
+                    Op::Make(1, DERIVED),
+                    Op::Runtime(5),
+                    Op::Runtime(6),
+                    Op::Show,
+                    Op::Leave,
+                    Op::With(0, 0),
+                ],
+                sites: &[(2, 3, CATCHES_INT)],
+            }],
+            stub: PRINTS,
+            list: &[],
+        },
+        lines: "! make 1\n! enter 1\n1\n! leave 1\n! destroy 1\n! free 1\n",
+        end: End::Exit(0),
+    },
+    Trial {
+        name: "a type that no handler takes",
+        code: Code {
+            functions: &[Function {
+                ops: &[
+                    Op::Enter,
+                    Op::Make(1, OTHER),
+                    Op::Runtime(5),
+                    Op::Runtime(16),
+                ],
+                sites: &[(2, 3, CATCHES_INT)],
+            }],
             stub: PRINTS,
             list: &[],
         },

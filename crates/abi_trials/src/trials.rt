@@ -1,7 +1,7 @@
 // Runs that come to their end.
 use crate::image::Code;
 use crate::run::runs_as;
-use crate::{handlers, specifications, terminates, throws, unwinds};
+use crate::{handlers, plain_calls, specifications, terminates, throws, unwinds};
 use cxa_runtime::End;
 use std::alloc::{AllocError, Global};
 use std::test::Fail;
@@ -51,5 +51,11 @@ fn calls_of_terminate(rt: HostRuntime) -> Result<(), Fail> {
 #[test]
 fn what_a_list_says(rt: HostRuntime) -> Result<(), Fail> {
     assert_eq!(rt; wrong_among(rt.alloc(), specifications::rows())?, None);
+    Ok(())
+}
+
+#[test]
+fn without_an_exception(rt: HostRuntime) -> Result<(), Fail> {
+    assert_eq!(rt; wrong_among(rt.alloc(), plain_calls::rows())?, None);
     Ok(())
 }

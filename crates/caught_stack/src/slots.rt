@@ -11,7 +11,7 @@ use std::marker::Model;
 pub const SLOTS: usize = 1024;
 
 /// A stack of slots, the newest first, with room for all of them.
-#[derive(Debug, Drop)]
+#[derive(Drop)]
 pub struct SlotStack {
     pushed: Vec<u32>,
 }

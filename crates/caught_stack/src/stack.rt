@@ -17,7 +17,7 @@ use std::marker::Model;
 /// The exceptions of a thread: 1,024 slots for headers, the stack of those that are caught, and how many are uncaught.
 ///
 /// After `new` no call takes memory, and each takes the same time however many exceptions are live or caught.
-#[derive(Debug, Drop)]
+#[derive(Drop)]
 pub struct CaughtStack {
     nodes: HeaderNodes,
     vacant: SlotStack,

@@ -30,7 +30,7 @@ pub enum Verb {
 }
 
 /// A command: what is done, with which names, and how.
-#[derive(Debug, Drop)]
+#[derive(Drop)]
 pub struct Command {
     pub verb: Verb,
     /// The names that it is given, in order, or the number that is the size of a source.

@@ -16,7 +16,7 @@ use clap::ArgMatches;
 use std::alloc::{AllocError, Global};
 
 /// The operands, and the values of each option, in order.
-#[derive(Debug, Drop)]
+#[derive(Drop)]
 pub struct Found {
     pub operands: Vec<String>,
     pub inputs: Vec<String>,

@@ -11,8 +11,6 @@ mod parted;
 mod reader;
 mod script;
 mod setting;
-#[cfg(test)]
-mod tests;
 
 pub use command::{Command, Verb};
 pub use eh_outer::Reply;

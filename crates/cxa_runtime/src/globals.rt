@@ -20,7 +20,7 @@ use std::alloc::Global;
 use std::marker::Model;
 
 /// The caught stack of the thread (`__cxa_eh_globals`) with its exception objects.
-#[derive(Debug, Drop)]
+#[derive(Drop)]
 pub struct Globals {
     stack: CaughtStack,
 }

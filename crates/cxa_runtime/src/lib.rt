@@ -37,6 +37,3 @@ pub use effect::{End, Turn};
 pub use laws::foreign_exceptions_are_cleaned_once;
 pub use runtime::Runtime;
 pub use std::alloc::AllocError as NoMemory;
-
-#[cfg(test)]
-mod tests;

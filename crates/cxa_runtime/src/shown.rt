@@ -6,7 +6,7 @@ use run_items::Item;
 use std::marker::Model;
 
 /// Up to two items: no runtime call shows more.
-#[derive(Debug, Drop)]
+#[derive(Drop)]
 pub struct Shown {
     first: Option<Item>,
     second: Option<Item>,

@@ -4,7 +4,7 @@ ghost use Rattle.eh_bytes.specs.Extent.{AreApart, AreInRange, extents_of};
 /// A range of memory, where its bytes lie in a file, and what it allows besides reading.
 ///
 /// `bytes` holds the whole memory size, with zeros behind the bytes of the file.
-#[derive(Debug, Drop)]
+#[derive(Drop)]
 pub struct Segment {
     pub address: u64,
     pub bytes: Vec<u8>,
@@ -14,7 +14,7 @@ pub struct Segment {
 }
 
 /// Segments that do not overlap, and end at or below 2^64.
-#[derive(Debug, Drop)]
+#[derive(Drop)]
 pub struct Segments {
     pub parts: Vec<Segment>,
     pub ghost apart: { AreApart (extents_of parts.items) },

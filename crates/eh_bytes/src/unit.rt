@@ -5,7 +5,7 @@ use crate::table::LsdaList;
 
 /// A type record: its kind (1 int, 2 class, 3 `std::bad_exception`), its name, and the number of
 /// the row of its direct base.
-#[derive(Debug, Drop)]
+#[derive(Drop)]
 pub struct TypeRow {
     pub kind: u32,
     pub name: RowName,
@@ -14,7 +14,7 @@ pub struct TypeRow {
 
 /// The words of a unit's functions, its type records, the values of its globals, and the number
 /// of tokens of its source.
-#[derive(Debug, Drop)]
+#[derive(Drop)]
 pub struct Emitted {
     pub code: Vec<u32>,
     pub functions: Vec<EmittedFunc>,
@@ -27,7 +27,7 @@ pub struct Emitted {
 ///
 /// The places of `table` and the locations of `moves` count from the function's first byte. A type
 /// of `table` is 0 for `catch (...)`, else one more than the number of its row in the unit's types.
-#[derive(Debug, Drop)]
+#[derive(Drop)]
 pub struct EmittedFunc {
     pub name: RowName,
     pub first: u32,

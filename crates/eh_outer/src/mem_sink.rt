@@ -9,7 +9,7 @@ use std::alloc::Global;
 use std::marker::Model;
 
 /// Bytes in memory, up to a number that is reserved.
-#[derive(Debug, Drop)]
+#[derive(Drop)]
 pub struct MemSink {
     bytes: Vec<u8>,
     room: usize,
@@ -75,28 +75,5 @@ impl Sink for MemSink {
             Ok(()) => Ok(()),
             Err(_) => unreachable!(),
         }
-    }
-}
-
-#[cfg(test)]
-mod tests {
-    use super::*;
-    use std::test::Fail;
-
-    #[test]
-    fn takes_what_has_room(rt: HostRuntime) -> Result<(), Fail> {
-        let alloc = rt.alloc();
-        let mut sink = MemSink::new(alloc, 4, [2].to_vec(alloc)?)?;
-        let cases = [
-            (b"ab".as_slice(), Ok(()), b"ab".as_slice()),
-            (b"c".as_slice(), Err(SinkError::Failed), b"ab".as_slice()),
-            (b"cde".as_slice(), Err(SinkError::Failed), b"ab".as_slice()),
-            (b"cd".as_slice(), Ok(()), b"abcd".as_slice()),
-        ];
-        for (piece, want, bytes) in cases {
-            assert_eq!(rt; sink.put(piece), want);
-            assert_eq!(rt; sink.bytes(), bytes);
-        }
-        Ok(())
     }
 }

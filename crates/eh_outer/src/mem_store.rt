@@ -11,7 +11,7 @@ use std::alloc::Global;
 use std::marker::Model;
 
 /// Files in memory, of which the first of each name counts.
-#[derive(Debug, Drop)]
+#[derive(Drop)]
 pub struct MemStore {
     files: Vec<(String, Vec<u8>)>,
     schedule: Schedule,
@@ -107,39 +107,6 @@ impl Store for MemStore {
             return Err(StoreError::Failed);
         }
         self.files.insert(0, (asked, bytes.to_vec(alloc)?))?;
-        Ok(())
-    }
-}
-
-#[cfg(test)]
-mod tests {
-    use super::*;
-    use std::test::Fail;
-
-    #[test]
-    fn reads_and_writes(rt: HostRuntime) -> Result<(), Fail> {
-        let alloc = rt.alloc();
-        let mut files = Vec::new(alloc);
-        files.push((String::from_str(alloc, "a")?, b"four".to_vec(alloc)?))?;
-        let mut store = MemStore::new(files, [3].to_vec(alloc)?);
-        let cases = [
-            ("a", 4, Ok(b"four".as_slice())),
-            ("a", 3, Err(StoreError::TooLong(4))),
-            ("a", 4, Err(StoreError::Failed)),
-            ("b", 4, Err(StoreError::Failed)),
-            ("a", 4, Ok(b"four".as_slice())),
-        ];
-        for (name, limit, want) in cases {
-            let got = store.read_all(alloc, name, limit);
-            assert_eq!(rt;
-                got.as_ref().map(|bytes| bytes.as_slice()),
-                want.as_ref().map(|bytes| *bytes),
-                "{name} {limit}"
-            );
-        }
-        store.write_all(alloc, "a", b"new")?;
-        assert_eq!(rt; store.file("a"), Some(b"new".as_slice()));
-        assert_eq!(rt; store.file("b"), None);
         Ok(())
     }
 }

@@ -10,7 +10,7 @@ use std::alloc::Global;
 use std::marker::Model;
 
 /// Replies in memory, each given once, and the tokens cleaned.
-#[derive(Debug, Drop)]
+#[derive(Drop)]
 pub struct Once {
     replies: Vec<Reply>,
     given: usize,
@@ -84,26 +84,5 @@ impl Module for Once {
 
     fn cleanup(&mut self, token: u32) {
         self.tokens.keep(token);
-    }
-}
-
-#[cfg(test)]
-mod tests {
-    use super::*;
-    use std::test::Fail;
-
-    #[test]
-    fn gives_each_reply_once(rt: HostRuntime) -> Result<(), Fail> {
-        let alloc = rt.alloc();
-        let replies = [Reply::Raise(7), Reply::Value(-5)];
-        let mut once = Once::new(alloc, replies.to_vec(alloc)?)?;
-        for want in [replies[0], replies[1], Reply::Value(0), Reply::Value(0)] {
-            assert_eq!(rt; once.call(9), want);
-        }
-        for token in [7, 8] {
-            once.cleanup(token);
-            assert_eq!(rt; once.tokens.as_slice(), [7].as_slice());
-        }
-        Ok(())
     }
 }

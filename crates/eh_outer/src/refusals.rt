@@ -6,7 +6,7 @@ use crate::RefusalKind;
 use std::marker::Model;
 
 /// A refusal that a store keeps: its kind, and the name that was asked for.
-#[derive(Debug, Drop)]
+#[derive(Drop)]
 pub struct Refusal {
     kind: RefusalKind,
     name: String,
@@ -22,7 +22,7 @@ impl Model for Refusal {
 }
 
 /// How many calls a store has refused, and the last of them.
-#[derive(Debug, Drop)]
+#[derive(Drop)]
 pub struct Refusals {
     count: u64,
     last: Option<Refusal>,

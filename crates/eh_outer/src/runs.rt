@@ -13,7 +13,7 @@ use std::marker::Model;
 const MOST_TOKENS: usize = 1_000_000;
 
 /// Runs of replies in memory, and the tokens cleaned.
-#[derive(Debug, Drop)]
+#[derive(Drop)]
 pub struct Runs {
     runs: Vec<(Reply, u32)>,
     // How many runs were begun, the reply of the last of them, and how often it is still to come.
@@ -99,39 +99,5 @@ impl Module for Runs {
 
     fn cleanup(&mut self, token: u32) {
         self.tokens.keep(token);
-    }
-}
-
-#[cfg(test)]
-mod tests {
-    use super::*;
-    use std::test::Fail;
-
-    #[test]
-    fn gives_each_reply_so_often(rt: HostRuntime) -> Result<(), Fail> {
-        let alloc = rt.alloc();
-        let runs = [
-            (Reply::Value(5), 1),
-            (Reply::Raise(9), 0),
-            (Reply::Raise(7), 2),
-        ];
-        let mut module = Runs::new(alloc, runs.to_vec(alloc)?)?;
-        for want in [
-            Reply::Value(5),
-            Reply::Raise(7),
-            Reply::Raise(7),
-            Reply::Value(0),
-        ] {
-            assert_eq!(rt; module.call(9), want);
-        }
-        for (token, want) in [
-            (7, [7].as_slice()),
-            (8, [7, 8].as_slice()),
-            (9, [7, 8].as_slice()),
-        ] {
-            module.cleanup(token);
-            assert_eq!(rt; module.tokens.as_slice(), want);
-        }
-        Ok(())
     }
 }

@@ -3,7 +3,7 @@ ghost use Rattle.std.specs.Prelude.{◌≡◌};
 ghost use Rattle.eh_outer.specs.Schedule.{next_fails, one_more};
 
 /// The numbers of the calls that fail, counted from 1, and how many calls were made.
-#[derive(Debug, Drop)]
+#[derive(Drop)]
 pub struct Schedule {
     pub fails: Vec<u64>,
     pub calls: u64,

@@ -19,7 +19,7 @@ use std::alloc::{AllocError, Global};
 use table_forms::{Reason, Refusal, joined, unless};
 
 /// An image: where it begins, its memory, and what it names.
-#[derive(Debug, Drop)]
+#[derive(Drop)]
 pub struct Elf {
     pub entry: u64,
     pub segments: Segments,

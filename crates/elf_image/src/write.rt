@@ -13,7 +13,7 @@ use std::alloc::{AllocError, Global};
 
 /// What an image is to hold: where it begins, its memory, the address of the frames' header, and
 /// what the runtime is told. Where the segments stand in a file is not read.
-#[derive(Debug, Drop)]
+#[derive(Drop)]
 pub struct ImageParts {
     pub entry: u64,
     pub segments: Segments,

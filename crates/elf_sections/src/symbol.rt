@@ -10,7 +10,7 @@ use std::alloc::AllocError;
 
 /// A global symbol: its name, the section in which it lies, its address and its size in bytes. In code it is a function,
 /// and elsewhere data.
-#[derive(Debug, Drop)]
+#[derive(Drop)]
 pub struct Symbol {
     pub name: RowName,
     pub section: SectionKind,

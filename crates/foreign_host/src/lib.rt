@@ -4,7 +4,5 @@
 #![tactic(auto)]
 
 mod host;
-#[cfg(test)]
-mod tests;
 
 pub use host::{Host, NoModule};

@@ -13,7 +13,7 @@ fn header(number: u64) -> Header {
 }
 
 // A call, and what it answers; false where its condition does not hold, and it is not made.
-#[derive(Clone, Copy, Debug)]
+#[derive(Clone, Copy)]
 enum Call {
     Raise,
     Begin(u32),
@@ -22,7 +22,7 @@ enum Call {
     Free(u32),
 }
 
-#[derive(Clone, Copy, Debug, PartialEq, Eq)]
+#[derive(Clone, Copy, PartialEq, Eq)]
 enum Answer {
     Made(bool),
     Rethrown(Option<u32>),

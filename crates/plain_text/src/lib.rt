@@ -3,8 +3,6 @@
 
 mod decimal;
 mod lines;
-#[cfg(test)]
-mod tests;
 
 pub use decimal::{int_of, is_decimal, number_of, up_to};
 pub use lines::line_length;

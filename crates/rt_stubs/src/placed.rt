@@ -2,7 +2,7 @@
 use eh_bytes::Emitted;
 
 /// The runtime's own functions, and the address of the first word of each.
-#[derive(Debug, Drop)]
+#[derive(Drop)]
 pub struct Stubs {
     pub emitted: Emitted,
     pub start: u64,

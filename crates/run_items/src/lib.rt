@@ -5,8 +5,6 @@
 
 mod item;
 mod line;
-#[cfg(test)]
-mod tests;
 
 pub use item::Item;
 pub use line::{Text, is_printed, put_item, text_of};

@@ -5,7 +5,7 @@ use crate::registers::{Register, Shift5, Shift6};
 /// An instruction of RV64I or the M extension (RISC-V unprivileged ISA, volume I, "RV32/64G
 /// Instruction Set Listings"). Its fields are rd, rs1 and rs2, as far as it has them, and then the
 /// immediate, the distance or the shift amount.
-#[derive(Clone, Copy, Debug, PartialEq, Eq)]
+#[derive(Clone, Copy)]
 pub enum Instr {
     // RV64I: upper immediates and jumps.
     Lui(Register, Immediate20),

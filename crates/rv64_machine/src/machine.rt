@@ -27,7 +27,7 @@ use std::marker::Model;
 /// machine.set_pc(0x1_0000);
 /// while machine.step() == Step::Done {}
 /// ```
-#[derive(Debug, Drop)]
+#[derive(Drop)]
 pub struct Machine {
     pc: u64,
     regs: [u64; 32],

@@ -32,7 +32,7 @@ pub struct Access {
 ///
 /// It remembers which segment served the last fetch, and the last load or store that was outside
 /// slots and stack.
-#[derive(Debug, Drop)]
+#[derive(Drop)]
 pub struct Memory {
     segments: Segments,
     slots: Slots,

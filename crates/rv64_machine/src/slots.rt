@@ -22,7 +22,7 @@ const SIZE: usize = 0x40_0000;
 /// 4 MiB at 0x60000000, of which the first bytes were touched; those behind are 0.
 ///
 /// All memory is taken at the beginning. The touched bytes grow with the places that are written.
-#[derive(Debug, Drop)]
+#[derive(Drop)]
 pub struct Slots {
     bytes: Vec<u8>,
 }

@@ -24,7 +24,7 @@ const SIZE: usize = 0x100_0000;
 ///
 /// A stack grows downward, so the byte of the highest address is the first. All memory is taken at
 /// the beginning; the touched bytes grow with the places that are written.
-#[derive(Debug, Drop)]
+#[derive(Drop)]
 pub struct Stack {
     bytes: Vec<u8>,
 }

@@ -19,6 +19,10 @@ mod made_frames;
 #[cfg(test)]
 mod packed;
 #[cfg(test)]
+mod packed_images;
+#[cfg(test)]
+mod packed_table;
+#[cfg(test)]
 mod produced;
 #[cfg(test)]
 mod rows;
