@@ -33,6 +33,13 @@ def run(command, **how):
     return done.stdout
 
 
+def program():
+    """The program that `./ehc` runs."""
+    subprocess.run([TOP / "ehc"], capture_output=True)
+    chosen = TOP / "out/chosen"
+    return TOP / (chosen.read_text().strip() if chosen.exists() else "shipped/ehc")
+
+
 def crates_below(names):
     """The lines of crates.txt of these crates and of all that they stand on."""
     lines = [line for line in (TOP / "crates.txt").read_text().splitlines() if ":" in line and not line.startswith("#")]

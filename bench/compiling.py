@@ -15,8 +15,10 @@ import subprocess
 import sys
 import tempfile
 
+from building import program
+
 TOP = pathlib.Path(__file__).resolve().parent.parent
-EHC = TOP / "crates/eh_cli/out/eh_cli"
+EHC = program()
 RUNS = 5
 LENGTHS = [250, 500, 1000, 2000]
 ROUNDS = 10_000

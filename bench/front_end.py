@@ -12,6 +12,8 @@ import subprocess
 import sys
 import tempfile
 
+from building import program
+
 TOP = pathlib.Path(__file__).resolve().parent.parent
 RUNS = 3
 SIZES = [8_192, 16_384, 32_768, 65_536]
@@ -130,7 +132,7 @@ def processor_seconds(command):
 def main():
     if subprocess.run([TOP / "ehc", "run", TOP / "examples/smallest.cc"], stdout=subprocess.DEVNULL).returncode:
         sys.exit("ehc could not be built")
-    ehc = [TOP / "crates/eh_cli/out/eh_cli", "mean", "--max=1"]
+    ehc = [program(), "mean", "--max=1"]
     with tempfile.TemporaryDirectory() as folder:
         folder = pathlib.Path(folder)
         (folder / "names.h").write_text("void write_int(int);\n")

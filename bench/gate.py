@@ -1,5 +1,6 @@
 #!/usr/bin/env python3
-"""What the gate costs, by crate: `gate.py [NAME..]` runs `rt ci NAME..` at the top and adds up the processor time of each proof, test and edit.
+"""What the gate costs, by crate: `gate.py [NAME..]` runs `rt ci NAME..` at the top and adds up the processor time of each proof, of tests, of edits, and of
+the proof that several edits of one crate begin with. `gate.py --anew --write` proves all, whatever is kept, and puts the table into README.md, which has its place between two marks.
 
 What this machine has kept is not proved again and costs nothing, so a figure of the whole needs a machine that has kept nothing. The prover's
 processes are looked at every two seconds; what ends between two looks is counted up to the last of them. Other provers on the machine are not counted.
@@ -14,7 +15,9 @@ import time
 from building import TOP
 
 TICK = os.sysconf("SC_CLK_TCK")
-KINDS = ("proof", "tests", "edits")
+KINDS = ("proof", "tests", "seeds", "edits")
+README = TOP / "bench/README.md"
+MARKS = "<!-- the gate, by crate -->\n", "<!-- up to here -->\n"
 
 
 def processes(session):
@@ -34,7 +37,9 @@ def processes(session):
 
 
 def kind_of(command, folder):
-    if "rt-edit" in folder:
+    if "rt-edits-" in folder:
+        return "seeds"
+    if "rt-edit-" in folder:
         return "edits"
     return "tests" if "--test" in command else "proof"
 
@@ -58,20 +63,38 @@ class Watch(threading.Thread):
                 self.last[key] = seconds
 
 
+def table(costs, minutes):
+    """The lines of a table, the dearest crate first."""
+    yield f"{'crate':24}" + "".join(f"{kind:>9}" for kind in KINDS) + "   processor seconds"
+    for crate, found in sorted(costs.items(), key=lambda it: -sum(it[1].values())):
+        yield f"{crate:24}" + "".join(f"{found[kind]:9.0f}" for kind in KINDS)
+    sums = [sum(found[kind] for found in costs.values()) for kind in KINDS]
+    yield f"{'in all':24}" + "".join(f"{it:9.0f}" for it in sums) + f"   {sum(sums) / 60:.0f} processor minutes, {minutes:.0f} minutes on {os.cpu_count()} processors"
+
+
+def write(lines):
+    """Puts the lines into README.md, between the marks."""
+    text = README.read_text()
+    before, _, rest = text.partition(MARKS[0])
+    _, _, behind = rest.partition(MARKS[1])
+    block = "\n".join(lines)
+    README.write_text(f"{before}{MARKS[0]}```\n{block}\n```\n{MARKS[1]}{behind}")
+
+
 def main():
     begun = time.monotonic()
-    gate = subprocess.Popen(["rt", "ci", *sys.argv[1:]], cwd=TOP, start_new_session=True)
+    names = [it for it in sys.argv[1:] if it != "--write"]
+    gate = subprocess.Popen(["rt", "ci", *names], cwd=TOP, start_new_session=True)
     watch = Watch(gate.pid)
     watch.start()
     status = gate.wait()
     whole = time.monotonic() - begun
     watch.stopped.set()
     watch.join()
-    print(f"\n{'crate':24}{'proof':>9}{'tests':>9}{'edits':>9}   processor seconds")
-    for crate, costs in sorted(watch.costs.items(), key=lambda it: -sum(it[1].values())):
-        print(f"{crate:24}" + "".join(f"{costs[kind]:9.0f}" for kind in KINDS))
-    sums = [sum(costs[kind] for costs in watch.costs.values()) for kind in KINDS]
-    print(f"{'in all':24}" + "".join(f"{it:9.0f}" for it in sums) + f"   {whole / 60:.1f} minutes on {os.cpu_count()} processors")
+    lines = list(table(watch.costs, whole / 60))
+    print("\n" + "\n".join(lines))
+    if "--write" in sys.argv and not status and all(it.startswith("--") for it in names):
+        write(lines)
     return status
 
 

@@ -11,10 +11,10 @@ import subprocess
 import sys
 import tempfile
 
-from building import TOP, run
+from building import TOP, program, run
 from worst_files import IMAGES, SOURCES
 
-EHC = TOP / "crates/eh_cli/out/eh_cli"
+EHC = program()
 LEAST, MOST, MOST_OF_SOURCE = 1 << 12, 1 << 22, 1 << 20
 LONG, SECONDS, MEMORY = 5.0, 20, 4 << 30
 

@@ -14,7 +14,7 @@ import sys
 import tempfile
 import time
 
-from building import run
+from building import program, run
 
 TOP = pathlib.Path(__file__).resolve().parent.parent
 CROSS, RUNS, SIZES = "riscv64-linux-gnu-", 7, [500, 4_000]
@@ -87,7 +87,7 @@ def main():
     built = subprocess.run([TOP / "ehc", "run", TOP / "examples/smallest.cc"], stdout=subprocess.DEVNULL)
     if built.returncode:
         sys.exit("ehc could not be built")
-    ehc = TOP / "crates/eh_cli/out/eh_cli"
+    ehc = program()
     print(f"{'image':>9}{'frames':>9}  {'command':34}{'least ms':>10}{'MB/s':>9}")
     with tempfile.TemporaryDirectory() as folder:
         for functions in SIZES:

@@ -13,6 +13,8 @@ import subprocess
 import sys
 import tempfile
 
+from building import program
+
 TOP = pathlib.Path(__file__).resolve().parent.parent
 RUNS = 3
 TURNS = [1_250_000, 2_500_000, 5_000_000, 10_000_000]
@@ -59,7 +61,7 @@ def least(command, wanted):
 def meant(folder, text):
     source = folder / "source.cc"
     source.write_text(text)
-    return least([TOP / "crates/eh_cli/out/eh_cli", "mean", f"--max={2**40}", source], b"= exit 0\n")
+    return least([program(), "mean", f"--max={2**40}", source], b"= exit 0\n")
 
 
 def compiled(folder, text):

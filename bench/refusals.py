@@ -13,9 +13,9 @@ import subprocess
 import sys
 import tempfile
 
-from building import TOP, run
+from building import TOP, program, run
 
-EHC = TOP / "crates/eh_cli/out/eh_cli"
+EHC = program()
 KINDS, MOST = ["alloc", "io", "file", "short", "again"], 20_000
 SOURCES = {
     "SRC": b"int main() { write_int(5); return 3; }",

@@ -14,9 +14,9 @@ import subprocess
 import sys
 import tempfile
 
-from building import TOP, run
+from building import TOP, program, run
 
-EHC = TOP / "crates/eh_cli/out/eh_cli"
+EHC = program()
 NUMBERS = {"ra": 1, "s1": 9, **{f"s{n}": 16 + n for n in range(2, 12)}}
 TOOLS = ["readelf", "llvm-dwarfdump", "llvm-objdump", "gdb", "c++filt"]
 OWN = ["_start", "_ZN10__cxxabiv111__terminateEPFvvE", "__cxa_end_catch", "__cxa_call_unexpected"]

@@ -11,6 +11,8 @@ import subprocess
 import sys
 import tempfile
 
+from building import program
+
 HERE = pathlib.Path(__file__).resolve().parent
 TOP = HERE.parent
 CALLS = 398
@@ -59,7 +61,7 @@ def main():
     built = subprocess.run([TOP / "ehc", "run", TOP / "examples/smallest.cc"], stdout=subprocess.DEVNULL)
     if built.returncode:
         sys.exit("ehc could not be built")
-    ehc = TOP / "crates/eh_cli/out/eh_cli"
+    ehc = program()
     print(f"{'source':16}{'program':10}{'median ms':>12}{'least ms':>12}{'peak MiB':>12}")
     with tempfile.TemporaryDirectory() as folder:
         folder = pathlib.Path(folder)
