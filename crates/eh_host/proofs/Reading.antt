@@ -1,5 +1,5 @@
 -- What the bytes that a reader gave say of all that it had.
-use Rattle.std.proofs.Common.{◌≡◌, ℕ, ◌<◌, ◌≤◌, ◌++◌, [], min, length, take, List, None, Some, IfSome, ◌∙◌, sym, ap, subst}
+use Rattle.std.proofs.Common.{◌≡◌, ℕ, ◌<◌, min, length, take, List, None, Some, IfSome, ◌∙◌, ap, subst}
 use native.Mathlib.Omega.{arith}
 use Rattle.std.specs.Prelude.{Option}
 use Rattle.std.specs.Option.{option_map}

@@ -1,33 +1,14 @@
 // A store over the files of the system, of which nothing is told. A file that was read through it is never written.
 ghost use Rattle.std.specs.Prelude.{◌≡◌, None};
 
+use crate::beside::Exclusive;
+use crate::identity::Identity;
 use crate::replace::write_file;
 use crate::whole::{Got, read_whole};
 use eh_outer::{RefusalKind, Refusals, Store, StoreError};
 use std::alloc::{AllocError, Global};
-use std::fs::{self, Metadata, OpenFile};
-use std::os::unix::fs::MetadataExt;
+use std::fs::{self, OpenFile};
 use std::rt::Files;
-
-// What names a file whatever its path is: its device, and its number there (POSIX, `sys/stat.h`).
-#[derive(Clone, Copy)]
-struct Identity {
-    device: u64,
-    number: u64,
-}
-
-impl Identity {
-    fn of(file: &Metadata) -> Identity {
-        Identity {
-            device: file.dev(),
-            number: file.ino(),
-        }
-    }
-
-    fn is(&self, other: &Identity) -> bool {
-        self.device == other.device && self.number == other.number
-    }
-}
 
 /// The files of the system. What was read is known, so that no image takes the place of its own source.
 #[derive(Drop)]
@@ -69,7 +50,10 @@ impl<R: Files + Drop> FileStore<R> {
     }
 }
 
-impl<R: Files + Drop> Store for FileStore<R> {
+impl<R: Files + Drop> Store for FileStore<R>
+where
+    R::File: Exclusive,
+{
     ghost view = { λ s. record { files = None; faults = s.refusals.count; last = s.refusals.last } };
 
     // The name is copied first, so that a refusal can always be kept.

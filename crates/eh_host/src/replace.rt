@@ -1,47 +1,12 @@
 // Bytes under a name, in place of those that were there: all of them, or none.
 
+use crate::beside::{Exclusive, new_beside};
 use crate::whole::write_whole;
 use eh_outer::StoreError;
 use std::alloc::Global;
-use std::fs::{self, File, Metadata};
+use std::fs::{self, Metadata};
 use std::io::{self, ErrorKind};
 use std::rt::Files;
-
-// How many names are tried for a file beside: a call that was cut off may have left its own.
-const TRIES: u32 = 64;
-
-// The new file and its name.
-#[derive(Drop)]
-struct Beside<F: Drop> {
-    file: F,
-    name: String,
-}
-
-// The folder of a name, with the stroke behind it.
-fn folder_of(name: &str) -> &str {
-    match name.rsplit_once('/') {
-        Some((folder, _)) => name.get(..folder.len().saturating_add(1)).unwrap_or(""),
-        None => "",
-    }
-}
-
-// A new file in the folder of the one of that name. Its own name is short, so that each name has room for one beside it.
-fn new_beside<R: Files>(
-    files: &R,
-    alloc: Global,
-    name: &str,
-) -> Result<Beside<R::File>, StoreError> {
-    let folder = folder_of(name);
-    for number in 0..TRIES {
-        let beside = format!(in alloc; "{folder}.ehc-{number}")?;
-        match File::create_new(files, beside.as_str()) {
-            Ok(file) => return Ok(Beside { file, name: beside }),
-            Err(e) if e.kind() == ErrorKind::AlreadyExists => {}
-            Err(_) => return Err(StoreError::Failed),
-        }
-    }
-    Err(StoreError::Failed)
-}
 
 // Gives the new file the permissions of the one that was there, and puts it in its place.
 fn put_in_place<R: Files>(
@@ -64,7 +29,10 @@ fn replace<R: Files>(
     name: &str,
     there: Option<Metadata>,
     bytes: &[u8],
-) -> Result<(), StoreError> {
+) -> Result<(), StoreError>
+where
+    R::File: Exclusive,
+{
     let mut beside = new_beside(files, alloc, name)?;
     let done = write_whole(&mut beside.file, bytes)
         && put_in_place(files, beside.name.as_str(), name, there).is_ok();
@@ -93,7 +61,10 @@ fn write_behind<R: Files>(
     alloc: Global,
     name: &str,
     bytes: &[u8],
-) -> Result<(), StoreError> {
+) -> Result<(), StoreError>
+where
+    R::File: Exclusive,
+{
     let there = match files.metadata(name) {
         Ok(there) if there.is_file() => there,
         _ => return write_through(files, name, bytes),
@@ -115,7 +86,10 @@ pub fn write_file<R: Files>(
     alloc: Global,
     name: &str,
     bytes: &[u8],
-) -> Result<(), StoreError> {
+) -> Result<(), StoreError>
+where
+    R::File: Exclusive,
+{
     match files.symlink_metadata(name) {
         Ok(there) if there.is_file() => replace(files, alloc, name, Some(there), bytes),
         Ok(_) => write_behind(files, alloc, name, bytes),

@@ -1,4 +1,4 @@
-// A sink over a writer, of which nothing is told.
+// A sink over a writer, which tells what the writer holds, where the library knows that.
 ghost use Rattle.std.specs.Prelude.{OnOk};
 ghost use Rattle.std.specs.Io.KnownBytes.{Appends, Keeps};
 ghost use Rattle.eh_outer.specs.Sink.{Puts};
@@ -34,10 +34,10 @@ impl<W: Write + Drop> StreamSink<W> {
 }
 
 impl<W: Write + Drop> Sink for StreamSink<W> {
-    ghost view = { λ s. seen s.faults s.wanted };
+    ghost view = { λ s. seen (W.contents s.writer) s.faults s.wanted };
 
     fn put(&mut self, piece: &[u8]) -> Result<(), SinkError>
-        ensures told { Puts piece.now (seen self.old.faults self.old.wanted) (seen self.new.faults self.new.wanted) result }
+        ensures told { Puts piece.now (seen (W.contents self.old.writer) self.old.faults self.old.wanted) (seen (W.contents self.new.writer) self.new.faults self.new.wanted) result }
         ensures whole { OnOk result (Appends (W.contents self.old.writer) (W.contents self.new.writer) piece.now) }
     {
         if write_whole(&mut self.writer, piece) {

@@ -1,7 +1,5 @@
 // All of a reader up to a limit, and all of a piece to a writer.
-ghost use Rattle.eh_host.specs.Got.{IsGot};
-ghost use Rattle.std.specs.Prelude.{IsTrue};
-ghost use Rattle.std.specs.Io.KnownBytes.{Appends};
+ghost use Rattle.eh_host.specs.Got.{IsGot, IsWritten};
 
 use std::alloc::Global;
 use std::io::{ErrorKind, Read, Write};
@@ -31,9 +29,21 @@ pub fn read_whole<R: Read + Drop>(alloc: Global, reader: R, limit: u64) -> Got
     }
 }
 
-/// Writes all of the piece; false at an error, and where a write takes no byte.
+/// Writes all of the piece; false at an error, and where a write takes no byte: then the writer has a prefix of it.
 pub fn write_whole<W: Write>(writer: &mut W, piece: &[u8]) -> bool
-    ensures { IsTrue result → Appends (W.contents writer.old) (W.contents writer.new) piece.now }
+    ensures { IsWritten (W.contents writer.old) (W.contents writer.new) piece.now result }
 {
-    writer.write_all(piece).is_ok()
+    let mut rest = piece;
+    'writes: for _ in 0..u64::MAX {
+        if rest.is_empty() {
+            return true;
+        }
+        match writer.write(rest) {
+            Ok(0) => return false,
+            Ok(count) => rest = &rest[count..],
+            Err(e) if e.kind() == ErrorKind::Interrupted => {}
+            Err(_) => return false,
+        }
+    }
+    false
 }

@@ -2,6 +2,7 @@
 use crate::given::{FullDisk, Words};
 use eh_host::{FileStore, StreamSink, words_of};
 use eh_outer::{Sink, SinkError, Store, StoreError};
+use std::fs::File;
 use std::io::{self, BufWriter, Write};
 use std::rt::Files;
 use std::test::Fail;
@@ -56,8 +57,7 @@ fn adapters(rt: HostRuntime) -> Result<(), Fail> {
     Ok(())
 }
 
-// A write for which there is no file beside leaves what was there, and one that is done leaves no
-// file beside.
+// A write for which there is no file beside leaves what was there, and one that is done leaves no file beside. A file beside that its maker still holds is never taken.
 #[test]
 fn replaced_at_once(rt: HostRuntime) -> Result<(), Fail> {
     let alloc = rt.alloc();
@@ -68,9 +68,12 @@ fn replaced_at_once(rt: HostRuntime) -> Result<(), Fail> {
     fs::create_dir(&rt, folder.as_str())?;
     let mut written = FileStore::new(alloc, &rt);
     written.write_all(alloc, here.as_str(), b"old")?;
+    let mut held = Vec::new(alloc);
     for number in 0..64 {
         let beside = format!(in alloc; "{folder}/.ehc-{number}")?;
-        fs::write(&rt, beside.as_str(), b"taken".as_slice())?;
+        let file = File::create_new(&rt, beside.as_str())?;
+        assert!(rt; file.try_lock().is_ok());
+        held.push(file)?;
     }
     let refused = written.write_all(alloc, here.as_str(), b"new");
     assert_eq!(rt; refused, Err(StoreError::Failed));
@@ -83,6 +86,37 @@ fn replaced_at_once(rt: HostRuntime) -> Result<(), Fail> {
     written.write_all(alloc, here.as_str(), b"new")?;
     let beside = format!(in alloc; "{folder}/.ehc-0")?;
     let none = FileStore::new(alloc, &rt).read_all(alloc, beside.as_str(), 9);
+    assert_eq!(rt; none.err(), Some(StoreError::Failed));
+    rt.remove_dir_all(alloc, folder.as_str())?;
+    Ok(())
+}
+
+// What a call that was killed left beside is removed, however much there is; a link of that name stays, and so does what it leads to.
+#[test]
+fn left_behind(rt: HostRuntime) -> Result<(), Fail> {
+    let alloc = rt.alloc();
+    let folder = env::temp_dir(&rt)?;
+    let folder = folder.to_str().ok_or("the folder's name is no text")?;
+    let folder = format!(in alloc; "{folder}/ehc-left")?;
+    let here = format!(in alloc; "{folder}/here")?;
+    let other = format!(in alloc; "{folder}/other")?;
+    let link = format!(in alloc; "{folder}/.ehc-0")?;
+    let beside = format!(in alloc; "{folder}/.ehc-1")?;
+    fs::create_dir(&rt, folder.as_str())?;
+    for number in 1..64 {
+        let left = format!(in alloc; "{folder}/.ehc-{number}")?;
+        fs::write(&rt, left.as_str(), b"half of an im".as_slice())?;
+    }
+    fs::write(&rt, other.as_str(), b"other".as_slice())?;
+    rt.symlink(other.as_str(), link.as_str())?;
+    let mut store = FileStore::new(alloc, &rt);
+    store.write_all(alloc, here.as_str(), b"image")?;
+    let stored = fs::read(&rt, here.as_str())?;
+    assert_eq!(rt; stored.as_slice(), b"image".as_slice());
+    assert!(rt; rt.symlink_metadata(link.as_str())?.is_symlink());
+    let kept = fs::read(&rt, other.as_str())?;
+    assert_eq!(rt; kept.as_slice(), b"other".as_slice());
+    let none = store.read_all(alloc, beside.as_str(), 99);
     assert_eq!(rt; none.err(), Some(StoreError::Failed));
     rt.remove_dir_all(alloc, folder.as_str())?;
     Ok(())

@@ -1,7 +1,8 @@
 // Words and files that tests give the program.
+use eh_host::Exclusive;
 use std::alloc::Allocator;
 use std::env::FillError;
-use std::fs::{Metadata, OpenFile, OpenOptions, Permissions};
+use std::fs::{Metadata, OpenFile, OpenOptions, Permissions, TryLockError};
 use std::io::{self, Read, Seek, SeekFrom, Write};
 use std::path::PathBuf;
 use std::rt::{Env, Files};
@@ -89,6 +90,12 @@ impl<F: OpenFile + Drop> OpenFile for FullFile<F> {
 
     fn sync_data(&self) -> io::Result<()> {
         self.file.sync_data()
+    }
+}
+
+impl<F: Exclusive + Drop> Exclusive for FullFile<F> {
+    fn try_lock(&self) -> Result<(), TryLockError> {
+        self.file.try_lock()
     }
 }
 
