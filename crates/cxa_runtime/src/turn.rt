@@ -60,7 +60,8 @@ impl Runtime {
         self.count += 1;
     }
 
-    // Makes the runtime call of the number in a7, behind its ECALL.
+    // Makes the runtime call of the number in a7, behind its ECALL. It stands apart from the turn, since hardly any turn makes a call.
+    #[inline(never)]
     fn make_call<M: Module>(&mut self, place: u64, input: &[u8], host: &mut Host<M>) -> Turn
         requires { IsFresh self.old }
         ensures turn { (wish : ℕ) × ((t : AreTables self.old.hart self.old.frames) →

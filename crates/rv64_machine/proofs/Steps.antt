@@ -1,20 +1,11 @@
 -- What a step is, by what is fetched and decoded.
-use Rattle.std.proofs.Common.{ℕ, ◌≡◌, ◌%◌, ◌==◌, false, cond, List, Option, Some, None, Ok, Err, refl, ap, sym, ◌∙◌, eq-eqb, arith}
+use Rattle.std.proofs.Common.{ℕ, ◌≡◌, ◌%◌, ◌==◌, false, cond, List, Option, Some, None, ap, sym, ◌∙◌, eq-eqb, arith}
 use Rattle.std.proofs.lemmas.Bool.Decides.{nat_tests}
-use Rattle.std.specs.Option.{ok_or}
 use Rattle.rv64_isa.specs.declared.instr.Instr.{Instr}
 use Rattle.rv64_isa.specs.declared.step.FaultKind.TheVariants.{Illegal, Misaligned, Unmapped}
 use Rattle.rv64_isa.specs.Decoding.{decoded}
 use Rattle.rv64_isa.specs.State.{State, Part, state}
 use Rattle.rv64_isa.specs.Step.{Stepped, fault, fetched, decoded_step, fetched_step, done, step_of}
-
-pub decoded_none : {E : Type 0} (o : Option Instr) (e f : E) → Err e ≡ ok_or o f → o ≡ None
-decoded_none None e f h = refl
-decoded_none (Some i) e f h = absurd (cc)
-
-pub decoded_some : {E : Type 0} (o : Option Instr) (i : Instr) (f : E) → Ok i ≡ ok_or o f → o ≡ Some i
-decoded_some None i f h = absurd (cc)
-decoded_some (Some j) i f h = cc
 
 stepped : (s : State) (w : Option ℕ) → s.pc % 4 ≡ 0 → fetched s.memory s.pc ≡ w → step_of s ≡ fetched_step w s
 unfolding step_of
@@ -33,14 +24,14 @@ pub unmapped : (s : State) (pc : ℕ) (regs : List ℕ) (memory after : List Par
 unmapped s pc regs memory after same aligned none kept =
     ap (λ m. fault Unmapped (state pc regs m)) kept ∙ sym (stepped (state pc regs memory) None aligned (sym none)) ∙ ap step_of same
 
-pub illegal : {E : Type 0} (s : State) (pc : ℕ) (regs : List ℕ) (memory after : List Part) (w : ℕ) (e f : E) → state pc regs memory ≡ s → pc % 4 ≡ 0 → Some w ≡ fetched memory pc →
-    Err e ≡ ok_or (decoded w) f → after ≡ memory → fault Illegal (state pc regs after) ≡ step_of s
-illegal s pc regs memory after w e f same aligned some unlisted kept =
-    ap (λ m. fault Illegal (state pc regs m)) kept ∙ sym (ap (λ o. decoded_step o (state pc regs memory)) (decoded_none (decoded w) e f unlisted)) ∙
+pub illegal : (s : State) (pc : ℕ) (regs : List ℕ) (memory after : List Part) (w : ℕ) → state pc regs memory ≡ s → pc % 4 ≡ 0 → Some w ≡ fetched memory pc → None ≡ decoded w → after ≡ memory →
+    fault Illegal (state pc regs after) ≡ step_of s
+illegal s pc regs memory after w same aligned some unlisted kept =
+    ap (λ m. fault Illegal (state pc regs m)) kept ∙ ap (λ o. decoded_step o (state pc regs memory)) unlisted ∙
     sym (stepped (state pc regs memory) (Some w) aligned (sym some)) ∙ ap step_of same
 
-pub executed : {E : Type 0} (s : State) (pc : ℕ) (regs : List ℕ) (memory after : List Part) (w : ℕ) (i : Instr) (f : E) (r : Stepped) → state pc regs memory ≡ s → pc % 4 ≡ 0 →
-    Some w ≡ fetched memory pc → Ok i ≡ ok_or (decoded w) f → after ≡ memory → r ≡ done i (state pc regs after) → r ≡ step_of s
-executed s pc regs memory after w i f r same aligned some listed kept e =
-    e ∙ ap (λ m. done i (state pc regs m)) kept ∙ sym (ap (λ o. decoded_step o (state pc regs memory)) (decoded_some (decoded w) i f listed)) ∙
+pub executed : (s : State) (pc : ℕ) (regs : List ℕ) (memory after : List Part) (w : ℕ) (i : Instr) (r : Stepped) → state pc regs memory ≡ s → pc % 4 ≡ 0 → Some w ≡ fetched memory pc →
+    Some i ≡ decoded w → after ≡ memory → r ≡ done i (state pc regs after) → r ≡ step_of s
+executed s pc regs memory after w i r same aligned some listed kept e =
+    e ∙ ap (λ m. done i (state pc regs m)) kept ∙ ap (λ o. decoded_step o (state pc regs memory)) listed ∙
     sym (stepped (state pc regs memory) (Some w) aligned (sym some)) ∙ ap step_of same

@@ -5,3 +5,4 @@ pub mod Serving
 pub mod Initial
 pub mod Load
 pub mod Next
+pub mod Decoder

@@ -4,6 +4,7 @@
 
 mod below;
 mod bytes;
+mod decoder;
 mod front;
 mod machine;
 mod memory;

@@ -12,6 +12,7 @@ ghost use Rattle.rv64_machine.specs.Parts.{part_of};
 
 use crate::NoMemory;
 use crate::bytes::Size;
+use crate::decoder::Decoder;
 use crate::memory::Memory;
 use eh_bytes::Segments;
 use rv64_isa::{
@@ -32,6 +33,7 @@ pub struct Machine {
     pc: u64,
     regs: [u64; 32],
     memory: Memory,
+    decoder: Decoder,
 }
 
 impl Model for Machine {
@@ -265,6 +267,7 @@ impl Machine {
             pc: 0,
             regs,
             memory: Memory::new(alloc, segments)?,
+            decoder: Decoder::new(),
         })
     }
 
@@ -279,9 +282,9 @@ impl Machine {
         }
         match self.memory.fetch(self.pc) {
             None => Step::Fault(FaultKind::Unmapped),
-            Some(word) => match decode(word) {
-                Err(_) => Step::Fault(FaultKind::Illegal),
-                Ok(instr) => self.execute(instr),
+            Some(word) => match self.decoder.instr_at(self.pc, word) {
+                None => Step::Fault(FaultKind::Illegal),
+                Some(instr) => self.execute(instr),
             },
         }
     }

@@ -11,14 +11,13 @@ returns-in-None c =
     let inside = c.self.inside in
     unmapped c.args.self.now inside.pc inside.regs inside.memory c.fetch.new.self c.self.view_is c.if-self-ne0.false c.in-None.ensures.value c.in-None.ensures.same
 
-pub returns-in-Err : goal.returns-in-Err
-returns-in-Err c =
+pub returns-in-None-instr_at : goal.returns-in-None-instr_at
+returns-in-None-instr_at c =
     let inside = c.self.inside in
-    illegal c.args.self.now inside.pc inside.regs inside.memory c.fetch.new.self c.in-Some.word _ _ c.self.view_is c.if-self-ne0.false c.in-Some.ensures.value c.in-Err.ensures.decoded
-    c.in-Some.ensures.same
+    illegal c.args.self.now inside.pc inside.regs inside.memory c.fetch.new.self c.in-Some.word c.self.view_is c.if-self-ne0.false c.in-Some.ensures.value c.in-None-instr_at.ensures c.in-Some.ensures.same
 
-pub returns-in-Ok : goal.returns-in-Ok
-returns-in-Ok c =
+pub returns-in-Some-instr_at : goal.returns-in-Some-instr_at
+returns-in-Some-instr_at c =
     let inside = c.self.inside in
-    executed c.args.self.now inside.pc inside.regs inside.memory c.fetch.new.self c.in-Some.word c.in-Ok.instr _ _ c.self.view_is c.if-self-ne0.false c.in-Some.ensures.value
-    c.in-Ok.ensures.decoded c.in-Some.ensures.same c.execute.ensures
+    executed c.args.self.now inside.pc inside.regs inside.memory c.fetch.new.self c.in-Some.word c.in-Some-instr_at.instr _ c.self.view_is c.if-self-ne0.false c.in-Some.ensures.value
+    c.in-Some-instr_at.ensures c.in-Some.ensures.same c.execute.ensures
