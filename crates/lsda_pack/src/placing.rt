@@ -206,10 +206,8 @@ fn place_of(
     if address == 0 {
         return Ok(None);
     }
-    match Lsda::read_at(memory, address, fde.region) {
-        Err(_) => unreachable!(),
-        Ok(table) => place_at(alloc, memory, loads, address, fde.region, &table),
-    }
+    let table = Lsda::known_at(memory, address, fde.region);
+    place_at(alloc, memory, loads, address, fde.region, &table)
 }
 
 // One more, if there is one.

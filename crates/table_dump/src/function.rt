@@ -45,10 +45,8 @@ fn put_lsda_of(
     if fde.lsda == 0 {
         return Ok(());
     }
-    match Lsda::judged_at(alloc, memory, fde.lsda, fde.region)? {
-        Err(_) => unreachable!(),
-        Ok(table) => put_named(alloc, out, fde.lsda, &table),
-    }
+    let table = Lsda::known_at(memory, fde.lsda, fde.region);
+    put_named(alloc, out, fde.lsda, &table)
 }
 
 fn put_function(

@@ -1,9 +1,9 @@
-use Rattle.std.proofs.Common.{rules, ◌≡◌, Ok, Some, Option, false, arith}
+use Rattle.std.proofs.Common.{◌≡◌, Ok, Some, Option, false, arith}
 use Rattle.std.specs.Prelude.{◌==◌}
 use Rattle.std.proofs.lemmas.Bool.Decides.{nat_tests}
 use Rattle.std.proofs.lemmas.Result.{IfOk-weaker}
 use Rattle.eh_bytes.specs.Memory.{memory_of}
-use Rattle.table_forms.specs.Lsda.{Table, lsda}
+use Rattle.table_forms.specs.Lsda.{Table}
 use Rattle.elf_image.specs.Clean.{table_named}
 use Rattle.lsda_pack.specs.Placed.{placed_of}
 use Rattle.lsda_pack.specs.Placings.{IsPlaced}
@@ -19,8 +19,8 @@ returns c =
     let ls = c.args.loads.now in
     let a = c.args.fde.now.lsda in
     let region = c.args.fde.now.region in
-    let t = c.in-Ok.table in
-    let read : lsda m a region ≡ Ok t = search rules in
+    let t = c.known_at-table.result in
+    let read = c.known_at-table.ensures in
     let some : (a == 0) ≡ false = grind (arith, nat_tests, c.if-address-eq0.false) in
     IfOk-weaker c.place_at.result
     (λ p. IsPlaced m p (placed_of m ls a region (Some t)))
