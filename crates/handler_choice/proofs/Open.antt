@@ -33,11 +33,11 @@ record AllGuarded (r : Regions) (fs : List Activation) : Type 0 where
 module _ (r : Regions) (said : (n : ℕ) (f : RegionFunction) → slice_get r.functions n ≡ Some f → AllAreGuarded f) (own : OwnGuardsAreSaid) where
   one_guarded : (f : Function) (place : ℕ) → MayRaise r f place → Guarded r f place
   one_guarded (compiled n) place h =
-      let g = said n h.function h.there place h.operation h.at h.out in
+      let g = (said n h.function h.there).guarded place h.operation h.at h.out in
       let code : code_at (unit_of r) n ≡ function_code h.function = ap (λ o. unwrap_or o no_code) (mapped function_code r.functions n h.function h.there) in
       record {
         guards = g.guards;
-        are = record { function = h.function; there = h.there; operation = h.operation; at = h.at; stands = g.stands };
+        are = record { function = h.function; there = h.there; around = g.around };
         say = subst (λ (c : FunctionCode). Says (sense_in c.types c.lists) g.guards (look_up c.sites place)) (sym code) g.said;
       }
   one_guarded end_catch place h = record { guards = own_guards_at end_catch place; are = refl; say = own end_catch place }

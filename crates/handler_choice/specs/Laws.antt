@@ -1,5 +1,5 @@
 -- What the calls of laws state.
-use Rattle.std.specs.Prelude.{◌≡◌, ℕ, ℤ, true, false, List, [], Option, Some, find, slice_get}
+use Rattle.std.specs.Prelude.{◌≡◌, ℕ, ℤ, true, false, List, length, Option, Some, find, slice_get}
 use Rattle.cxx_ast.specs.Plain.{Checked}
 use Rattle.cxx_ast.specs.Checked.{IsChecked}
 use Rattle.region_forms.specs.Form.{TypeRow, RegionFunction, Regions}
@@ -14,21 +14,22 @@ use Rattle.linear_forms.specs.Stub.{Function, stub_cover, stub_sense}
 use Rattle.linear_forms.specs.Activation.{Code, Activation}
 use Rattle.linear_forms.specs.Search.{found_above}
 use Rattle.linear_forms.specs.Unit.{function_code}
-use Rattle.handler_choice.specs.Around.{goes_out, Stands}
+use Rattle.handler_choice.specs.Around.{goes_out, guards_of}
 use Rattle.handler_choice.specs.Says.{Says}
 use Rattle.handler_choice.specs.Own.{own_guards_at}
 use Rattle.handler_choice.specs.Open.{AllRaise, NamesTarget}
 use Rattle.handler_choice.specs.Chosen.{first_stop, target_call, AllSay, IsFirst}
 
--- The guards around an operation at a place of a function, which its tables say. Where the same operation stands twice in the function, they are those of one of both.
-pub record IsGuarded (f : RegionFunction) (p : ℕ) (x : LinearOp) : Type 0 where
+-- The guards around the operation at a place of a function, which its tables say. Two operations that are the same are told apart by their places.
+pub record IsGuarded (f : RegionFunction) (place : ℕ) : Type 0 where
   pub guards : List Guard
-  pub stands : Stands [] f.body guards x
-  pub said : let g = function_code f in Says (sense_in g.types g.lists) guards (look_up g.sites p)
+  pub around : slice_get (guards_of f) place ≡ Some guards
+  pub said : let g = function_code f in Says (sense_in g.types g.lists) guards (look_up g.sites place)
 
--- so it is of each operation of a function out of which something may come
-abbrev pub AllAreGuarded : RegionFunction → Type 0
-AllAreGuarded f = (p : ℕ) (x : LinearOp) → slice_get (function_code f).ops p ≡ Some x → goes_out x ≡ true → IsGuarded f p x
+-- Each operation of a function has its guards beside it, and the tables say those of each operation out of which something may come.
+pub record AllAreGuarded (f : RegionFunction) : Type 0 where
+  pub beside : length (guards_of f) ≡ length (function_code f).ops
+  pub guarded : (place : ℕ) (operation : LinearOp) → slice_get (function_code f).ops place ≡ Some operation → goes_out operation ≡ true → IsGuarded f place
 
 abbrev pub GuardsAreSaid : Type 0
 GuardsAreSaid = (r : Regions) (f : RegionFunction) → function_test r f ≡ true → AllAreGuarded f

@@ -8,7 +8,7 @@ use Rattle.linear_forms.specs.Activation.{Activation}
 use Rattle.linear_forms.specs.Search.{found_above}
 use Rattle.linear_forms.specs.Unit.{function_code, unit_of}
 use Rattle.linear_forms.specs.UnitRun.{code_of}
-use Rattle.handler_choice.specs.Around.{goes_out, Stands}
+use Rattle.handler_choice.specs.Around.{goes_out, guards_of}
 use Rattle.handler_choice.specs.Own.{own_guards_at}
 use Rattle.handler_choice.specs.Chosen.{first_stop, target_call}
 
@@ -33,9 +33,7 @@ AllRaise r (a ∷ fs) = MayRaise r a.function a.place × AllRaise r fs
 pub record GuardsAt (r : Regions) (n place : ℕ) (guards : List Guard) : Type 0 where
   pub function : RegionFunction
   pub there : slice_get r.functions n ≡ Some function
-  pub operation : LinearOp
-  pub at : slice_get (function_code function).ops place ≡ Some operation
-  pub stands : Stands [] function.body guards operation
+  pub around : slice_get (guards_of function) place ≡ Some guards
 
 -- those of an open call
 abbrev pub AreGuards : Regions → Function → ℕ → List Guard → Type 0

@@ -3,7 +3,7 @@ ghost use Rattle.handler_choice.specs.Laws.{CheckedGuardsAreSaid, CheckedTargets
 
 use region_formed::laws::checked_regions_are_well_formed;
 
-/// The tables of a well-formed function say of each operation out of which something may come which guards stand around it inside the function: the
+/// The tables of a well-formed function say of each operation out of which something may come which guards stand around its place inside the function: the
 /// clauses of each try block in order of appearance and the list of each specification, from the innermost on; and of one in a barrier nothing.
 pub fn guards_are_said()
     ensures { GuardsAreSaid }
