@@ -1,8 +1,8 @@
 mod Ends
-mod Locations
+pub mod Locations
 mod TableText
 mod Pointers
 mod Places
-mod Functions
+pub mod Functions
 mod Cies
-mod Dumped
+pub mod Dumped

@@ -1,0 +1,3 @@
+pub mod Marked
+mod Lines
+mod Turned

@@ -1,0 +1,9 @@
+use Rattle.std.specs.Prelude.{codes}
+use Rattle.image_doubts.specs.Doubts.{site_words}
+use Rattle.image_doubts.proofs.Lines.{three}
+use Rattle.image_doubts.proofs.line.put_cut_text.Goals as goal
+
+pub returns : goal.returns
+returns c =
+    three c.args.out.now.items (codes "site inside an instruction: site ") (site_words c.args.region c.args.site) (codes "\n")
+    c.put_text.new.out.items c.put_site.new.out.items c.put_text-2.new.out.items c.in_ok-put_text.ensures c.in_ok-put_site.ensures c.in_ok-put_text-2.ensures
