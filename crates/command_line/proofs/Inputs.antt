@@ -3,8 +3,9 @@ use Rattle.std.proofs.Common.{◌≡◌, ◌≤◌, arith, refl, subst, ℕ, Boo
 use Rattle.std.specs.Prelude.{◌&&◌, nat_le, if◌then◌else◌}
 use Rattle.std.proofs.lemmas.Bool.Decides.{nat_tests}
 use Rattle.command_line.specs.declared.command.Verb.{Verb}
-use Rattle.command_line.specs.declared.command.Verb.TheVariants.{Compile, Run, Exec, Harts, Mean, Check, Dump, Frames, Pack, Gen}
+use Rattle.command_line.specs.declared.command.Verb.TheVariants.{Compile, Run, Exec, Harts, Mean, Check, Dump, Frames, At, Doubts, Pack, Gen}
 use Rattle.command_line.specs.Command.{AreHarts, CommandView, FoundView, are_named, operands_for, inputs_for, max_of, std_of, switch_of, scripts_of, found_in, command_from, verb_of, settings_of, operand_count, command_of}
+use Rattle.command_line.specs.Address.{places_for, raised_of}
 use Rattle.command_line.specs.Pieces.{pieces_of}
 use Rattle.command_line.proofs.Turns.{behind, made}
 
@@ -30,6 +31,8 @@ counted Mean names inputs e = tt
 counted Check names inputs e = tt
 counted Dump names inputs e = tt
 counted Frames names inputs e = tt
+counted At names inputs e = tt
+counted Doubts names inputs e = tt
 counted Pack names inputs e = tt
 counted Gen names inputs e = tt
 
@@ -39,10 +42,11 @@ HasHarts c = AreHarts c.verb c.inputs
 from_counted : (verb : Verb) (found : FoundView) (c : CommandView) → command_from verb (operand_count verb) found ≡ Some c → AreHarts c.verb c.inputs
 unfolding command_from
 from_counted verb found c e =
+    behind HasHarts _ (places_for verb found.operands) (λ places read. behind HasHarts _ (raised_of found.raised) (λ raised said.
     behind HasHarts _ (operands_for verb (operand_count verb) found.operands) (λ operands given. behind HasHarts _ (inputs_for verb found.inputs) (λ inputs is. behind HasHarts _ (max_of found.max) (λ max bound.
     behind HasHarts _ (std_of found.std) (λ standard named.
     behind HasHarts _ (switch_of found.trace) (λ trace set. behind HasHarts _ (switch_of found.count) (λ count asked.
-    made HasHarts _ (scripts_of found.scripts) (λ scripts. counted verb found.inputs inputs is))))))) c e
+    made HasHarts _ (scripts_of found.scripts) (λ scripts. counted verb found.inputs inputs is))))))))) c e
 
 pub harts_are_few : (words : List (List ℕ)) (c : CommandView) → command_of words ≡ Some c → AreHarts c.verb c.inputs
 harts_are_few [] c e = absurd (cc e)

@@ -1,4 +1,5 @@
 pub mod Texts
+pub mod Addresses
 pub mod Lists
 pub mod Runs
 pub mod Rules

@@ -10,7 +10,7 @@ use Rattle.clap.specs.Simple.{App, Shape, built, filled, filled_from, is_buildab
 use Rattle.clap.specs.Takes.{is_given}
 use Rattle.clap.specs.Walk.{Row, Rule, arg_by_id, arg_by_index, arg_by_long, arg_by_short, has_row, is_early_multiple, with_default}
 use Rattle.command_line.specs.declared.setting.Setting.{Setting}
-use Rattle.command_line.specs.declared.setting.Setting.TheVariants.{Input, Max, Trace, Count, Standard, Foreign}
+use Rattle.command_line.specs.declared.setting.Setting.TheVariants.{Input, Max, Trace, Count, Standard, Foreign, Thrown}
 use Rattle.command_line.specs.Matches.{app_of_settings, operand_name, operand_rule, rule_of_setting}
 use Rattle.command_line.specs.Pieces.{setting_of}
 use Rattle.command_line.specs.Setting.{name_of}
@@ -57,6 +57,7 @@ operand_apart Trace = refl
 operand_apart Count = refl
 operand_apart Standard = refl
 operand_apart Foreign = refl
+operand_apart Thrown = refl
 
 pub option_apart : (s : Setting) → bytes_eq (name_of s) operand_name ≡ false
 option_apart Input = refl
@@ -65,6 +66,7 @@ option_apart Trace = refl
 option_apart Count = refl
 option_apart Standard = refl
 option_apart Foreign = refl
+option_apart Thrown = refl
 
 by_name : (ss : List Setting) (t : Setting) → arg_by_id (rules ss) (name_of t) ≡ option_map option_built (setting_of ss (name_of t))
 by_name [] t = let apart : bytes_eq operand_name (name_of t) ≡ false = operand_apart t in rw apart refl

@@ -4,9 +4,10 @@ use Rattle.std.specs.Prelude.{◌==◌, ◌&&◌, not, ⊤, if◌then◌else◌}
 use Rattle.std.specs.List.{list_all}
 use Rattle.std.proofs.lemmas.Bool.Decides.{nat_tests}
 use Rattle.command_line.specs.declared.command.Verb.{Verb}
-use Rattle.command_line.specs.declared.command.Verb.TheVariants.{Compile, Run, Exec, Harts, Mean, Check, Dump, Frames, Pack, Gen}
+use Rattle.command_line.specs.declared.command.Verb.TheVariants.{Compile, Run, Exec, Harts, Mean, Check, Dump, Frames, At, Doubts, Pack, Gen}
 use Rattle.command_line.specs.Command.{CommandView, FoundView, exactly, is_size, source_size, greatest_size, are_named, operands_for, inputs_for, max_of, std_of, switch_of, scripts_of, found_in, command_from, verb_of, settings_of, operand_count, command_of}
 use Rattle.plain_text.specs.Decimal.{number_of, not_zero}
+use Rattle.command_line.specs.Address.{places_for, raised_of}
 use Rattle.command_line.specs.Pieces.{pieces_of}
 use Rattle.command_line.proofs.Turns.{behind, made, number_bounded}
 
@@ -53,6 +54,8 @@ sized Mean names operands e = tt
 sized Check names operands e = tt
 sized Dump names operands e = tt
 sized Frames names operands e = tt
+sized At names operands e = tt
+sized Doubts names operands e = tt
 sized Pack names operands e = tt
 
 abbrev IsSized : CommandView → Type 0
@@ -61,10 +64,11 @@ IsSized c = AreSized c.verb c.operands
 from_sized : (verb : Verb) (found : FoundView) (c : CommandView) → command_from verb (operand_count verb) found ≡ Some c → AreSized c.verb c.operands
 unfolding command_from
 from_sized verb found c e =
+    behind IsSized _ (places_for verb found.operands) (λ places read. behind IsSized _ (raised_of found.raised) (λ raised said.
     behind IsSized _ (operands_for verb (operand_count verb) found.operands) (λ operands given. behind IsSized _ (inputs_for verb found.inputs) (λ inputs is. behind IsSized _ (max_of found.max) (λ max is.
     behind IsSized _ (std_of found.std) (λ standard named.
     behind IsSized _ (switch_of found.trace) (λ trace is. behind IsSized _ (switch_of found.count) (λ count is.
-    made IsSized _ (scripts_of found.scripts) (λ scripts. sized verb found.operands operands given))))))) c e
+    made IsSized _ (scripts_of found.scripts) (λ scripts. sized verb found.operands operands given))))))))) c e
 
 pub operands_are_sized : (words : List (List ℕ)) (c : CommandView) → command_of words ≡ Some c → AreSized c.verb c.operands
 operands_are_sized [] c e = absurd (cc e)

@@ -7,7 +7,7 @@ use Rattle.command_line.specs.declared.command.Verb.{Verb}
 use Rattle.command_line.specs.declared.error.WordsError.{WordsError}
 use Rattle.command_line.specs.declared.error.WordsError.TheVariants.{Usage, NoMemory}
 use Rattle.command_line.specs.declared.setting.Setting.{Setting}
-use Rattle.command_line.specs.declared.setting.Setting.TheVariants.{Input, Max, Trace, Count, Standard, Foreign}
+use Rattle.command_line.specs.declared.setting.Setting.TheVariants.{Input, Max, Trace, Count, Standard, Foreign, Thrown}
 use Rattle.command_line.specs.Command.{FoundView, command_from, command_seen, found_in, operands_in, values_in}
 use Rattle.command_line.specs.Found.{found_under}
 use Rattle.command_line.specs.Gives.{Gives}
@@ -35,7 +35,8 @@ sorted rows ps shows =
     let trace = shows (name_of Trace) ∙ values_under_name Trace ps in
     let count = shows (name_of Count) ∙ values_under_name Count ps in
     let scripts = shows (name_of Foreign) ∙ values_under_name Foreign ps in
-    rw (operands, inputs, max, standard, trace, count, scripts) refl
+    let raised = shows (name_of Thrown) ∙ values_under_name Thrown ps in
+    rw (operands, inputs, max, standard, trace, count, scripts, raised) refl
 
 -- the command of the pieces that are read
 pub of_pieces : (result : Result Command WordsError) (verb : Verb) (most : ℕ) (read : Option (List Piece)) (rows : List Row) (found : FoundView) → ShowsRead rows read → found ≡ found_under rows

@@ -7,6 +7,7 @@ use Rattle.std.proofs.lemmas.Bool.Decides.{nat_tests}
 use Rattle.command_line.specs.declared.command.Verb.{Verb}
 use Rattle.command_line.specs.Command.{CommandView, FoundView, operands_for, inputs_for, max_of, std_of, switch_of, scripts_of, found_in, command_from, verb_of, settings_of, operand_count, command_of}
 use Rattle.plain_text.specs.Decimal.{is_decimal, up_to, number_of, not_zero, count_up_to}
+use Rattle.command_line.specs.Address.{places_for, raised_of}
 use Rattle.command_line.specs.Pieces.{pieces_of}
 
 -- what holds of what each step behind a value gives holds of what comes out
@@ -64,10 +65,11 @@ Bounded c = AreTurns c.max
 from_bounded : (verb : Verb) (most : ℕ) (found : FoundView) (c : CommandView) → command_from verb most found ≡ Some c → AreTurns c.max
 unfolding command_from
 from_bounded verb most found c e =
+    behind Bounded _ (places_for verb found.operands) (λ places read. behind Bounded _ (raised_of found.raised) (λ raised said.
     behind Bounded _ (operands_for verb most found.operands) (λ operands is. behind Bounded _ (inputs_for verb found.inputs) (λ inputs is. behind Bounded _ (max_of found.max) (λ max counted.
     behind Bounded _ (std_of found.std) (λ standard named.
     behind Bounded _ (switch_of found.trace) (λ trace is. behind Bounded _ (switch_of found.count) (λ count is.
-    made Bounded _ (scripts_of found.scripts) (λ scripts. max_bounded found.max max counted))))))) c e
+    made Bounded _ (scripts_of found.scripts) (λ scripts. max_bounded found.max max counted))))))))) c e
 
 -- A command asks for at least one turn or step, and for at most 2^40.
 pub turns_are_bounded : (words : List (List ℕ)) (c : CommandView) → command_of words ≡ Some c → AreTurns c.max

@@ -17,7 +17,7 @@ use Rattle.clap.specs.Values.{kind_of}
 use Rattle.clap.specs.Walk.{Held, Outcome, Row, Rule, Step, Text, Waiting, Walk, idle, option, positional, next, value, trailing as trailing_step, after_flag, after_step, arg_by_long, arg_by_short, finished, flag_met, is_pending, long_met, long_or_other, most_values, nothing_held, option_met, option_word, plain_word, pushed, rows_after, settled, settled_rows, short_or_plain, subcommand_met, subcommand_or_other, takes_values, to_positional, used, used_by_id, walked, word_met}
 use Rattle.clap.proofs.FaultLemmas.{leaf_fault}
 use Rattle.command_line.specs.declared.setting.Setting.{Setting}
-use Rattle.command_line.specs.declared.setting.Setting.TheVariants.{Input, Max, Trace, Count, Standard, Foreign}
+use Rattle.command_line.specs.declared.setting.Setting.TheVariants.{Input, Max, Trace, Count, Standard, Foreign, Thrown}
 use Rattle.command_line.specs.Matches.{Shows, ShowsRead, app_of_settings, operand_name}
 use Rattle.command_line.specs.Pieces.{Piece, Operand, Given, before, is_dashed, met, met_option, named, pieces_of, setting_of}
 use Rattle.command_line.specs.Parted.{parted}
@@ -265,6 +265,7 @@ takes Trace = refl
 takes Count = refl
 takes Standard = refl
 takes Foreign = refl
+takes Thrown = refl
 
 valued_use : (s : Setting) (v : Text) (rows : List Row) → has_value s ≡ true → use_fault false (option_built s) (v ∷ []) rows ≡ []
 valued_use Input v rows e = refl
@@ -273,6 +274,7 @@ valued_use Trace v rows e = absurd (cc)
 valued_use Count v rows e = absurd (cc)
 valued_use Standard v rows e = refl
 valued_use Foreign v rows e = refl
+valued_use Thrown v rows e = refl
 
 open_use : (s : Setting) (rows : List Row) → has_value s ≡ true → use_fault false (option_built s) [] rows ≡ [] → ⊥
 open_use Input rows e f = cc
@@ -281,6 +283,7 @@ open_use Trace rows e f = cc
 open_use Count rows e f = cc
 open_use Standard rows e f = cc
 open_use Foreign rows e f = cc
+open_use Thrown rows e f = cc
 
 switch_use : (s : Setting) (rows : List Row) → has_value s ≡ false → use_fault false (option_built s) [] rows ≡ []
 switch_use Input rows e = absurd (cc)
@@ -289,6 +292,7 @@ switch_use Trace rows e = refl
 switch_use Count rows e = refl
 switch_use Standard rows e = absurd (cc)
 switch_use Foreign rows e = absurd (cc)
+switch_use Thrown rows e = absurd (cc)
 
 one_value : (s : Setting) → has_value s ≡ true → most_values (option_built s) ≡ 1
 one_value s e = ap (λ (b : Bool). cond b 1 0) e

@@ -6,11 +6,13 @@ use Rattle.cxx_ast.specs.declared.standard.Std.{Std}
 use Rattle.cxx_ast.specs.declared.standard.Std.TheVariants.{Cxx03, Cxx11}
 use Rattle.eh_outer.specs.declared.module.Reply.{Reply}
 use Rattle.command_line.specs.declared.command.Command.{Command}
+use Rattle.command_line.specs.declared.command.Raised.{Raised}
 use Rattle.command_line.specs.declared.command.Verb.{Verb}
-use Rattle.command_line.specs.declared.command.Verb.TheVariants.{Compile, Run, Exec, Harts, Mean, Check, Dump, Frames, Pack, Gen}
+use Rattle.command_line.specs.declared.command.Verb.TheVariants.{Compile, Run, Exec, Harts, Mean, Check, Dump, Frames, At, Doubts, Pack, Gen}
 use Rattle.command_line.specs.declared.setting.Setting.{Setting}
-use Rattle.command_line.specs.declared.setting.Setting.TheVariants.{Input, Max, Trace, Count, Standard, Foreign}
+use Rattle.command_line.specs.declared.setting.Setting.TheVariants.{Input, Max, Trace, Count, Standard, Foreign, Thrown}
 use Rattle.plain_text.specs.Decimal.{count_up_to}
+use Rattle.command_line.specs.Address.{places_for, raised_of}
 use Rattle.command_line.specs.Pieces.{Piece, Operand, Given, pieces_of}
 use Rattle.command_line.specs.Script.{all_some, script_of}
 use Rattle.command_line.specs.Setting.{name_of}
@@ -19,6 +21,8 @@ use Rattle.command_line.specs.Setting.{name_of}
 pub record CommandView : Type 0 where
   pub verb : Verb
   pub operands : List (List ℕ)
+  pub places : List ℕ
+  pub raised : Raised
   pub inputs : List (List ℕ)
   pub max : ℕ
   pub std : Std
@@ -30,6 +34,8 @@ abbrev pub command_seen : Command → CommandView
 command_seen c = record {
   verb = c.verb;
   operands = map string_bytes c.operands.items;
+  places = c.places.items;
+  raised = c.raised;
   inputs = map string_bytes c.inputs.items;
   max = c.max;
   std = c.std;
@@ -72,9 +78,14 @@ source_size text = count_up_to greatest_size text
 abbrev pub is_size : List ℕ → Bool
 is_size text = is_some (source_size text)
 
--- so many operands: names of files, but sizes where a source is generated
+-- so many texts or more, none empty
+abbrev pub at_least : ℕ → List (List ℕ) → Option (List (List ℕ))
+at_least count texts = if nat_le count (length texts) && are_named texts then Some texts else None
+
+-- so many operands, or more where there are places: names of files, but sizes where a source is generated
 abbrev pub operands_for : Verb → ℕ → List (List ℕ) → Option (List (List ℕ))
 operands_for Gen count names = if list_all is_size names then exactly count names else None
+operands_for At count names = at_least count names
 operands_for verb count names = exactly count names
 
 -- a name or none, and none empty
@@ -132,6 +143,7 @@ pub record FoundView : Type 0 where
   pub trace : List (List ℕ)
   pub count : List (List ℕ)
   pub scripts : List (List ℕ)
+  pub raised : List (List ℕ)
 
 abbrev pub found_in : List Piece → FoundView
 found_in pieces = record {
@@ -142,11 +154,14 @@ found_in pieces = record {
   trace = values_in Trace pieces;
   count = values_in Count pieces;
   scripts = values_in Foreign pieces;
+  raised = values_in Thrown pieces;
 }
 
 -- the command of a verb that takes so many operands, by what is found
 unfoldable pub command_from : Verb → ℕ → FoundView → Option CommandView
 command_from verb most found =
+    option_and_then (λ places.
+    option_and_then (λ raised.
     option_and_then (λ operands.
     option_and_then (λ inputs.
     option_and_then (λ max.
@@ -156,6 +171,8 @@ command_from verb most found =
     option_map (λ scripts. record {
       verb = verb;
       operands = operands;
+      places = places;
+      raised = raised;
       inputs = inputs;
       max = max;
       std = std;
@@ -168,7 +185,9 @@ command_from verb most found =
     (std_of found.std))
     (max_of found.max))
     (inputs_for verb found.inputs))
-    (operands_for verb most found.operands)
+    (operands_for verb most found.operands))
+    (raised_of found.raised))
+    (places_for verb found.operands)
 
 -- the command of a verb that takes these options and so many operands, by the words behind it
 abbrev pub command_taking : Verb → List Setting → ℕ → List (List ℕ) → Option CommandView
@@ -185,17 +204,20 @@ verb_of word =
     else if bytes_eq word (codes "check") then Some Check
     else if bytes_eq word (codes "dump") then Some Dump
     else if bytes_eq word (codes "frames") then Some Frames
+    else if bytes_eq word (codes "at") then Some At
+    else if bytes_eq word (codes "doubts") then Some Doubts
     else if bytes_eq word (codes "pack") then Some Pack
     else if bytes_eq word (codes "gen") then Some Gen
     else None
 
--- what the command of a verb takes: its options, and how many operands
+-- what the command of a verb takes: its options, and how many operands, or at least how many where there are places
 abbrev pub settings_of : Verb → List Setting
 settings_of Compile = Standard ∷ []
 settings_of Run = Input ∷ Max ∷ Trace ∷ Count ∷ Standard ∷ Foreign ∷ []
 settings_of Exec = Input ∷ Max ∷ Trace ∷ Count ∷ Foreign ∷ []
 settings_of Harts = Input ∷ Trace ∷ []
 settings_of Mean = Input ∷ Max ∷ Trace ∷ Standard ∷ Foreign ∷ []
+settings_of At = Thrown ∷ []
 settings_of Gen = Max ∷ []
 settings_of verb = []
 
@@ -203,6 +225,7 @@ abbrev pub operand_count : Verb → ℕ
 operand_count Compile = 2
 operand_count Harts = 2
 operand_count Pack = 2
+operand_count At = 2
 operand_count verb = 1
 
 -- the command that words are, if they are one

@@ -2,7 +2,7 @@
 use Rattle.std.specs.Prelude.{List, map, string_bytes}
 use Rattle.clap.specs.Walk.{Row}
 use Rattle.command_line.specs.declared.found.Found.{Found}
-use Rattle.command_line.specs.declared.setting.Setting.TheVariants.{Input, Max, Trace, Count, Standard, Foreign}
+use Rattle.command_line.specs.declared.setting.Setting.TheVariants.{Input, Max, Trace, Count, Standard, Foreign, Thrown}
 use Rattle.command_line.specs.Command.{FoundView}
 use Rattle.command_line.specs.Matches.{operand_name, values_under}
 use Rattle.command_line.specs.Setting.{name_of}
@@ -16,6 +16,7 @@ found_seen f = record {
   trace = map string_bytes f.trace.items;
   count = map string_bytes f.count.items;
   scripts = map string_bytes f.scripts.items;
+  raised = map string_bytes f.raised.items;
 }
 
 -- what rows have under the names of the operands and of the options
@@ -28,4 +29,5 @@ found_under rows = record {
   trace = values_under (name_of Trace) rows;
   count = values_under (name_of Count) rows;
   scripts = values_under (name_of Foreign) rows;
+  raised = values_under (name_of Thrown) rows;
 }

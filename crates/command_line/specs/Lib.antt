@@ -1,6 +1,7 @@
 pub mod Parted
 pub mod Script
 pub mod Setting
+pub mod Address
 pub mod Pieces
 pub mod Gives
 pub mod Matches

@@ -6,6 +6,7 @@ ghost use Rattle.command_line.specs.Command.{command_from, command_seen};
 ghost use Rattle.command_line.specs.Found.{found_seen, found_under};
 ghost use Rattle.command_line.specs.Gives.{Gives};
 
+use crate::address::{places_for, raised_of};
 use crate::command::{Command, Verb};
 use crate::error::WordsError;
 use crate::matches::{OPERAND, texts_of};
@@ -25,6 +26,7 @@ pub struct Found {
     pub trace: Vec<String>,
     pub count: Vec<String>,
     pub scripts: Vec<String>,
+    pub raised: Vec<String>,
 }
 
 impl Found {
@@ -40,6 +42,7 @@ impl Found {
             trace: texts_of(alloc, matches, Setting::Trace.name())?,
             count: texts_of(alloc, matches, Setting::Count.name())?,
             scripts: texts_of(alloc, matches, Setting::Foreign.name())?,
+            raised: texts_of(alloc, matches, Setting::Thrown.name())?,
         })
     }
 
@@ -50,6 +53,8 @@ impl Found {
     {
         Ok(Command {
             verb,
+            places: places_for(alloc, verb, self.operands.as_slice())?,
+            raised: raised_of(self.raised.as_slice())?,
             operands: operands_for(verb, operands, self.operands)?,
             inputs: inputs_for(verb, self.inputs)?,
             max: max_of(self.max.as_slice())?,

@@ -1,6 +1,7 @@
 //! The words of the command line: which command they are, with its operands and options.
 #![tactic(auto)]
 
+mod address;
 mod command;
 mod error;
 mod found;
@@ -12,7 +13,7 @@ mod reader;
 mod script;
 mod setting;
 
-pub use command::{Command, Verb};
+pub use command::{Command, Raised, Verb};
 pub use eh_outer::Reply;
 pub use error::WordsError;
 pub use operands::source_size;

@@ -2,7 +2,7 @@
 ghost use Rattle.std.specs.Prelude.{◌≡◌, ◌≤◌, IfSome, map, string_bytes};
 ghost use Rattle.std.specs.List.{list_all};
 ghost use Rattle.command_line.specs.Gives.{Gives};
-ghost use Rattle.command_line.specs.Command.{are_named, at_most_one, exactly, greatest_size, inputs_for, is_size, one_to_eight, operands_for, source_size};
+ghost use Rattle.command_line.specs.Command.{are_named, at_least, at_most_one, exactly, greatest_size, inputs_for, is_size, one_to_eight, operands_for, source_size};
 
 use crate::command::Verb;
 use crate::error::WordsError;
@@ -26,6 +26,17 @@ pub fn exactly(count: usize, names: Vec<String>) -> Result<Vec<String>, WordsErr
 {
     if names.len() == count && are_named(names.as_slice()) {
         Ok(names)
+    } else {
+        Err(WordsError::Usage)
+    }
+}
+
+// So many texts or more, none empty.
+fn at_least(count: usize, texts: Vec<String>) -> Result<Vec<String>, WordsError>
+    ensures { Gives (λ found. map string_bytes found.items) result (at_least count (map string_bytes texts.items)) }
+{
+    if texts.len() >= count && are_named(texts.as_slice()) {
+        Ok(texts)
     } else {
         Err(WordsError::Usage)
     }
@@ -82,7 +93,7 @@ fn are_sizes(texts: &[String]) -> bool
         .all(|text| source_size(text.as_str()).is_some())
 }
 
-/// So many operands: names of files, but sizes where a source is generated.
+/// So many operands, or more where there are places: names of files, but sizes where a source is generated.
 pub fn operands_for(verb: Verb, count: usize, names: Vec<String>) -> Result<Vec<String>, WordsError>
     ensures { Gives (λ found. map string_bytes found.items) result (operands_for verb count (map string_bytes names.items)) }
 {
@@ -94,6 +105,7 @@ pub fn operands_for(verb: Verb, count: usize, names: Vec<String>) -> Result<Vec<
                 Err(WordsError::Usage)
             }
         }
+        Verb::At => at_least(count, names),
         _ => exactly(count, names),
     }
 }

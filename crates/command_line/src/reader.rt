@@ -19,63 +19,59 @@ pub struct Takes {
 }
 
 impl Verb {
+    // The options that its command has.
+    fn settings(self) -> &'static [Setting]
+        ensures { result.now ≡ settings_of self }
+    {
+        match self {
+            Verb::Compile => &[Setting::Standard],
+            Verb::Run => &[
+                Setting::Input,
+                Setting::Max,
+                Setting::Trace,
+                Setting::Count,
+                Setting::Standard,
+                Setting::Foreign,
+            ],
+            Verb::Exec => &[
+                Setting::Input,
+                Setting::Max,
+                Setting::Trace,
+                Setting::Count,
+                Setting::Foreign,
+            ],
+            Verb::Harts => &[Setting::Input, Setting::Trace],
+            Verb::Mean => &[
+                Setting::Input,
+                Setting::Max,
+                Setting::Trace,
+                Setting::Standard,
+                Setting::Foreign,
+            ],
+            Verb::At => &[Setting::Thrown],
+            Verb::Gen => &[Setting::Max],
+            Verb::Check | Verb::Dump | Verb::Frames | Verb::Doubts | Verb::Pack => &[],
+        }
+    }
+
+    // How many operands its command has, or at least how many, where there are places.
+    fn operands(self) -> usize
+        ensures { result ≡ operand_count self }
+    {
+        match self {
+            Verb::Compile | Verb::Harts | Verb::Pack | Verb::At => 2,
+            _ => 1,
+        }
+    }
+
     // What its command takes.
     fn takes(self) -> Takes
         ensures settings { result.settings.now ≡ settings_of self }
         ensures operands { result.operands ≡ operand_count self }
     {
-        match self {
-            Verb::Mean => Takes {
-                settings: &[
-                    Setting::Input,
-                    Setting::Max,
-                    Setting::Trace,
-                    Setting::Standard,
-                    Setting::Foreign,
-                ],
-                operands: 1,
-            },
-            Verb::Run => Takes {
-                settings: &[
-                    Setting::Input,
-                    Setting::Max,
-                    Setting::Trace,
-                    Setting::Count,
-                    Setting::Standard,
-                    Setting::Foreign,
-                ],
-                operands: 1,
-            },
-            Verb::Exec => Takes {
-                settings: &[
-                    Setting::Input,
-                    Setting::Max,
-                    Setting::Trace,
-                    Setting::Count,
-                    Setting::Foreign,
-                ],
-                operands: 1,
-            },
-            Verb::Harts => Takes {
-                settings: &[Setting::Input, Setting::Trace],
-                operands: 2,
-            },
-            Verb::Compile => Takes {
-                settings: &[Setting::Standard],
-                operands: 2,
-            },
-            Verb::Gen => Takes {
-                settings: &[Setting::Max],
-                operands: 1,
-            },
-            Verb::Check | Verb::Dump | Verb::Frames => Takes {
-                settings: &[],
-                operands: 1,
-            },
-            Verb::Pack => Takes {
-                settings: &[],
-                operands: 2,
-            },
+        Takes {
+            settings: self.settings(),
+            operands: self.operands(),
         }
     }
 }
@@ -93,6 +89,8 @@ fn verb_of(word: &str) -> Option<Verb>
         "check" => Some(Verb::Check),
         "dump" => Some(Verb::Dump),
         "frames" => Some(Verb::Frames),
+        "at" => Some(Verb::At),
+        "doubts" => Some(Verb::Doubts),
         "pack" => Some(Verb::Pack),
         "gen" => Some(Verb::Gen),
         _ => None,

@@ -17,6 +17,8 @@ pub enum Setting {
     Standard,
     /// What a module replies.
     Foreign,
+    /// What comes by the frames of an image.
+    Thrown,
 }
 
 impl Setting {
@@ -31,6 +33,7 @@ impl Setting {
             Setting::Count => "count",
             Setting::Standard => "std",
             Setting::Foreign => "foreign",
+            Setting::Thrown => "type",
         }
     }
 
@@ -39,7 +42,11 @@ impl Setting {
         ensures { result ≡ value_count self }
     {
         match self {
-            Setting::Input | Setting::Max | Setting::Standard | Setting::Foreign => 1,
+            Setting::Input
+            | Setting::Max
+            | Setting::Standard
+            | Setting::Foreign
+            | Setting::Thrown => 1,
             Setting::Trace | Setting::Count => 0,
         }
     }

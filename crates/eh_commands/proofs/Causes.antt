@@ -1,6 +1,6 @@
 -- What is known of the files that were read, or not.
 use Rattle.std.proofs.Common.{◌≡◌, ◌≤◌, ℕ, List, length, Option, Some, None, IfSome, inl, inr, subst, arith}
-use Rattle.std.specs.Prelude.{◌<◌, ⊤, IsSomeAnd}
+use Rattle.std.specs.Prelude.{◌<◌, IsSomeAnd}
 use Rattle.std.specs.FinMap.{get, insert}
 use Rattle.eh_outer.specs.Store.{Files, StoreView, Refuses}
 use Rattle.eh_outer.specs.declared.store.RefusalKind.{RefusalKind}
@@ -8,20 +8,15 @@ use Rattle.eh_commands.specs.declared.status.Status.{Status}
 use Rattle.eh_commands.specs.declared.status.Status.TheVariants.{Done, Usage, SourceRefused, ImageRefused, ScheduleRefused, ReadFault, TooLong, WriteFault, NoMemory, Aborted, Budget, Stack, MachineFault, Undefined, Differs}
 use Rattle.eh_commands.specs.File.{Asked, ToldInput, ToldBoth, Unread, UnreadInput, UnreadEither, IsFile, IsInput, input_limit}
 
-pub told_from : (limit : ℕ) (files : Option Files) (name file : List ℕ) (P : List ℕ → Type 0) → length file ≤ limit → IfSome files (λ m. get m name ≡ Some file) → P file →
-    IfSome files (λ m. (s : List ℕ) × (get m name ≡ Some s) × (length s ≤ limit) × P s)
-told_from limit None name file P short there holds = tt
-told_from limit (Some m) name file P short there holds = (file, there, short, holds)
-
 told_input : (i : Option (List ℕ)) (store : StoreView) (input : List ℕ) (P : List ℕ → Type 0) → IsInput store i input → P input → ToldInput store i P
 told_input None store input P e holds = subst P e holds
-told_input (Some name) store input P is holds = told_from input_limit store.files name input P is.0 is.1 holds
+told_input (Some name) store input P is holds = (input, is, holds)
 
 -- what holds of the file and the input that were read
 pub told_both : (limit : ℕ) (a : Asked) (store : StoreView) (file input : List ℕ) (P : List ℕ → List ℕ → Type 0) → IsFile limit store a.source file → IsInput store a.input input → P file input →
     ToldBoth limit a store P
 told_both limit a store file input P file_is input_is holds =
-    told_from limit store.files a.source file (λ f. ToldInput store a.input (P f)) file_is.0 file_is.1 (told_input a.input store input (P file) input_is holds)
+    (file, file_is, told_input a.input store input (P file) input_is holds)
 
 -- the store between two readings tells the files of before
 pub input_since : (i : Option (List ℕ)) (old mid : StoreView) (input : List ℕ) → mid.files ≡ old.files → IsInput mid i input → IsInput old i input
@@ -63,7 +58,7 @@ input_unread_since (Some name) old mid new later same status why = unread_since 
 pub input_unread : (limit : ℕ) (a : Asked) (file : List ℕ) (old mid new : StoreView) → IsFile limit old a.source file → old.faults ≤ mid.faults → mid.files ≡ old.files →
     (status : Status) → UnreadInput a.input mid new status → UnreadEither limit a old new status
 input_unread limit a file old mid new is later same status why =
-    inr (told_from limit old.files a.source file (λ f. ⊤) is.0 is.1 tt, input_unread_since a.input old mid new later same status why)
+    inr ((file, is, tt), input_unread_since a.input old mid new later same status why)
 
 -- a file that is not read has one of three statuses
 pub unread_one : (P : Status → Type 0) → P ReadFault → P TooLong → P NoMemory → (limit : ℕ) (name : List ℕ) (old new : StoreView) (status : Status) → Unread limit name old new status → P status

@@ -16,9 +16,9 @@ use Rattle.eh_outer.specs.Store.{StoreView}
 use Rattle.eh_commands.specs.declared.status.Status.{Status}
 use Rattle.eh_commands.specs.declared.status.Status.TheVariants.{Done, Usage, SourceRefused, ImageRefused, ScheduleRefused, ReadFault, TooLong, WriteFault, NoMemory, Aborted, Budget, Stack, MachineFault, Undefined, Differs}
 use Rattle.eh_commands.specs.Answer.{status_of_refusal}
-use Rattle.eh_commands.specs.File.{Asked, NamesRefusal, Unread, source_limit}
+use Rattle.eh_commands.specs.File.{Told, Asked, NamesRefusal, Unread, source_limit}
 use Rattle.eh_commands.specs.Compile.{CompilesTo, ImageStored, SourceCompiles, CompileCause}
-use Rattle.eh_commands.proofs.Causes.{told_from, refused_since, stored_since}
+use Rattle.eh_commands.proofs.Causes.{refused_since, stored_since}
 
 -- what the front end answers for a source is checked
 pub is_checked : (std : Std) (source : List ℕ) (c : CheckedValue) → FrontAnswers std source (Ok c) → IsChecked (checked_of c)
@@ -97,8 +97,8 @@ unread_compiles a old new Undefined why same = absurd why
 unread_compiles a old new Differs why same = absurd why
 
 module _ (a : Asked) (source : List ℕ) (old mid new : StoreView) (short : length source ≤ source_limit) (there : IfSome old.files (λ m. get m a.source ≡ Some source)) (later : old.faults ≤ mid.faults) (same : mid.files ≡ old.files) where
-  told : (P : List ℕ → Type 0) → P source → IfSome old.files (λ m. (s : List ℕ) × (get m a.source ≡ Some s) × (length s ≤ source_limit) × P s)
-  told P holds = told_from source_limit old.files a.source source P short there holds
+  told : (P : List ℕ → Type 0) → P source → Told source_limit old a.source P
+  told P holds = (source, (short, there), holds)
 
   pub source_compiled : (status : Status) → SourceCompiles a.std a.image source mid new status → CompileCause a old new status
   source_compiled Done (bytes, is, stores) = (bytes, told (CompilesTo a.std bytes) is, stored_since a.image bytes old.files mid.files new.files same stores)

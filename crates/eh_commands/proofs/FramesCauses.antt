@@ -7,10 +7,9 @@ use Rattle.debug_frames.specs.Agreement.{Agreement, same, differ}
 use Rattle.debug_frames.specs.Compares.{Compares}
 use Rattle.eh_commands.specs.declared.status.Status.{Status}
 use Rattle.eh_commands.specs.declared.status.Status.TheVariants.{Done, Usage, SourceRefused, ImageRefused, ScheduleRefused, ReadFault, TooLong, WriteFault, NoMemory, Aborted, Budget, Stack, MachineFault, Undefined, Differs}
-use Rattle.eh_commands.specs.File.{Unread, NamesRefusal}
+use Rattle.eh_commands.specs.File.{Told, Unread, NamesRefusal}
 use Rattle.eh_commands.specs.Frames.{AgreementEnds, FramesEnds, FramesCause, RefusesForms, agreement_status}
 use Rattle.eh_commands.specs.Image.{image_limit}
-use Rattle.eh_commands.proofs.Causes.{told_from}
 use Rattle.eh_commands.proofs.Named.{unread_named}
 
 -- an agreement has no status but these
@@ -46,8 +45,8 @@ agreement_ends file a old new Differs is h = (a, is, h)
 
 -- what was read, and what became of it
 module _ (name file : List ℕ) (old new : StoreView) (out out' : SinkView) (short : length file ≤ image_limit) (there : IfSome old.files (λ m. get m name ≡ Some file)) where
-  told : (P : List ℕ → Type 0) → P file → IfSome old.files (λ m. (s : List ℕ) × (get m name ≡ Some s) × (length s ≤ image_limit) × P s)
-  told P holds = told_from image_limit old.files name file P short there holds
+  told : (P : List ℕ → Type 0) → P file → Told image_limit old name P
+  told P holds = (file, (short, there), holds)
 
   pub frames_caused : (status : Status) → FramesEnds file out out' status → FramesCause name old new out out' status
   frames_caused Done (a, is, h) = (a, told (λ f. Compares f a) is, h)

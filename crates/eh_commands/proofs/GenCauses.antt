@@ -34,7 +34,7 @@ use Rattle.eh_run.specs.Loads.{Loads}
 use Rattle.eh_run.specs.Program.{Program as ReadyProgram}
 use Rattle.eh_run.specs.Runs.{IsRun}
 use Rattle.command_line.specs.declared.command.Verb.{Verb}
-use Rattle.command_line.specs.declared.command.Verb.TheVariants.{Compile, Run, Exec, Harts, Mean, Check, Dump, Frames, Pack, Gen}
+use Rattle.command_line.specs.declared.command.Verb.TheVariants.{Compile, Run, Exec, Harts, Mean, Check, Dump, Frames, At, Doubts, Pack, Gen}
 use Rattle.command_line.specs.Command.{CommandView, is_size, source_size}
 use Rattle.command_line.proofs.Sizes.{AreSized}
 use Rattle.eh_commands.specs.declared.status.Status.{Status}
@@ -205,4 +205,6 @@ is_sized c are = by c.verb are
     by Check are = tt
     by Dump are = tt
     by Frames are = tt
+    by At are = tt
+    by Doubts are = tt
     by Pack are = tt

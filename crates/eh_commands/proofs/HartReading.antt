@@ -7,21 +7,24 @@ use Rattle.eh_outer.specs.Store.{StoreView}
 use Rattle.eh_commands.specs.declared.status.Status.{Status}
 use Rattle.eh_commands.specs.declared.status.Status.TheVariants.{ReadFault, TooLong, NoMemory}
 use Rattle.eh_commands.specs.File.{IsFile, Told, Unread, input_limit}
-use Rattle.eh_commands.specs.Image.{image_limit}
-use Rattle.eh_commands.specs.HartFiles.{AreFiles, HartsAsked, Named, ToldAll, ToldHarts, UnreadAmong, files_of, input_files, kept_bytes, schedule_limit}
-use Rattle.eh_commands.proofs.Causes.{told_from, unread_one, unread_since}
+use Rattle.eh_commands.specs.HartFiles.{AreFiles, HartsAsked, Named, ToldAll, ToldHarts, UnreadAmong, files_of, input_files, kept_bytes}
+use Rattle.eh_commands.proofs.Causes.{unread_one, unread_since}
 
 -- ---- behind a file that was read
+-- what the store between two readings tells, the first of them told
+told_since : (limit : ℕ) (name : List ℕ) (old mid : StoreView) → mid.files ≡ old.files → Told limit mid name (λ file. ⊤) → Told limit old name (λ file. ⊤)
+told_since limit name old mid same (file, (short, there), done) = (file, (short, subst (λ f. IfSome f (λ files. get files name ≡ Some file)) same there), done)
+
 among_since : (files : List Named) (old mid new : StoreView) → old.faults ≤ mid.faults → mid.files ≡ old.files → (status : Status) → UnreadAmong files mid new status → UnreadAmong files old new status
 among_since [] old mid new later same status why = why
 among_since ((limit, name) ∷ files) old mid new later same status (inl why) = inl (unread_since limit name old mid new later same status why)
 among_since ((limit, name) ∷ files) old mid new later same status (inr (told, why)) =
-    inr (subst (λ f. IfSome f (λ m. (bytes : List ℕ) × (get m name ≡ Some bytes) × (length bytes ≤ limit) × ⊤)) same told, among_since files old mid new later same status why)
+    inr (told_since limit name old mid same told, among_since files old mid new later same status why)
 
 pub unread_behind : (limit : ℕ) (name bytes : List ℕ) (files : List Named) (old mid new : StoreView) → IsFile limit old name bytes → old.faults ≤ mid.faults → mid.files ≡ old.files → (status : Status) →
     UnreadAmong files mid new status → UnreadAmong ((limit, name) ∷ files) old new status
 unread_behind limit name bytes files old mid new is later same status why =
-    inr (told_from limit old.files name bytes (λ f. ⊤) is.0 is.1 tt, among_since files old mid new later same status why)
+    inr ((bytes, is, tt), among_since files old mid new later same status why)
 
 pub are_since : (files : List Named) (old mid : StoreView) (all : List (List ℕ)) → mid.files ≡ old.files → AreFiles files mid all → AreFiles files old all
 are_since [] old mid [] same are = tt
@@ -72,7 +75,7 @@ unread_there [] others name old new [] status are why = inl why
 unread_there [] others name old new (i ∷ inputs) status are why = absurd are
 unread_there (d ∷ done) others name old new [] status are why = absurd are
 unread_there (d ∷ done) others name old new (i ∷ inputs) status are why =
-    inr (told_from input_limit old.files d i (λ f. ⊤) are.0.0 are.0.1 tt, unread_there done others name old new inputs status are.1 why)
+    inr ((i, are.0, tt), unread_there done others name old new inputs status are.1 why)
 
 pub inputs_fail : (names rest others : List (List ℕ)) (name : List ℕ) (old now new : StoreView) (inputs : List (Vec ℕ Global)) (status : Status) → rest ≡ name ∷ others → InputsSoFar names rest old now inputs →
     Unread input_limit name now new status → UnreadAmong (input_files names) old new status
@@ -87,14 +90,13 @@ told_all [] store [] P are holds = holds
 told_all [] store (i ∷ inputs) P are holds = absurd are
 told_all (name ∷ names) store [] P are holds = absurd are
 told_all (name ∷ names) store (input ∷ inputs) P are holds =
-    told_from input_limit store.files name input (λ i. ToldAll store names (λ is. P (i ∷ is))) are.0.0 are.0.1 (told_all names store inputs (λ is. P (input ∷ is)) are.1 holds)
+    (input, are.0, told_all names store inputs (λ is. P (input ∷ is)) are.1 holds)
 
 -- what holds of the files that were read
 pub told_harts : (a : HartsAsked) (store : StoreView) (image text : List ℕ) (inputs : List (List ℕ)) (P : List ℕ → List ℕ → List (List ℕ) → Type 0) → AreFiles (files_of a) store (image ∷ (text ∷ inputs)) →
     P image text inputs → ToldHarts a store P
 told_harts a store image text inputs P are holds =
-    told_from image_limit store.files a.image image (λ i. Told schedule_limit store a.schedule (λ t. ToldAll store a.inputs (P i t))) are.0.0 are.0.1
-    (told_from schedule_limit store.files a.schedule text (λ t. ToldAll store a.inputs (P image t)) are.1.0.0 are.1.0.1 (told_all a.inputs store inputs (P image text) are.1.1 holds))
+    (image, are.0, (text, are.1.0, told_all a.inputs store inputs (P image text) are.1.1 holds))
 
 -- as many inputs as names
 pub as_many : (names : List (List ℕ)) (store : StoreView) (inputs : List (List ℕ)) → AreFiles (input_files names) store inputs → length inputs ≡ length names

@@ -1,6 +1,5 @@
 -- From what the parts of `check` and `dump` say to the cause of a status.
 use Rattle.std.proofs.Common.{Err, ◌≡◌, ◌≤◌, ℕ, List, length, [], ◌∷◌, Some, IfSome, Ok, subst}
-use Rattle.std.specs.Prelude.{IsErrAnd}
 use Rattle.std.specs.FinMap.{get}
 use Rattle.eh_outer.specs.Store.{StoreView}
 use Rattle.eh_outer.specs.Sink.{SinkView, Fails, Puts}
@@ -9,14 +8,12 @@ use Rattle.eh_outer.specs.declared.sink.SinkError.TheVariants.{Failed}
 use Rattle.table_check.specs.Checks.{ChecksImage}
 use Rattle.table_check.specs.declared.summary.Summary.{Summary}
 use Rattle.elf_image.specs.Clean.{CleanImage, clean}
-use Rattle.elf_image.specs.Reports.{reported}
 use Rattle.eh_commands.specs.declared.status.Status.{Status}
 use Rattle.eh_commands.specs.declared.status.Status.TheVariants.{Done, Usage, SourceRefused, ImageRefused, ScheduleRefused, ReadFault, TooLong, WriteFault, NoMemory, Aborted, Budget, Stack, MachineFault, Undefined, Differs}
 use Rattle.eh_commands.specs.File.{Unread}
-use Rattle.eh_commands.specs.Image.{ImageEnds, ImageCause, check_lines, image_limit, status_of, summary_line}
+use Rattle.eh_commands.specs.Image.{ImageEnds, ImageCause, check_lines, image_limit, summary_line}
 use Rattle.run_items.specs.Output.{FailsAmong}
 use Rattle.run_items.proofs.Puts.{fails_first}
-use Rattle.eh_commands.proofs.Causes.{told_from}
 
 -- a sink has one error
 pub failed_put : (piece : List ℕ) (old new : SinkView) (e : SinkError) → Puts piece old new (Err e) → Fails piece old new
@@ -24,10 +21,10 @@ failed_put piece old new Failed h = h
 
 pub image_caused : (lines : CleanImage → List (List ℕ)) (name file : List ℕ) (old new : StoreView) (out out' : SinkView) (status : Status) → length file ≤ image_limit →
     IfSome old.files (λ m. get m name ≡ Some file) → ImageEnds lines file out out' status → ImageCause lines name old new out out' status
-image_caused lines name file old new out out' Done short there (image, is, puts) = (image, told_from image_limit old.files name file (λ f. clean f ≡ Ok image) short there is, puts)
-image_caused lines name file old new out out' WriteFault short there (image, is, puts) = (image, told_from image_limit old.files name file (λ f. clean f ≡ Ok image) short there is, puts)
+image_caused lines name file old new out out' Done short there (image, is, puts) = (image, (file, (short, there), is), puts)
+image_caused lines name file old new out out' WriteFault short there (image, is, puts) = (image, (file, (short, there), is), puts)
 image_caused lines name file old new out out' (ImageRefused number place location other) short there (is, same) =
-    (told_from image_limit old.files name file (λ f. IsErrAnd (clean f) (λ fault. ImageRefused number place location other ≡ status_of (reported fault))) short there is, same)
+    ((file, (short, there), is), same)
 image_caused lines name file old new out out' NoMemory short there h = h
 image_caused lines name file old new out out' Usage short there h = absurd h
 image_caused lines name file old new out out' (SourceRefused number place) short there h = absurd h

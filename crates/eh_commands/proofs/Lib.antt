@@ -5,6 +5,7 @@ pub mod Hexadecimal
 pub mod Causes
 pub mod ImageCauses
 pub mod FramesCauses
+pub mod AtCauses
 pub mod PackCauses
 pub mod Reports
 pub mod Meanings

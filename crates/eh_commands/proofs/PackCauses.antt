@@ -15,10 +15,10 @@ use Rattle.command_line.specs.declared.command.Verb.TheVariants.{Pack}
 use Rattle.eh_commands.specs.declared.status.Status.{Status}
 use Rattle.eh_commands.specs.declared.status.Status.TheVariants.{Done, Usage, SourceRefused, ImageRefused, ScheduleRefused, ReadFault, TooLong, WriteFault, NoMemory, Aborted, Budget, Stack, MachineFault, Undefined, Differs}
 use Rattle.eh_commands.specs.Answer.{KeptBy}
-use Rattle.eh_commands.specs.File.{Asked, NamesRefusal, Unread}
+use Rattle.eh_commands.specs.File.{Asked, NamesRefusal, Told, Unread}
 use Rattle.eh_commands.specs.Image.{image_limit, status_of}
 use Rattle.eh_commands.specs.Pack.{PacksTo, RefusesPacking, Untouched, PackedEnds, PackEnds, PackCause}
-use Rattle.eh_commands.proofs.Causes.{told_from, refused_since, stored_since}
+use Rattle.eh_commands.proofs.Causes.{refused_since, stored_since}
 
 -- what packing refuses decides the status
 refuses : (read : Result Packing Fault) (e : ImageError) → IsErrAnd read (λ fault. e ≡ reported fault) → IsErrAnd read (λ fault. status_of e ≡ status_of (reported fault))
@@ -61,8 +61,8 @@ module _ (name : List ℕ) (p : Packing) (old mid new : StoreView) (out out' : S
   fails_since (inr (stores, fails)) = inr (stores_since stores, fails)
 
 module _ (a : Asked) (file : List ℕ) (old mid new : StoreView) (out out' : SinkView) (short : length file ≤ image_limit) (there : IfSome old.files (λ m. get m a.source ≡ Some file)) (later : old.faults ≤ mid.faults) (same : mid.files ≡ old.files) where
-  told : (P : List ℕ → Type 0) → P file → IfSome old.files (λ m. (s : List ℕ) × (get m a.source ≡ Some s) × (length s ≤ image_limit) × P s)
-  told P holds = told_from image_limit old.files a.source file P short there holds
+  told : (P : List ℕ → Type 0) → P file → Told image_limit old a.source P
+  told P holds = (file, (short, there), holds)
 
   pub pack_caused : (status : Status) → PackEnds file a.image mid new out out' status → PackCause a old new out out' status
   pack_caused Done (p, is, (stores, puts)) = (p, told (PacksTo p) is, (stores_since a.image p old mid new out out' later same stores, puts))

@@ -1,5 +1,5 @@
 -- What is known of a told source.
-use Rattle.std.proofs.Common.{◌≡◌, ◌≤◌, ◌∙◌, ℕ, List, length, Some, IfSome, sym, subst}
+use Rattle.std.proofs.Common.{◌≡◌, ◌∙◌, ℕ, List, Some, IfSome, sym, subst}
 use Rattle.std.specs.FinMap.{get}
 use Rattle.eh_outer.specs.Store.{Files, StoreView}
 use Rattle.cxx_ast.specs.declared.standard.Std.{Std}
@@ -15,7 +15,8 @@ some_same e = cc
 -- what holds of the told file holds of this source
 pub told_of : (limit : ℕ) (store : StoreView) (name file : List ℕ) (files : Files) (P : List ℕ → Type 0) → store.files ≡ Some files → get files name ≡ Some file → Told limit store name P → P file
 told_of limit store name file files P is there told =
-    let (held, found, short, holds) = subst (λ f. IfSome f (λ m. (s : List ℕ) × (get m name ≡ Some s) × (length s ≤ limit) × P s)) is told in
+    let (held, (short, it_is), holds) = told in
+    let found = subst (λ f. IfSome f (λ m. get m name ≡ Some held)) is it_is in
     subst P (some_same (sym found ∙ there)) holds
 
 pub valid_same : {p q : Program} → valid p ≡ valid q → p ≡ q

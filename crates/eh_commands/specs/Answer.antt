@@ -5,7 +5,7 @@ use Rattle.eh_outer.specs.Sink.{SinkView, Gains}
 use Rattle.eh_commands.specs.declared.status.Status.{Status}
 use Rattle.eh_commands.specs.declared.status.Status.TheVariants.{Done, Usage, SourceRefused, WriteFault, NoMemory}
 use Rattle.command_line.specs.declared.command.Verb.{Verb}
-use Rattle.command_line.specs.declared.command.Verb.TheVariants.{Compile, Run, Exec, Harts, Mean, Check, Dump, Frames, Pack, Gen}
+use Rattle.command_line.specs.declared.command.Verb.TheVariants.{Compile, Run, Exec, Harts, Mean, Check, Dump, Frames, At, Doubts, Pack, Gen}
 use Rattle.command_line.specs.declared.error.WordsError.{WordsError}
 use Rattle.command_line.specs.declared.error.WordsError.TheVariants as words
 use Rattle.command_line.specs.Command.{CommandView}
@@ -21,8 +21,9 @@ use Rattle.eh_commands.specs.HartFiles.{harts_asked}
 use Rattle.eh_commands.specs.Harts.{HartsCause}
 use Rattle.cxx_front.specs.declared.error.SourceError.{SourceError}
 use Rattle.cxx_front.specs.declared.error.SourceError.TheVariants as errors
-use Rattle.eh_commands.specs.Image.{ImageCause, check_lines, dump_lines}
+use Rattle.eh_commands.specs.Image.{ImageCause, check_lines, doubt_lines, dump_lines}
 use Rattle.eh_commands.specs.Frames.{FramesCause}
+use Rattle.eh_commands.specs.At.{AtCause}
 use Rattle.eh_commands.specs.Pack.{PackCause}
 
 -- the status of a source that the front end refuses
@@ -40,6 +41,8 @@ CommandCause Mean a old new out out' status = MeanCause a old new out out' statu
 CommandCause Check a old new out out' status = ImageCause check_lines a.source old new out out' status
 CommandCause Dump a old new out out' status = ImageCause dump_lines a.source old new out out' status
 CommandCause Frames a old new out out' status = FramesCause a.source old new out out' status
+CommandCause At a old new out out' status = AtCause a old new out out' status
+CommandCause Doubts a old new out out' status = ImageCause doubt_lines a.source old new out out' status
 CommandCause Pack a old new out out' status = PackCause a old new out out' status
 CommandCause Gen a old new out out' status = GenCause a out out' status × (new ≡ old)
 

@@ -3,6 +3,7 @@ use Rattle.std.specs.Prelude.{Vec, ◌≡◌, ◌⊎◌, ◌<◌, ◌≤◌, ⊤
 use Rattle.std.specs.FinMap.{get}
 use Rattle.std.specs.Global.{Global}
 use Rattle.cxx_ast.specs.declared.standard.Std.{Std}
+use Rattle.command_line.specs.declared.command.Raised.{Raised}
 use Rattle.eh_outer.specs.Module.{ModuleView}
 use Rattle.eh_outer.specs.Store.{StoreView, Refuses}
 use Rattle.eh_outer.specs.declared.store.RefusalKind.TheVariants.{FailedRead, LongRead}
@@ -18,11 +19,13 @@ source_limit = 2 ^ 20
 abbrev pub input_limit : ℕ
 input_limit = 2 ^ 20
 
--- what a command asks of a file: its name, that of the image to be stored or of the schedule, that of its input if it has one, those of all inputs, the most turns or steps,
--- the standard, whether events are printed, whether steps are counted, and the modules
+-- what a command asks of a file: its name, that of the image to be stored or of the schedule, places of it and what comes by there, that of its input if it has one, those of
+-- all inputs, the most turns or steps, the standard, whether events are printed, whether steps are counted, and the modules
 pub record Asked : Type 0 where
   pub source : List ℕ
   pub image : List ℕ
+  pub places : List ℕ
+  pub raised : Raised
   pub input : Option (List ℕ)
   pub inputs : List (List ℕ)
   pub turns : ℕ
@@ -31,9 +34,13 @@ pub record Asked : Type 0 where
   pub count : Bool
   pub modules : List ModuleView
 
--- where the store tells its files, it has one of that name within the limit, of which this holds
+-- these bytes are within the limit, and where the store tells its files, they are the file of that name
+abbrev pub IsFile : ℕ → StoreView → List ℕ → List ℕ → Type 0
+IsFile limit store name bytes = (length bytes ≤ limit) × IfSome store.files (λ files. get files name ≡ Some bytes)
+
+-- there is such a file, of which this holds
 abbrev pub Told : ℕ → StoreView → List ℕ → (List ℕ → Type 0) → Type 0
-Told limit store name P = IfSome store.files (λ files. (file : List ℕ) × (get files name ≡ Some file) × (length file ≤ limit) × P file)
+Told limit store name P = (file : List ℕ) × IsFile limit store name file × P file
 
 -- so of the input, which is empty where no file is named
 abbrev pub ToldInput : StoreView → Option (List ℕ) → (List ℕ → Type 0) → Type 0
@@ -60,10 +67,6 @@ UnreadInput (Some name) old new status = Unread input_limit name old new status
 -- the file is not read within its limit; or it is, and its input, which is read behind it, is not
 abbrev pub UnreadEither : ℕ → Asked → StoreView → StoreView → Status → Type 0
 UnreadEither limit a old new status = Unread limit a.source old new status ⊎ (Told limit old a.source (λ file. ⊤) × UnreadInput a.input old new status)
-
--- these bytes are within the limit, and where the store tells its files, they are the file of that name
-abbrev pub IsFile : ℕ → StoreView → List ℕ → List ℕ → Type 0
-IsFile limit store name bytes = (length bytes ≤ limit) × IfSome store.files (λ files. get files name ≡ Some bytes)
 
 -- so of the input, which is empty where no file is named
 abbrev pub IsInput : StoreView → Option (List ℕ) → List ℕ → Type 0

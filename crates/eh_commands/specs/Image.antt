@@ -1,4 +1,4 @@
--- When `check FILE` and `dump FILE` give each status, and what they write.
+-- When `check FILE`, `dump FILE` and `doubts FILE` give each status, and what they write.
 use Rattle.std.specs.Prelude.{◌≡◌, ◌≤◌, ◌⊎◌, ℕ, ◌^◌, List, [], ◌∷◌, ◌++◌, length, codes, Some, Result, Ok, Err, IsErrAnd}
 use Rattle.std.specs.FinMap.{get}
 use Rattle.std.specs.Fmt.{decimal}
@@ -13,6 +13,7 @@ use Rattle.elf_image.specs.Clean.{CleanImage, clean}
 use Rattle.table_check.specs.Counts.{counts}
 use Rattle.table_check.specs.declared.summary.Summary.{Summary}
 use Rattle.table_dump.specs.Dump.{dump}
+use Rattle.image_doubts.specs.Doubts.{doubts}
 use Rattle.plain_text.specs.Lines.{lines_of}
 use Rattle.eh_commands.specs.declared.status.Status.{Status}
 use Rattle.eh_commands.specs.declared.status.Status.TheVariants.{Done, ImageRefused, ReadFault, TooLong, WriteFault, NoMemory}
@@ -39,6 +40,10 @@ check_lines image = summary_line (counts image) ∷ []
 -- what `dump` prints of a clean image
 abbrev pub dump_lines : CleanImage → List (List ℕ)
 dump_lines image = lines_of (dump image)
+
+-- what `doubts` prints of a clean image
+abbrev pub doubt_lines : CleanImage → List (List ℕ)
+doubt_lines image = lines_of (doubts image)
 
 -- the status of a refusal
 abbrev pub status_of : ImageError → Status

@@ -3,6 +3,7 @@ pub mod Status
 pub mod File
 pub mod Image
 pub mod Frames
+pub mod At
 pub mod Pack
 pub mod Mean
 pub mod RunEnd

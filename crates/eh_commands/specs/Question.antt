@@ -9,6 +9,8 @@ abbrev pub asked_by : Question → List ModuleView → Asked
 asked_by q modules = record {
   source = q.source.now;
   image = q.image.now;
+  places = q.places.now;
+  raised = q.raised;
   input = option_map (λ name. name.now) q.input;
   inputs = map string_bytes q.inputs.now;
   turns = q.turns;

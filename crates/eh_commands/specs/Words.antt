@@ -28,6 +28,8 @@ abbrev pub asked : List ModuleView → CommandView → Asked
 asked modules command = record {
   source = file_of command;
   image = second_of command.operands;
+  places = command.places;
+  raised = command.raised;
   input = slice_get command.inputs 0;
   inputs = command.inputs;
   turns = command.max;

@@ -9,13 +9,14 @@ ghost use Rattle.eh_commands.specs.Words.{asked, texts};
 ghost use Rattle.eh_commands.specs.Answer.{Cause, CommandCause, KeepsFiles, KeptBy, Reports};
 ghost use Rattle.eh_commands.specs.Status.{text_of_status};
 
+use crate::at::place_file;
 use crate::compile::compile_file;
 use crate::exec::exec_file;
 use crate::file::{Ended, Question};
 use crate::frames::frames_file;
 use crate::generate::generate_and_count;
 use crate::harts::harts_file;
-use crate::image::{check_file, dump_file};
+use crate::image::{check_file, doubts_file, dump_file};
 use crate::mean::mean_file;
 use crate::pack::pack_file;
 use crate::report::report;
@@ -52,6 +53,8 @@ fn question_of(command: &Command) -> Question<'_>
     Question {
         source: first_of(command.operands.as_slice()).unwrap_or(""),
         image: second_of(command.operands.as_slice()).unwrap_or(""),
+        places: command.places.as_slice(),
+        raised: command.raised,
         input: first_of(command.inputs.as_slice()),
         inputs: command.inputs.as_slice(),
         turns: command.max,
@@ -95,8 +98,16 @@ fn execute<'a, St: Store, Out: Sink, M: Module>(
             status: dump_file(alloc, file, store, out),
             file,
         },
+        Verb::Doubts => Ended {
+            status: doubts_file(alloc, file, store, out),
+            file,
+        },
         Verb::Frames => Ended {
             status: frames_file(alloc, file, store, out),
+            file,
+        },
+        Verb::At => Ended {
+            status: place_file(alloc, question, store, out),
             file,
         },
         Verb::Pack => pack_file(alloc, question, store, out),

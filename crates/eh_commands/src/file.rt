@@ -4,6 +4,7 @@ ghost use Rattle.eh_commands.specs.File.{NamesRefusal, ReadsBoth, ReadsFile, Rea
 ghost use Rattle.eh_commands.specs.Question.{asked_by};
 
 use crate::status::Status;
+use command_line::Raised;
 use cxx_ast::standard::Std;
 use eh_outer::{Store, StoreError};
 use std::alloc::Global;
@@ -14,12 +15,14 @@ pub const SOURCE_LIMIT: u64 = 0x10_0000;
 /// The longest input, in bytes.
 pub const INPUT_LIMIT: u64 = 0x10_0000;
 
-/// What is asked of a file: its name, or the size of a source that is generated; that of the image to be stored, or of the schedule; that of
-/// its input if it has one, and those of all inputs; the most turns or steps, the standard, whether events are printed, and whether steps are counted.
+/// What is asked of a file: its name, or the size of a source that is generated; that of the image to be stored, or of the schedule; places
+/// of it, and what comes by there; that of its input if it has one, and those of all inputs; the most turns or steps, the standard, whether events are printed, and whether steps are counted.
 #[derive(Clone, Copy)]
 pub struct Question<'a> {
     pub source: &'a str,
     pub image: &'a str,
+    pub places: &'a [u64],
+    pub raised: Raised,
     pub input: Option<&'a str>,
     pub inputs: &'a [String],
     pub turns: u64,

@@ -1,7 +1,7 @@
 -- What the causes of `compile` promise.
-use Rattle.std.proofs.Common.{◌≡◌, ◌⊎◌, ◌∙◌, ◌≤◌, inl, inr, ℕ, List, length, Option, Some, None, IfSome, refl, ap, sym, subst}
-use Rattle.std.specs.FinMap.{get, insert}
-use Rattle.eh_outer.specs.Store.{Files, StoreView, Stores}
+use Rattle.std.proofs.Common.{◌≡◌, ◌⊎◌, ◌∙◌, inl, inr, ℕ, List, Some, IfSome, refl, ap, sym, subst}
+use Rattle.std.specs.FinMap.{insert}
+use Rattle.eh_outer.specs.Store.{StoreView, Stores}
 use Rattle.eh_outer.specs.Sink.{SinkView}
 use Rattle.cxx_ast.specs.Plain.{Program}
 use Rattle.cxx_ast.specs.Broken.{Valid}
@@ -14,6 +14,7 @@ use Rattle.image_link.specs.Runs.{RunsUnit}
 use Rattle.eh_commands.specs.declared.status.Status.{Status}
 use Rattle.eh_commands.specs.declared.status.Status.TheVariants.{Done, Usage, SourceRefused, ImageRefused, ScheduleRefused, ReadFault, TooLong, WriteFault, NoMemory, Aborted, Budget, Stack, MachineFault, Undefined, Differs}
 use Rattle.eh_commands.specs.File.{Asked, Told, source_limit}
+use Rattle.eh_driver.proofs.ToldThen.{told_then}
 use Rattle.eh_commands.specs.Compile.{CompilesTo, CompileCause}
 use Rattle.eh_driver.specs.Compiled.{AreCompiled}
 use Rattle.eh_driver.specs.Promise.{Undisturbed, IsCompiled, CompilePromise}
@@ -83,11 +84,6 @@ module _ (laws : CompilerLaws) (a : Asked) (source : List ℕ) (old new : StoreV
     refuses_so Differs h = absurd h
 
 -- ---- what is stored, whatever was refused besides
-told_then : (limit : ℕ) (files : Option Files) (name : List ℕ) (P Q : List ℕ → Type 0) → ((file : List ℕ) → P file → Q file) →
-    IfSome files (λ m. (file : List ℕ) × (get m name ≡ Some file) × (length file ≤ limit) × P file) → IfSome files (λ m. (file : List ℕ) × (get m name ≡ Some file) × (length file ≤ limit) × Q file)
-told_then limit None name P Q then told = tt
-told_then limit (Some m) name P Q then (file, there, short, is) = (file, there, short, then file is)
-
 source_compiled : CompilerLaws → (a : Asked) (bytes source : List ℕ) → CompilesTo a.std bytes source → IsCompiled a.std source bytes
 source_compiled laws a bytes source (p, only, is, runs) =
     (p, only.is.0, only.is.1, is, subst (AreCompiled (checked a.std p)) (sym is) (are_compiled laws a.std source p only.is.0 only.is.1 runs))
@@ -95,7 +91,7 @@ source_compiled laws a bytes source (p, only, is, runs) =
 stored_compiled : CompilerLaws → (a : Asked) (old new : StoreView) → CompileCause a old new Done →
     (bytes : List ℕ) × Told source_limit old a.source (λ source. IsCompiled a.std source bytes) × Stores a.image bytes old new
 stored_compiled laws a old new (bytes, told, stores) =
-    (bytes, told_then source_limit old.files a.source (CompilesTo a.std bytes) (λ source. IsCompiled a.std source bytes) (source_compiled laws a bytes) told, stores)
+    (bytes, told_then source_limit old a.source (CompilesTo a.std bytes) (λ source. IsCompiled a.std source bytes) (source_compiled laws a bytes) told, stores)
 
 pub compile_promised : CompilerLaws → (a : Asked) (old new : StoreView) (out out' : SinkView) (status : Status) → CompileCause a old new status → CompilePromise a old new out out' status
 compile_promised laws a old new out out' status cause = record {

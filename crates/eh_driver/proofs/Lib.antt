@@ -1,3 +1,4 @@
+pub mod ToldThen
 pub mod MeanPromised
 pub mod ExecPromised
 pub mod EventsHeld
@@ -8,6 +9,7 @@ pub mod MeantShown
 pub mod CompilePromised
 pub mod RunPromised
 pub mod FramesPromised
+pub mod AtPromised
 pub mod GenPromised
 pub mod HartsPromised
 pub mod PackPromised

@@ -15,9 +15,10 @@ use Rattle.scope_meaning.specs.Mean.{meant}
 use Rattle.eh_commands.specs.declared.status.Status.{Status}
 use Rattle.eh_commands.specs.declared.status.Status.TheVariants.{Done, Usage, SourceRefused, ImageRefused, ScheduleRefused, ReadFault, TooLong, WriteFault, NoMemory, Aborted, Budget, Stack, MachineFault, Undefined, Differs}
 use Rattle.eh_commands.specs.File.{Asked, ToldInput, ToldBoth, UnreadInput, UnreadEither, input_limit, source_limit}
-use Rattle.eh_commands.specs.Mean.{MeanCause, MeansThis, mean_lines, status_of_end}
+use Rattle.eh_commands.specs.Mean.{MeanCause, MeaningEnds, MeansThis, mean_lines, status_of_end}
+use Rattle.eh_driver.proofs.ToldThen.{both_then}
 use Rattle.eh_driver.proofs.EventsHeld.{LawsOfEvents, meaning_holds}
-use Rattle.eh_driver.specs.Promise.{MeanTold, MeanUndisturbed, InputIs, MeanPromise, MeansUpTo, Shows}
+use Rattle.eh_driver.specs.Promise.{MeanTold, MeanUndisturbed, InputIs, IsOfWhatWasRead, MeanAnswers, MeanPromise, MeansUpTo, Shows}
 use Rattle.eh_commands.proofs.Sources.{told_of, valid_same, not_refused, same_refusal}
 
 -- the input of which something is told
@@ -120,9 +121,37 @@ module _ (laws : LawsOfEvents) (a : Asked) (source input : List ℕ) (old new : 
   refuses_so number place Undefined is (m, told, h) = absurd (means_valid m number place told is)
   refuses_so number place Differs is (m, told, h) = absurd (means_valid m number place told is)
 
+-- ---- over any store
+module _ (laws : LawsOfEvents) (a : Asked) (old new : StoreView) (out out' : SinkView) where
+  -- the source that was read
+  answered_by : (status : Status) (m : Meaning) → MeaningEnds a.trace m out out' status → (source input : List ℕ) → MeansThis a m source input → MeanAnswers a out out' status source input
+  answered_by status m end source input (p, only, is) =
+      (p, only.is.0, only.is.1, (subst (λ x. MeaningEnds a.trace x out out' status) is end, meaning_holds laws (checked a.std p) input (rests_of a.modules) a.turns 128))
+
+  answered_so : (status : Status) → (m : Meaning) × ToldBoth source_limit a old (MeansThis a m) × MeaningEnds a.trace m out out' status → ToldBoth source_limit a old (MeanAnswers a out out' status)
+  answered_so status (m, told, end) = both_then source_limit a old (MeansThis a m) (MeanAnswers a out out' status) (answered_by status m end) told
+
+  mean_answers : (status : Status) → MeanCause a old new out out' status → IsOfWhatWasRead status → ToldBoth source_limit a old (MeanAnswers a out out' status)
+  mean_answers ReadFault h is = absurd is
+  mean_answers TooLong h is = absurd is
+  mean_answers (SourceRefused number place) h is = absurd is
+  mean_answers NoMemory h is = absurd is
+  mean_answers Done h is = answered_so Done h
+  mean_answers Usage h is = answered_so Usage h
+  mean_answers (ImageRefused number place location other) h is = answered_so (ImageRefused number place location other) h
+  mean_answers WriteFault h is = answered_so WriteFault h
+  mean_answers Aborted h is = answered_so Aborted h
+  mean_answers Budget h is = answered_so Budget h
+  mean_answers Stack h is = answered_so Stack h
+  mean_answers (MachineFault kind place) h is = answered_so (MachineFault kind place) h
+  mean_answers (ScheduleRefused number place) h is = answered_so (ScheduleRefused number place) h
+  mean_answers Undefined h is = answered_so Undefined h
+  mean_answers Differs h is = answered_so Differs h
+
 pub mean_promised : LawsOfEvents → (a : Asked) (old new : StoreView) (out out' : SinkView) (status : Status) → MeanCause a old new out out' status → MeanPromise a old new out out' status
 mean_promised laws a old new out out' status cause = record {
   shows = λ source input p u program holds. shows_so laws a source input old new out out' u p status program holds cause;
   refuses = λ source input number place u is. refuses_so laws a source input old new out out' u number place status is cause;
   breaks = λ source input p u program holds is. broken_off laws a source input p program holds old new out out' u (subst (λ s. MeanCause a old new out out' s) is cause);
+  answers = mean_answers laws a old new out out' status cause;
 }

@@ -1,8 +1,7 @@
 -- What `pack` promises.
-use Rattle.std.proofs.Common.{◌≡◌, ◌≤◌, ◌∙◌, inl, inr, ℕ, List, length, Option, Some, None, IfSome, Result, Ok, Err, refl, sym, subst}
+use Rattle.std.proofs.Common.{◌≡◌, ◌∙◌, inl, inr, ℕ, List, Result, Ok, Err, refl, sym, subst}
 use Rattle.std.specs.Prelude.{◌⊎◌, IsErrAnd}
-use Rattle.std.specs.FinMap.{get}
-use Rattle.eh_outer.specs.Store.{Files, StoreView, Stores}
+use Rattle.eh_outer.specs.Store.{StoreView, Stores}
 use Rattle.eh_outer.specs.Sink.{SinkView}
 use Rattle.table_forms.specs.Fault.{Fault}
 use Rattle.elf_image.specs.Clean.{clean}
@@ -14,6 +13,7 @@ use Rattle.lsda_pack.proofs.PackingKept.{when_clean, packing_steps}
 use Rattle.eh_commands.specs.declared.status.Status.{Status}
 use Rattle.eh_commands.specs.declared.status.Status.TheVariants.{Done, Usage, SourceRefused, ImageRefused, ScheduleRefused, ReadFault, TooLong, WriteFault, NoMemory, Aborted, Budget, Stack, MachineFault, Undefined, Differs}
 use Rattle.eh_commands.specs.File.{Asked, Told}
+use Rattle.eh_driver.proofs.ToldThen.{told_then}
 use Rattle.eh_commands.specs.Image.{image_limit, status_of}
 use Rattle.eh_commands.specs.Pack.{PackCause, PackGives, PackJudged, PacksTo, RefusesPacking, Untouched}
 use Rattle.eh_commands.proofs.Sources.{told_of}
@@ -57,13 +57,8 @@ module _ (keeps : PackingKeeps) (once : PacksNoMore) where
       let kept = keeps file read.0 p read.1 is in
       record { image = read.0; read = read.1; packs = is; others = kept.0; stays = kept.1; again = once file read.0 p read.1 is }
 
-  told_well : (limit : ℕ) (files : Option Files) (name : List ℕ) (p : Packing) → IfSome files (λ m. (file : List ℕ) × (get m name ≡ Some file) × (length file ≤ limit) × PacksTo p file) →
-      IfSome files (λ m. (file : List ℕ) × (get m name ≡ Some file) × (length file ≤ limit) × IsPacked file p)
-  told_well limit None name p told = tt
-  told_well limit (Some m) name p (file, there, short, is) = (file, there, short, packed_well file p is)
-
   stored_well : (a : Asked) (old new : StoreView) (out out' : SinkView) → PackCause a old new out out' Done → (p : Packing) × Told image_limit old a.source (λ file. IsPacked file p) × Stores a.image p.bytes old new
-  stored_well a old new out out' (p, told, (stores, puts)) = (p, told_well image_limit old.files a.source p told, stores)
+  stored_well a old new out out' (p, told, (stores, puts)) = (p, told_then image_limit old a.source (PacksTo p) (λ file. IsPacked file p) (λ file is. packed_well file p is) told, stores)
 
   pub pack_promised : (a : Asked) (old new : StoreView) (out out' : SinkView) (status : Status) → PackCause a old new out out' status → PackPromise a old new out out' status
   pack_promised a old new out out' status cause = record {

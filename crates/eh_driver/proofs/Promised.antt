@@ -9,7 +9,7 @@ use Rattle.table_forms.specs.Fault.{Fault}
 use Rattle.elf_image.specs.Clean.{CleanImage, clean}
 use Rattle.elf_image.specs.Reports.{reported}
 use Rattle.command_line.specs.declared.command.Verb.{Verb}
-use Rattle.command_line.specs.declared.command.Verb.TheVariants.{Compile, Run, Exec, Harts, Mean, Check, Dump, Frames, Pack, Gen}
+use Rattle.command_line.specs.declared.command.Verb.TheVariants.{Compile, Run, Exec, Harts, Mean, Check, Dump, Frames, At, Doubts, Pack, Gen}
 use Rattle.command_line.specs.Command.{CommandView, command_of}
 use Rattle.command_line.proofs.Turns.{turns_are_bounded}
 use Rattle.eh_outer.specs.Module.{ModuleView}
@@ -23,10 +23,11 @@ use Rattle.eh_driver.proofs.ExecPromised.{exec_promised}
 use Rattle.eh_driver.proofs.CompilePromised.{compile_promised}
 use Rattle.eh_driver.proofs.RunPromised.{run_promised}
 use Rattle.eh_driver.proofs.FramesPromised.{frames_promised}
+use Rattle.eh_driver.proofs.AtPromised.{at_promised}
 use Rattle.eh_driver.proofs.GenPromised.{gen_promised}
 use Rattle.eh_driver.proofs.HartsPromised.{harts_promised}
 use Rattle.eh_driver.proofs.PackPromised.{pack_promised}
-use Rattle.eh_commands.specs.Image.{ImageCause, ImagePromise, Judged, check_lines, dump_lines, image_limit, status_of}
+use Rattle.eh_commands.specs.Image.{ImageCause, ImagePromise, Judged, check_lines, doubt_lines, dump_lines, image_limit, status_of}
 use Rattle.eh_commands.specs.Answer.{CommandCause, Cause}
 use Rattle.eh_driver.specs.Promise.{CommandPromise, Promise}
 use Rattle.eh_driver.proofs.MeantShown.{CompilerLaws, IsAsked}
@@ -67,6 +68,8 @@ module _ (laws : CompilerLaws) where
   command_promised Check a is old new out out' status cause = image_kept check_lines a.source old new out out' status cause
   command_promised Dump a is old new out out' status cause = image_kept dump_lines a.source old new out out' status cause
   command_promised Frames a is old new out out' status cause = frames_promised a.source old new out out' status cause
+  command_promised At a is old new out out' status cause = at_promised a old new out out' status cause
+  command_promised Doubts a is old new out out' status cause = image_kept doubt_lines a.source old new out out' status cause
   command_promised Pack a is old new out out' status cause = pack_promised laws.packing_keeps laws.packs_once a old new out out' status cause
   command_promised Gen a is old new out out' status cause = gen_promised laws a out out' status cause.0
 

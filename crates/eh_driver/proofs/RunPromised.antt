@@ -13,10 +13,12 @@ use Rattle.eh_commands.specs.declared.status.Status.{Status}
 use Rattle.eh_commands.specs.declared.status.Status.TheVariants.{Done, Usage, SourceRefused, ImageRefused, ScheduleRefused, ReadFault, TooLong, WriteFault, NoMemory, Aborted, Budget, Stack, MachineFault, Undefined, Differs}
 use Rattle.eh_commands.specs.File.{Asked, ToldBoth, source_limit}
 use Rattle.eh_commands.specs.RunEnd.{run_lines, status_of_run}
+use Rattle.eh_commands.specs.Exec.{RunEnds}
 use Rattle.eh_commands.specs.RunSource.{CompiledRunsThis, SourceRunsThis, RunCause}
-use Rattle.eh_driver.specs.Promise.{MeanTold, MeanUndisturbed, BreaksOff, ShowsImage, ShowsMeant, ShowsEnd, ShowsAll, RunPromise}
+use Rattle.eh_driver.specs.Promise.{MeanTold, MeanUndisturbed, BreaksOff, IsOfWhatWasRead, RunAnswers, ShowsImage, ShowsMeant, ShowsEnd, ShowsAll, RunPromise}
 use Rattle.eh_driver.proofs.MeantShown.{CompilerLaws, IsAsked, are_compiled, is_meant, meant_shown, end_shown, all_shown}
 use Rattle.eh_commands.proofs.Sources.{valid_same, not_refused, same_refusal}
+use Rattle.eh_driver.proofs.ToldThen.{both_then}
 use Rattle.eh_driver.proofs.MeanPromised.{both_of, both_read, both_short}
 
 -- the run of a source is one of its valid program
@@ -99,6 +101,33 @@ module _ (laws : CompilerLaws) (a : Asked) (source input : List ℕ) (p : Progra
       let this = runs_of a source input p program holds r (both_of source_limit a old u.files source input (SourceRunsThis a r) u.told u.there u.given told) in
       (are_compiled laws a.std source p program holds this.0, r, this.1, is_meant laws a source p program holds asked input r this, fails)
 
+-- ---- over any store
+module _ (laws : CompilerLaws) (a : Asked) (asked : IsAsked a) (old new : StoreView) (out out' : SinkView) where
+  -- the source that was read
+  answered_by : (status : Status) (r : Ran) → RunEnds a r out out' status → (source input : List ℕ) → SourceRunsThis a r source input → RunAnswers a out out' status source input
+  answered_by status r end source input (p, only, runs) =
+      (p, only.is.0, only.is.1, are_compiled laws a.std source p only.is.0 only.is.1 runs.0, r, runs.1, is_meant laws a source p only.is.0 only.is.1 asked input r runs, end)
+
+  answered_so : (status : Status) → (r : Ran) × ToldBoth source_limit a old (SourceRunsThis a r) × RunEnds a r out out' status → ToldBoth source_limit a old (RunAnswers a out out' status)
+  answered_so status (r, told, end) = both_then source_limit a old (SourceRunsThis a r) (RunAnswers a out out' status) (answered_by status r end) told
+
+  run_answers : (status : Status) → RunCause a old new out out' status → IsOfWhatWasRead status → ToldBoth source_limit a old (RunAnswers a out out' status)
+  run_answers ReadFault h is = absurd is
+  run_answers TooLong h is = absurd is
+  run_answers (SourceRefused number place) h is = absurd is
+  run_answers NoMemory h is = absurd is
+  run_answers Done h is = answered_so Done h
+  run_answers Usage h is = answered_so Usage h
+  run_answers (ImageRefused number place location other) h is = answered_so (ImageRefused number place location other) h
+  run_answers WriteFault h is = answered_so WriteFault h
+  run_answers Aborted h is = answered_so Aborted h
+  run_answers Budget h is = answered_so Budget h
+  run_answers Stack h is = answered_so Stack h
+  run_answers (MachineFault kind place) h is = answered_so (MachineFault kind place) h
+  run_answers (ScheduleRefused number place) h is = answered_so (ScheduleRefused number place) h
+  run_answers Undefined h is = answered_so Undefined h
+  run_answers Differs h is = answered_so Differs h
+
 pub run_promised : CompilerLaws → (a : Asked) → IsAsked a → (old new : StoreView) (out out' : SinkView) (status : Status) → RunCause a old new out out' status → RunPromise a old new out out' status
 run_promised laws a asked old new out out' status cause = record {
   shows = λ source input p u program holds.
@@ -113,4 +142,5 @@ run_promised laws a asked old new out out' status cause = record {
       (λ status r this end took. all_shown laws a source p program holds asked input ints turns many out out' status r this end took gone defined) status cause;
   refuses = λ source input number place u is. refuses_so a source input old new out out' u number place is status cause;
   breaks = λ source input p u program holds is. broken_off laws a source input p program holds asked old new out out' u (subst (λ s. RunCause a old new out out' s) is cause);
+  answers = run_answers laws a asked old new out out' status cause;
 }

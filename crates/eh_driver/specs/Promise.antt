@@ -4,16 +4,16 @@ use Rattle.std.specs.FinMap.{get, insert}
 use Rattle.eh_outer.specs.Store.{Files, StoreView, Rose, Stores}
 use Rattle.eh_outer.specs.Sink.{SinkView, Gains}
 use Rattle.eh_commands.specs.declared.status.Status.{Status}
-use Rattle.eh_commands.specs.declared.status.Status.TheVariants.{Done, SourceRefused, WriteFault, NoMemory}
+use Rattle.eh_commands.specs.declared.status.Status.TheVariants.{Done, SourceRefused, ReadFault, TooLong, WriteFault, NoMemory}
 use Rattle.command_line.specs.declared.command.Verb.{Verb}
-use Rattle.command_line.specs.declared.command.Verb.TheVariants.{Compile, Run, Exec, Harts, Mean, Check, Dump, Frames, Pack, Gen}
+use Rattle.command_line.specs.declared.command.Verb.TheVariants.{Compile, Run, Exec, Harts, Mean, Check, Dump, Frames, At, Doubts, Pack, Gen}
 use Rattle.command_line.specs.Command.{CommandView, source_size}
 use Rattle.eh_outer.specs.Module.{ModuleView}
 use Rattle.meaning_forms.specs.declared.ending.MeanEnd.TheVariants.{Undefined, OutOfTurns}
 use Rattle.meaning_forms.specs.Meaning.{Meaning, program_meaning}
 use Rattle.scope_meaning.specs.Mean.{meant}
 use Rattle.eh_commands.specs.Words.{asked}
-use Rattle.eh_commands.specs.Mean.{mean_lines, status_of_end}
+use Rattle.eh_commands.specs.Mean.{MeaningEnds, mean_lines, status_of_end}
 use Rattle.cxx_ast.specs.declared.standard.Std.{Std}
 use Rattle.cxx_ast.specs.declared.standard.Std.TheVariants.{Cxx03}
 use Rattle.cxx_ast.specs.Plain.{Program}
@@ -22,10 +22,10 @@ use Rattle.cxx_ast.specs.Checked.{checked}
 use Rattle.cxx_front.specs.Source.{IsProgram, IsRefused}
 use Rattle.cxx_image.specs.Image.{image_for}
 use Rattle.gen_source.specs.Source.{generated}
-use Rattle.eh_commands.specs.Exec.{RunsThis}
+use Rattle.eh_commands.specs.Exec.{RunsThis, RunEnds}
 use Rattle.eh_commands.specs.Generate.{RunsAlone, gen_lines}
 use Rattle.run_items.specs.Output.{FailsAmong, bytes_of}
-use Rattle.eh_commands.specs.File.{Asked, Told, input_limit, source_limit}
+use Rattle.eh_commands.specs.File.{Asked, Told, ToldBoth, input_limit, source_limit}
 use Rattle.table_forms.specs.Fault.{Fault}
 use Rattle.elf_image.specs.Clean.{CleanImage}
 use Rattle.elf_image.specs.Reports.{reported}
@@ -38,8 +38,9 @@ use Rattle.compiled_runs.specs.Compiled.{EndsAs, IsCut, RunMeans}
 use Rattle.compiled_runs.specs.Enough.{HasEnd, enough_for}
 use Rattle.eh_run.specs.Program.{program_of}
 use Rattle.eh_run.specs.Runs.{IsRun}
-use Rattle.eh_commands.specs.Image.{ImagePromise, check_lines, dump_lines, image_limit, status_of}
+use Rattle.eh_commands.specs.Image.{ImagePromise, check_lines, doubt_lines, dump_lines, image_limit, status_of}
 use Rattle.eh_commands.specs.Frames.{FramesPromise}
+use Rattle.eh_commands.specs.At.{AtPromise}
 use Rattle.eh_commands.specs.HartFiles.{harts_asked}
 use Rattle.eh_commands.specs.RunEnd.{run_lines, status_of_run}
 use Rattle.eh_driver.specs.Compiled.{AreBytes, AreCompiled}
@@ -130,10 +131,26 @@ abbrev pub BreaksOff : Asked → Program → List ℕ → SinkView → SinkView 
 BreaksOff a p input out out' =
     AreCompiled (checked a.std p) (image_for (checked a.std p)) × (r : Ran) × RunsThis a r (image_for (checked a.std p)) input × IsMeant a p input r × FailsAmong (run_lines a.trace a.count r) out out'
 
+-- the status is one of what was read: no file was refused, no source was, and memory did not run out
+abbrev pub IsOfWhatWasRead : Status → Type 0
+IsOfWhatWasRead ReadFault = ⊥
+IsOfWhatWasRead TooLong = ⊥
+IsOfWhatWasRead (SourceRefused number place) = ⊥
+IsOfWhatWasRead NoMemory = ⊥
+IsOfWhatWasRead status = ⊤
+
+-- The source is a valid program, whose image is the compiled program. A run of it with the input answered, which is what the program means where that is
+-- defined: its lines went out and the status is that of its end, or they went out up to one that failed.
+abbrev pub RunAnswers : Asked → SinkView → SinkView → Status → List ℕ → List ℕ → Type 0
+RunAnswers a out out' status source input =
+    (p : Program) × IsProgram source p × Valid a.std p × AreCompiled (checked a.std p) (image_for (checked a.std p)) ×
+    (r : Ran) × RunsThis a r (image_for (checked a.std p)) input × IsMeant a p input r × RunEnds a r out out' status
+
 -- Where nothing disturbs: the image of a valid source is the compiled program, the lines of a run of it go out, and the status is that of its end. While what the program means is
 -- defined, these are the lines of a front of its items, and unless the run is cut short they are all, and it ends as the meaning does. Where the run may have
 -- enough steps for a meaning with fewer turns, it is not cut short before that ends, or before it runs out of its turns. One that is refused is refused by its
--- number and place. Or memory ran out. Where a line fails, those before it are a front of the lines of such a run.
+-- number and place. Or memory ran out. Where a line fails, those before it are a front of the lines of such a run. Over any store, also one that tells nothing of
+-- its files, each other status and each line is that of such a run of some one source with some one input.
 pub record RunPromise (a : Asked) (old new : StoreView) (out out' : SinkView) (status : Status) : Type 0 where
   pub shows : (source input : List ℕ) (p : Program) → MeanUndisturbed a source input old new out out' → IsProgram source p → Valid a.std p →
       (status ≡ NoMemory) ⊎ ShowsImage a p input out out' status
@@ -146,6 +163,7 @@ pub record RunPromise (a : Asked) (old new : StoreView) (out out' : SinkView) (s
   pub refuses : (source input : List ℕ) (number place : ℕ) → MeanUndisturbed a source input old new out out' → IsRefused a.std source number place →
       (status ≡ NoMemory) ⊎ (status ≡ SourceRefused number place)
   pub breaks : (source input : List ℕ) (p : Program) → MeanTold a source input old → IsProgram source p → Valid a.std p → status ≡ WriteFault → BreaksOff a p input out out'
+  pub answers : IsOfWhatWasRead status → ToldBoth source_limit a old (RunAnswers a out out' status)
 
 -- the lines of a meaning went out, and the status is that of its end; and what it tells of exceptions is as promised
 abbrev pub Shows : Bool → Meaning → SinkView → SinkView → Status → Type 0
@@ -155,8 +173,15 @@ Shows trace m out out' status = (status ≡ status_of_end m.end) × Gains (bytes
 abbrev pub MeansUpTo : Bool → Meaning → SinkView → SinkView → Type 0
 MeansUpTo trace m out out' = FailsAmong (mean_lines trace m.items m.end) out out' × EventsHold m m.items ⊤
 
+-- The source is a valid program, and what it means with the input answered: its lines went out and the status is that of its end, or they went out up to one that
+-- failed. What it tells of exceptions is as promised.
+abbrev pub MeanAnswers : Asked → SinkView → SinkView → Status → List ℕ → List ℕ → Type 0
+MeanAnswers a out out' status source input =
+    (p : Program) × IsProgram source p × Valid a.std p × let m = meant (checked a.std p) input a.modules a.turns in MeaningEnds a.trace m out out' status × EventsHold m m.items ⊤
+
 -- Where nothing disturbs: what a valid source means goes out, and the status is that of its end; one that is refused is refused by
--- its number and place. Or memory ran out. Where a line fails, those before it are a front of the lines of what the source means.
+-- its number and place. Or memory ran out. Where a line fails, those before it are a front of the lines of what the source means. Over any store each other
+-- status and each line is that of what some one source means with some one input.
 pub record MeanPromise (a : Asked) (old new : StoreView) (out out' : SinkView) (status : Status) : Type 0 where
   pub shows : (source input : List ℕ) (p : Program) → MeanUndisturbed a source input old new out out' → IsProgram source p → Valid a.std p →
       (status ≡ NoMemory) ⊎ Shows a.trace (meant (checked a.std p) input a.modules a.turns) out out' status
@@ -164,6 +189,7 @@ pub record MeanPromise (a : Asked) (old new : StoreView) (out out' : SinkView) (
       (status ≡ NoMemory) ⊎ (status ≡ SourceRefused number place)
   pub breaks : (source input : List ℕ) (p : Program) → MeanTold a source input old → IsProgram source p → Valid a.std p → status ≡ WriteFault →
       MeansUpTo a.trace (meant (checked a.std p) input a.modules a.turns) out out'
+  pub answers : IsOfWhatWasRead status → ToldBoth source_limit a old (MeanAnswers a out out' status)
 
 -- a told image and its told input, where neither the store nor the sink fails
 pub record ExecUndisturbed (a : Asked) (file input : List ℕ) (old new : StoreView) (out out' : SinkView) : Type 0 where
@@ -205,6 +231,8 @@ CommandPromise Mean a old new out out' status = MeanPromise a old new out out' s
 CommandPromise Check a old new out out' status = ImagePromise check_lines a.source old new out out' status
 CommandPromise Dump a old new out out' status = ImagePromise dump_lines a.source old new out out' status
 CommandPromise Frames a old new out out' status = FramesPromise a.source old new out out' status
+CommandPromise At a old new out out' status = AtPromise a old new out out' status
+CommandPromise Doubts a old new out out' status = ImagePromise doubt_lines a.source old new out out' status
 CommandPromise Pack a old new out out' status = PackPromise a old new out out' status
 CommandPromise Gen a old new out out' status = GenPromise a out out' status
 

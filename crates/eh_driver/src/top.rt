@@ -31,11 +31,12 @@ use step_law::laws::{checked_images_are_compiled, checked_images_have_enough};
 /// on `out`, under `--trace` each event, its end, and under `--count` how many steps it took. `run FILE` does both with a source.
 /// `harts FILE SCHEDULE` runs an image by one to eight harts, each with an input of its own, under a schedule of at most 1 MiB, which is
 /// refused by a number and a place: it puts each line of a hart behind the hart's number, and last a line for each hart that goes on.
-/// `mean FILE` puts what the source means with the same: lines, events and end. `check FILE` and
-/// `dump FILE` read an image of at most 64 MiB, and put how much it has, or its tables, on `out` where it is clean; `frames FILE` puts
-/// whether both forms of its frames say the same. `pack FILE OUT` reads such an image, stores it with shorter exception tables, and then puts how
-/// many of them are packed and how many bytes that saves. `gen N` generates a source of size N, 1 to 2,000, compiles it and runs it without
-/// input and modules, and puts how many tokens it has, how many lines its run wrote, how many exception objects that made, and its end.
+/// `mean FILE` puts what the source means with the same: lines, events and end. `check FILE` and `dump FILE` read an image of at most 64 MiB, and put
+/// how much it has, or its tables, on `out` where it is clean; `frames FILE` puts whether both forms of its frames say the same. `at FILE PC..` puts
+/// what becomes of what `--type` says in the frames of a backtrace, innermost first, and `doubts FILE` what of a clean image no compiler meant. `pack
+/// FILE OUT` reads such an image, stores it with shorter exception tables, and then puts how many of them are packed and how many bytes that saves.
+/// `gen N` generates a source of size N, 1 to 2,000, compiles it and runs it without input and modules, and puts how many tokens it has, how many
+/// lines its run wrote, how many exception objects that made, and its end.
 /// `compile`, `run` and `mean` take the language of ISO/IEC 14882:2003, or with `--std=11` that with clause 15 of 2011.
 /// Whatever else comes is one line on `err`. A program is given at most 64 modules, which are dropped.
 pub fn ehc<St: Store, Out: Sink, Er: Sink>(

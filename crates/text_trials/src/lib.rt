@@ -2,6 +2,8 @@
 #![tactic(auto)]
 
 #[cfg(test)]
+mod at_words;
+#[cfg(test)]
 mod bytes;
 #[cfg(test)]
 mod lines;

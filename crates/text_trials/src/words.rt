@@ -158,6 +158,10 @@ static WORDS: &[(&[&str], &str)] = &[
         "Frames [\"f\"] [] 10000000 false false []",
     ),
     (
+        &["doubts", "f"],
+        "Doubts [\"f\"] [] 10000000 false false []",
+    ),
+    (
         &["run", "f", "--"],
         "Run [\"f\"] [] 10000000 false false []",
     ),
@@ -176,6 +180,7 @@ static WORDS: &[(&[&str], &str)] = &[
     (&["check", "f", "--trace"], USAGE),
     (&["dump", "f", "--max=1"], USAGE),
     (&["frames", "f", "g"], USAGE),
+    (&["doubts", "f", "g"], USAGE),
     (&["", "f"], USAGE),
     (
         &["compile", "f", "g"],
