@@ -1,11 +1,5 @@
 """What `ehc dump` prints of an image, as values."""
 import dataclasses
-import os
-import pathlib
-import subprocess
-import sys
-
-TOP = pathlib.Path(__file__).resolve().parent.parent
 
 
 @dataclasses.dataclass
@@ -20,6 +14,7 @@ class Frame:
     actions: dict = dataclasses.field(default_factory=dict)
     types: dict = dataclasses.field(default_factory=dict)
     lists: dict = dataclasses.field(default_factory=dict)
+    lines: list = dataclasses.field(default_factory=list)
 
 
 def take(frame, words):
@@ -39,18 +34,14 @@ def take(frame, words):
         frame.lists[int(number)] = [int(word) for word in words[2:]]
 
 
-def frames_of(name):
-    """The frames of an image; where it is refused, the program's own line and status end the script."""
-    program = os.environ.get("EHC_PROGRAM") or TOP / "ehc"
-    done = subprocess.run([program, "dump", "--", name], capture_output=True, text=True)
-    if done.returncode:
-        sys.stderr.write(done.stderr)
-        sys.exit(done.returncode)
-    frames = []
-    for line in done.stdout.splitlines():
+def frames_in(text):
+    """The lines before the first frame, and the frames, of what `dump` prints."""
+    before, frames = [], []
+    for line in text.splitlines():
         words = line.split()
         if words[0] == "frame":
             frames.append(Frame(int(words[1], 16), int(words[2], 16)))
         elif line.startswith("  "):
             take(frames[-1], words)
-    return frames
+        (frames[-1].lines if frames else before).append(line)
+    return before, frames

@@ -26,11 +26,21 @@ def tables(page):
             rows.append(cells(line))
 
 
+def rows(page, title):
+    """The rows of the tables under a title."""
+    return [row for found, _, group in tables(page) if found == title for row in group]
+
+
 def rules(number, page):
     """Each row of a number in the lists of refusals of a page, as labels and texts, under the title of its list."""
-    for title, head, rows in tables(page):
+    for title, head, group in tables(page):
         if head[0] != "No":
             continue
-        for row in rows:
+        for row in group:
             if str(number) in re.split(r"[ ,]+", row[0]):
                 yield title, [(label, text) for label, text in zip(head[1:], row[1:]) if text]
+
+
+def quoted(text):
+    """What stands in backticks, in order."""
+    return re.findall(r"`([^`]+)`", text)
