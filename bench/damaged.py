@@ -2,8 +2,8 @@
 """Damaged images, and what `ehc` says of them: `damaged.py [COUNT [SEED]]`, 1,000 images from seed 1 without them.
 
 Each is one of the examples' images, or of those that `ehc compile` makes of the examples' sources, with some bytes changed: bits, a length, a word that points
-elsewhere, a part that is cut or set to 0. `check`, `dump`, `frames` and `pack` have a second each. Wrong is: a command that is killed or takes longer; a status
-that is none of 0, 3 and, for `frames`, 15; a refusal at a place outside of the file, or one that `check` and `dump` tell otherwise; and a packed image that
+elsewhere, a part that is cut or set to 0. `check`, `dump`, `doubts`, `at`, `frames` and `pack` have a second each. Wrong is: a command that is killed or takes longer; a status
+that is none of 0, 3 and, for `frames`, 15; a refusal at a place outside of the file, or one that `check` tells otherwise than `dump`, `doubts` or `at`; and a packed image that
 `check` judges otherwise than the image, or that packs once more.
 """
 import collections
@@ -21,6 +21,8 @@ from building import TOP, program
 
 EHC = program()
 LIMIT = 1.0
+# Places in functions of the images, and of none.
+PLACES = ["0x10120", "0x10294", "0x11290", "0x112d8", "0"]
 
 
 def ran(*words):
@@ -80,10 +82,10 @@ def judged(number, seed, image, room):
     data = damaged(random.Random(f"{seed} {number}"), image)
     file, out = room / f"{number}.elf", room / f"{number}.packed"
     file.write_bytes(data)
-    answers = {words: ran(words, file, *([out] if words == "pack" else [])) for words in ("check", "dump", "frames", "pack")}
+    more = {"pack": [out], "at": PLACES}
+    answers = {words: ran(words, file, *more.get(words, [])) for words in ("check", "dump", "doubts", "at", "frames", "pack")}
     wrong = [it for words, (status, _, err) in answers.items() if (it := fault(words, status, err, len(data)))]
-    if answers["check"][2] != answers["dump"][2]:
-        wrong.append("check and dump refuse otherwise")
+    wrong += [f"check and {words} refuse otherwise" for words in ("dump", "doubts", "at") if answers["check"][2] != answers[words][2]]
     if answers["pack"][0] == 0:
         # sites that say the same are one then
         counts = [re.sub(r", \d+ sites", "", text) for text in (ran("check", out)[1], answers["check"][1])]

@@ -1,5 +1,5 @@
 #!/usr/bin/env python3
-"""Times `ehc check`, `ehc dump` and `ehc frames` on a large static RISC-V program beside readelf and llvm-dwarfdump.
+"""Times `ehc check`, `ehc dump`, `ehc doubts`, `ehc at` and `ehc frames` on a large static RISC-V program beside readelf and llvm-dwarfdump.
 
 The program is C++ with many functions that throw and catch, built here by a cross-compiler with a table of frames
 (`--eh-frame-hdr`), and its frames for debuggers, which a second image keeps. Where there is no g++ for RISC-V, clang and lld
@@ -44,7 +44,7 @@ extern "C" int _start() { return main(0, nullptr); }
 CLANG = ["clang++", "--target=riscv64-unknown-elf", "-march=rv64im", "-mno-relax", "-O1", "-fexceptions", "-fPIE", "-fno-rtti", "-fno-inline"]
 
 
-def program(functions, before):
+def source_of(functions, before):
     """C++ with so many functions, each with two objects and two handlers, of which one may throw on."""
     parts = [BOTH_FORMS, before, GUARD]
     for i in range(1, functions + 1):
@@ -58,10 +58,10 @@ def build(folder, functions):
     """The program without and with its frames for debuggers, all else stripped off."""
     source, image, both = folder / "large.cc", folder / "large", folder / "both"
     if shutil.which(CROSS + "g++"):
-        source.write_text(program(functions, ""))
+        source.write_text(source_of(functions, ""))
         run([CROSS + "g++", "-O1", "-static", "-Wl,--eh-frame-hdr", "-o", both, source])
     else:
-        source.write_text(program(functions, STAND_INS))
+        source.write_text(source_of(functions, STAND_INS))
         run([*CLANG, "-nostdlib", "-c", "-o", folder / "large.o", source])
         run(["ld.lld", "-static", "--eh-frame-hdr", "-e", "_start", "-o", both, folder / "large.o"])
     strip = CROSS + "strip" if shutil.which(CROSS + "strip") else "llvm-strip"
@@ -94,8 +94,11 @@ def main():
             image, both = build(pathlib.Path(folder), functions)
             size = image.stat().st_size / 1e6
             frames = least_seconds([ehc, "check", image])[1].decode().split()[3]
+            places = [line.split()[2] for line in least_seconds([ehc, "dump", image])[1].decode().splitlines() if line.startswith("frame ")]
             for name, command in [
                 ("ehc check", [ehc, "check", image]),
+                ("ehc doubts", [ehc, "doubts", image]),
+                ("ehc at, three places", [ehc, "at", image, places[0], places[len(places) // 2], places[-1]]),
                 ("ehc dump", [ehc, "dump", image]),
                 ("readelf --debug-dump=frames", ["readelf", "--debug-dump=frames", image]),
                 ("llvm-dwarfdump --eh-frame", ["llvm-dwarfdump", "--eh-frame", image]),
