@@ -5,7 +5,7 @@ use Rattle.std.specs.Global.{Vec}
 use Rattle.std.proofs.lemmas.Bool.Decides.{nat_tests}
 use Rattle.std.proofs.lemmas.List.{map-append}
 use Rattle.plain_text.specs.Lines.{lines_of, IsFirstLine}
-use Rattle.hart_sched.specs.Reads.{Forms, Reads, ReadsLine, capped}
+use Rattle.hart_sched.specs.Reads.{FormSoFar, Forms, Reads, ReadsLine, capped}
 use Rattle.hart_sched.specs.declared.line.Numbers.{Numbers}
 use Rattle.hart_sched.specs.declared.schedule.ScheduleError.{ScheduleError}
 use Rattle.hart_sched.proofs.Back.{reads_nothing_else}
@@ -27,13 +27,6 @@ entries_are place n rest parts =
     ap (entries_from place) parts.lines ∙ ap (λ m. and_entries place (line_read (take n rest)) (entries_from (place + m) (lines_of (drop n rest)))) (taken rest n parts.inside)
 
 -- ---- whether all lines are of the form
--- up to the rest they are
-pub record FormSoFar (text rest : List ℕ) : Type 0 where
-  pub place : ℕ
-  pub at : place + length rest ≡ length text
-  pub fails : (refusal : Refusal) → entries_from place (lines_of rest) ≡ Err refusal → entries_from 0 (lines_of text) ≡ Err refusal
-  pub reads : (entries : List Entry) → entries_from place (lines_of rest) ≡ Ok entries → (all : List Entry) × (entries_from 0 (lines_of text) ≡ Ok all)
-
 pub form_first : (text : List ℕ) → FormSoFar text text
 form_first text = record { place = 0; at = omega arith; fails = λ refusal is. is; reads = λ entries is. (entries, is) }
 
@@ -195,6 +188,33 @@ slices_all harts text rest slices turns h none =
     let fault : fault_from harts 0 h.done ≡ None = ap (fault_from harts 0) (sym all) ∙ h.faults ∙ ap (fault_from harts turns) more in
     ap (tested harts) whole ∙ ap (unless_fault h.done) fault ∙ ap Ok (sym h.slices_are)
 
+-- ---- where the rest is not read yet
+-- where the lines of the rest are of the form, there is no fault up to it, and these are the slices
+pub record SlicesIf (harts : ℕ) (text rest : List ℕ) (slices : List Slice) (turns : ℕ) : Type 0 where
+  pub form : FormSoFar text rest
+  pub then : (more : List Entry) → entries_from (length text - length rest) (lines_of rest) ≡ Ok more → SlicesSoFar harts text rest slices turns
+  pub few : turns ≤ most_turns
+
+pub if_first : (harts : ℕ) (text : List ℕ) → SlicesIf harts text text [] 0
+if_first harts text =
+    let place : length text - length text ≡ 0 = omega arith in record {
+      form = form_first text;
+      then = λ more is. slices_first harts text (more, subst (λ p. entries_from p (lines_of text) ≡ Ok more) place is);
+      few = omega arith;
+    }
+
+-- the place of the rest is what is gone
+place_is : (text rest : List ℕ) (h : FormSoFar text rest) → h.place ≡ length text - length rest
+place_is text rest h = let at = h.at in omega (arith, at)
+
+-- if all the text is of the form, so is the rest
+pub rest_reads : (text rest : List ℕ) → FormSoFar text rest → Forms text None → (more : List Entry) × (entries_from (length text - length rest) (lines_of rest) ≡ Ok more)
+rest_reads text rest h (all, whole) = by (entries_from h.place (lines_of rest)) refl
+  where
+    by : (r : Result (List Entry) Refusal) → entries_from h.place (lines_of rest) ≡ r → (more : List Entry) × (entries_from (length text - length rest) (lines_of rest) ≡ Ok more)
+    by (Ok more) is = (more, subst (λ p. entries_from p (lines_of rest) ≡ Ok more) (place_is text rest h) is)
+    by (Err refusal) is = let failed = h.fails refusal is in absurd (cc)
+
 -- ---- by the numbers as they are kept
 abbrev line_of_kept : ℕ → Numbers → Line
 line_of_kept hart l = record { hart = hart; turns = l.turns; width = l.width }
@@ -231,3 +251,26 @@ form_refused harts text place forms = ap (tested harts) forms
 pub keeps : (harts : ℕ) (text : List ℕ) (result : Result (Vec (ℕ × ℕ)) ScheduleError) → harts ≤ 2 ^ 32 → Reads harts text result → IfOk result (λ slices. IsSchedule harts slices.items)
 keeps harts text (Ok slices) few is = (reads_nothing_else harts text slices.items few is).1
 keeps harts text (Err e) few is = tt
+
+-- ---- in one pass
+pub if_so : (harts : ℕ) (text rest : List ℕ) (slices : List Slice) (turns : ℕ) → SlicesIf harts text rest slices turns → Forms text None → SlicesSoFar harts text rest slices turns
+if_so harts text rest slices turns h forms = let more = rest_reads text rest h.form forms in h.then more.0 more.1
+
+-- the first line is one
+pub form_next_kept : (text rest : List ℕ) (n : ℕ) (l : Numbers) → FormSoFar text rest → IsFirstLine rest n → ReadsLine (take n rest) (Some l) → FormSoFar text (drop n rest)
+form_next_kept text rest n l h parts (hart, read, kept) = form_next text rest n (line_of_kept hart l) h parts read
+
+-- the line is read
+pub if_next : (harts : ℕ) (text rest : List ℕ) (slices : List Slice) (turns n : ℕ) (l : Numbers) → harts < 2 ^ 32 → SlicesIf harts text rest slices turns → IsFirstLine rest n →
+    ReadsLine (take n rest) (Some l) → l.hart < harts → turns + l.turns ≤ 2 ^ 40 → SlicesIf harts text (drop n rest) (slices ++ (l.hart, l.turns) ∷ []) (turns + l.turns)
+if_next harts text rest slices turns n l few h parts reads low fits =
+    let form = form_next_kept text rest n l h.form parts reads in record {
+      form = form;
+      then = λ more is.
+          let all = form.reads more (subst (λ p. entries_from p (lines_of (drop n rest)) ≡ Ok more) (sym (place_is text (drop n rest) form)) is) in
+          reads_slice harts text rest slices turns n l few (if_so harts text rest slices turns h all) parts reads low fits;
+      few = fits;
+    }
+
+pub if_all : (harts : ℕ) (text rest : List ℕ) (slices : List Slice) (turns : ℕ) → SlicesIf harts text rest slices turns → rest ≡ [] → schedule harts text ≡ Ok slices
+if_all harts text rest slices turns h none = slices_all harts text rest slices turns (if_so harts text rest slices turns h (form_all text rest h.form none)) none

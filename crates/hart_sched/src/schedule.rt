@@ -1,8 +1,8 @@
 // The text of a schedule.
-ghost use Rattle.std.specs.Prelude.{◌≡◌, ◌≤◌, ◌^◌, length, None, Ok, Err, IfOk, IfSome};
+ghost use Rattle.std.specs.Prelude.{◌≡◌, ◌≤◌, ◌^◌, ℕ, length, None, Err, IfOk, IfSome};
 ghost use Rattle.hart_sched.specs.declared.schedule.ScheduleError.TheVariants as errors;
-ghost use Rattle.hart_sched.specs.Reads.{Forms, Reads};
-ghost use Rattle.hart_sched.specs.Schedule.{IsSchedule};
+ghost use Rattle.hart_sched.specs.Reads.{FormSoFar, Forms, Reads};
+ghost use Rattle.hart_sched.specs.Schedule.{IsSchedule, schedule};
 
 use crate::line::read_line;
 use plain_text::line_length;
@@ -39,12 +39,13 @@ impl<T: Drop> From<AllocFailed<T>> for ScheduleError {
 // The most turns of a whole schedule.
 const MOST_TURNS: u64 = 1 << 40;
 
-// The place of the first line that is none.
-fn form_fault(text: &[u8]) -> Option<usize>
+// The place of the first line that is none among those that are left, where all before them are lines.
+fn form_fault(text: &[u8], left: &[u8]) -> Option<usize>
+    requires { FormSoFar text.now left.now }
     ensures forms { Forms text.now result }
     ensures inside { IfSome result (λ place. place ≤ length text.now) }
 {
-    let mut rest = text;
+    let mut rest = left;
     while !rest.is_empty() {
         let (line, others) = rest.split_at(line_length(rest));
         match read_line(line) {
@@ -55,10 +56,21 @@ fn form_fault(text: &[u8]) -> Option<usize>
     None
 }
 
-// The slices of a text whose lines are of the form.
-fn slices_of(alloc: Global, text: &[u8], harts: u32) -> Result<Vec<(u32, u32)>, ScheduleError>
+// The refusal at a line of the form whose numbers are refused: one that is not of the form goes before it, also where it stands behind.
+fn refusal_at(text: &[u8], behind: &[u8], number: u8, place: u32) -> ScheduleError
     requires short { length text.now ≤ 2 ^ 20 }
-    requires formed { Forms text.now None }
+    requires so_far { FormSoFar text.now behind.now }
+    ensures { (harts : ℕ) → (Forms text.now None → schedule harts text.now ≡ Err (record { number = number; place = place })) → Reads harts text.now (Err result) }
+{
+    match form_fault(text, behind) {
+        Some(first) => ScheduleError::Refused(80, first as u32),
+        None => ScheduleError::Refused(number, place),
+    }
+}
+
+// The slices of a text, in one pass.
+fn slices_of(alloc: Global, text: &[u8], harts: u32) -> Result<Vec<(u32, u32)>, ScheduleError>
+    requires { length text.now ≤ 2 ^ 20 }
     ensures { Reads harts text.now result }
 {
     let mut slices = Vec::new(alloc);
@@ -68,14 +80,15 @@ fn slices_of(alloc: Global, text: &[u8], harts: u32) -> Result<Vec<(u32, u32)>, 
         let place = (text.len() - rest.len()) as u32;
         let (line, others) = rest.split_at(line_length(rest));
         let Some(numbers) = read_line(line) else {
-            unreachable!();
+            return Err(ScheduleError::Refused(80, place));
         };
         if numbers.hart >= u64::from(harts) {
-            return Err(ScheduleError::Refused(81, place));
+            return Err(refusal_at(text, others, 81, place));
         }
         turns += u64::from(numbers.turns);
         if turns > MOST_TURNS {
-            return Err(ScheduleError::Refused(82, place + numbers.width as u32 + 1));
+            let behind = place + numbers.width as u32 + 1;
+            return Err(refusal_at(text, others, 82, behind));
         }
         slices.push((numbers.hart as u32, numbers.turns))?;
         rest = others;
@@ -97,8 +110,5 @@ pub fn read_schedule(
     ensures reads { Reads harts text.now result }
     ensures kept { IfOk result (λ slices. IsSchedule harts slices.items) }
 {
-    match form_fault(text) {
-        Some(place) => Err(ScheduleError::Refused(80, place as u32)),
-        None => slices_of(alloc, text, harts),
-    }
+    slices_of(alloc, text, harts)
 }
