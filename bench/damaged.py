@@ -3,7 +3,7 @@
 
 Each is one of the examples' images, or of those that `ehc compile` makes of the examples' sources, with some bytes changed: bits, a length, a word that points
 elsewhere, a part that is cut or set to 0. `check`, `dump`, `doubts`, `at`, `frames` and `pack` have a second each. Wrong is: a command that is killed or takes longer; a status
-that is none of 0, 3 and, for `frames`, 15; a refusal at a place outside of the file, or one that `check` tells otherwise than `dump`, `doubts` or `at`; and a packed image that
+that is none of 0, 3 and, for `frames`, 15; a refusal at a place outside of the file, but for a type entry or a list that is named there; or one that `check` tells otherwise than `dump`, `doubts` or `at`; and a packed image that
 `check` judges otherwise than the image, or that packs once more.
 """
 import collections
@@ -21,6 +21,8 @@ from building import TOP, program
 
 EHC = program()
 LIMIT = 1.0
+# A filter may name a type entry (1) or a list (14) that would lie behind its segment, and so behind the file.
+BEHIND = ("1", "14")
 # Places in functions of the images, and of none.
 PLACES = ["0x10120", "0x10294", "0x11290", "0x112d8", "0"]
 
@@ -72,7 +74,7 @@ def fault(words, status, err, size):
         return f"{words} takes longer than {LIMIT} s"
     refused = re.fullmatch(r"ehc: image refused: (\d+) at (\d+)(, 0x[0-9a-f]+ 0x[0-9a-f]+)?\n", err)
     # a field of the ELF header may lie behind the end of a file that is cut
-    if status == 3 and refused and int(refused[2]) <= max(size, 64):
+    if status == 3 and refused and (int(refused[2]) <= max(size, 64) or refused[1] in BEHIND):
         return None
     return None if status == 0 and not err or status == 15 and words == "frames" and not err else f"{words} answers {status}: {err.strip()}"
 
