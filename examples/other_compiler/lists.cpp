@@ -15,26 +15,24 @@ struct Reader {
 
   int byte() { return *at++; }
 
-  long unsigned_number() {
-    long value = 0;
-    int shift = 0, group;
+  // the bits of one LEB128 number, how many they are, and its last byte
+  struct Number { long value; int bits; int last; };
+
+  Number number() {
+    Number read = {0, 0, 0};
     do {
-      group = byte();
-      value |= (long)(group & 0x7f) << shift;
-      shift += 7;
-    } while (group & 0x80);
-    return value;
+      read.last = byte();
+      read.value |= (long)(read.last & 0x7f) << read.bits;
+      read.bits += 7;
+    } while (read.last & 0x80);
+    return read;
   }
 
+  long unsigned_number() { return number().value; }
+
   long signed_number() {
-    long value = 0;
-    int shift = 0, group;
-    do {
-      group = byte();
-      value |= (long)(group & 0x7f) << shift;
-      shift += 7;
-    } while (group & 0x80);
-    return group & 0x40 ? value | -(1L << shift) : value;
+    Number read = number();
+    return read.last & 0x40 ? read.value | -(1L << read.bits) : read.value;
   }
 
   // one of a call site's start, length and landing pad, which are ULEB128 or have four bytes
